@@ -19,16 +19,13 @@ MAP = TOP / "docs" / "MAP.md"
 WIDTH = 160
 
 ROOMS = [
-    ("Base", "fac_lang fac_num fac_io fac_lines fac_spelling"),
-    ("Reading", "fac_token fac_effect fac_parse fac_prelude"),
-    ("Names", "fac_vocab fac_refusal fac_items fac_endings fac_names"),
-    (
-        "Checking",
-        "fac_abs fac_rows fac_graph fac_slots fac_captures fac_locals fac_classes fac_generic fac_check fac_qeff",
-    ),
+    ("Base", "fac_base fac_lang fac_num fac_io fac_lines fac_spelling"),
+    ("Reading", "fac_source fac_token fac_effect fac_parse fac_prelude"),
+    ("Names", "fac_vocab fac_items fac_endings fac_names"),
+    ("Checking", "fac_abs fac_rows fac_graph fac_locals fac_classes fac_generic fac_check"),
     (
         "Image and machine",
-        "fac_code fac_bytes fac_listing fac_store fac_show fac_sequences fac_prim fac_vm fac_emit",
+        "fac_code fac_bytes fac_machine fac_store fac_show fac_sequences fac_prim fac_vm fac_carry fac_emit",
     ),
     ("Tool", "fac_notes fac_command fac_tool factorc"),
     (

@@ -48,14 +48,8 @@ ANYWHERE = {
 }
 
 
-def number_in(path, pattern):
-    """A number that stands in a file."""
-    return int(re.search(pattern, (TOP / path).read_text(encoding="utf-8")).group(1))
-
-
-# How many primitives there are, and how many words the small programs of computed examples begin with.
-PRIMITIVES = number_in("crates/fac_lang/src/primitive_table.rt", r"\[PrimitiveRow; (\d+)\]")
-SHARED = number_in("crates/fac_lang/proofs/Demo.antt", r"length shared_words ≡ (\d+)")
+# How many primitives there are.
+PRIMITIVES = len(re.findall(r"^    PrimitiveRow \{", (TOP / "crates/fac_lang/src/primitive_table.rt").read_text(encoding="utf-8"), re.MULTILINE))
 
 
 class Row:
@@ -75,17 +69,13 @@ ROWS = [
     Row(
         "A primitive word (`bitnot`)",
         r"\bBitNot\b|\bbitnot\b|\bbit_not\b|\bbit_not_makes\b",
-        also=[r"\bReadLine\b", r"[Oo]peration(::|\.)(Print|New|Equal)\b", r"\bLength\b", r"\bSetNth\b", r"model\.READLN"],
+        also=[r"\bReadLine\b", r"\b(Writing|Storing)(::|\.)(Print|New|Equal)\b", r"\bLength\b", r"\bSetNth\b", r"model\.READLN"],
         # how many primitives there are, and the numbers of words behind those with which small programs begin
-        by_hand=rf"PrimitiveRow; {PRIMITIVES}\b|[Pp]rim(_action)? {PRIMITIVES}\b|last_primitive ≡|10 ∷ {PRIMITIVES} ∷|\b0: {PRIMITIVES - 1},"
-        rf"|\bword \(?{SHARED}\b|shared_words ≡|\btop = {SHARED}\b|verdict_from .* {SHARED} \(|Some \({SHARED}( \+|,)|first_of_word \({SHARED} \+"
-        rf"|\bsafe\.\w+ {SHARED}\b|methods_in_order .* {SHARED + 9}\b",
+        by_hand=rf"\b0: {PRIMITIVES - 1},",
     ),
     Row(
         "A core word (`boa`)",
-        # its number is 4
-        r"core_row 4 |number: 4, word|\bc_boa\b|\bcore_4\b|\bLAST_CORE\b|\b(core|number) < 5\b|4 => boa\(|fn act_core|instr_of_core"
-        r"|CORE_WORDS =|suc k\)\)\)\) = Boa|action_parts 1 4|with_number 4 ",
+        r"\bCoreWord(::|\.)Boa\b|\b[cw]_boa\b|\bcore_\w+ Boa\b|\) = Boa$|\bin-Boa\b|CORE_WORDS =",
         also=[r"`boa`"],
     ),
     Row(
@@ -100,17 +90,22 @@ ROWS = [
         r"\b(Shape|Named)(::|\.)Single\b|\bsingle\b|\ba_single\b|^    Single,",
         other={
             "crates/fac_names/*": "its form, which is in the row of forms",
-            "crates/fac_lang/specs/Numbers.antt": "the word in a comment",
+            "crates/fac_base/specs/Numbers.antt": "the word in a comment",
             "crates/fac_lang/specs/Whole.antt": "the word in a comment",
         },
-        within=["crates/fac_lang", "crates/fac_endings", "crates/fac_slots", "crates/fac_classes", "crates/fac_emit", "crates/fac_names"],
+        within=["crates/fac_lang", "crates/fac_endings", "crates/fac_graph", "crates/fac_classes", "crates/fac_emit", "crates/fac_carry", "crates/fac_names"],
     ),
     Row(
         "A form (`SINGLETON:`)",
         r"SINGLETON:|\bFormKind(::|\.)Singleton\b|\bSingleton\b|\bf_single\b",
-        also=[r"\bgives_phrase\b", r"\bf_maker\b", r"\bMaker\b", r"fn symbol\b", r"with_maker|late_faults"],
+        also=[r"\bgives_phrase\b", r"ALIAS:", r"\bf_maker\b", r"\bMaker\b", r"fn symbol\b", r"with_maker|late_faults"],
     ),
-    Row("A literal (`t`)", r"\b[Tt]erm(::|\.)True\b|Spelling(::|\.)True\b|sign_text True|sign_is True"),
+    Row(
+        "A literal (`t`)",
+        r"\bLiteral(::|\.)True\b|sign_text \(Literal True\)|sign_is \(Literal True\) h|named naming.Class \(\S*Literal True\)|literal_value text True"
+        r"|literal_plain text True|named_sign naming.Class \(Literal True\)",
+        also=[r"enum Literal\b"],
+    ),
     Row(
         "An item (`call-next-method`)",
         r"\b(What|Term|term|Spelling)(::|\.)NextMethod\b|(?<!::)\bNextMethod\b(?!s)|\bnext_method\b|\bnext_after\b|\bn_next\b",
@@ -134,7 +129,7 @@ ROWS = [
     ),
     Row(
         "What an instruction costs (`unbind`)",
-        r"cost \(?Unbind|fn price|\bFREE\b|free_here .*Unbind|`Unbind\(k\)` \| 0",
+        r"Instr::Unbind\(cells\) =>|row_of \(i\.Unbind|\bFREE\b|free_here .*Unbind|`Unbind\(k\)` \| 0",
         also=[r"`[Uu]nbind\b"],
     ),
     Row("A kind of value (an iota)", r"\bValue(::|\.)Iota\b|\bIota\b"),
@@ -142,11 +137,10 @@ ROWS = [
     Row("A limit (the holes of a fry)", r"\bMOST_HOLES\b"),
     Row(
         "A command (`list`)",
-        r"\b[Cc]ommand(::|\.)List\b|\bListCode\b|\blist_of\b|\bread_list\b|\bof_list\b|list_steps|ListsImage|usage: factorc|\"list\"",
-        also=[r"\bwork_of\b", r"AsksProgram", r"command\.Run\b"],
+        r"\bCommand::List\b|\bcommand\.list\b|\bread\.List\b|\blist_of\b|\bread_list\b|list_steps|usage: factorc|\"list\"",
         other={"crates/fac_bytes/*": "lists in an image", "crates/fac_spelling_cases/*": "lists of values"},
     ),
-    Row("A status (11, a file that is too long)", r"\b[Rr]eport(::|\.)TooLong\b|^    TooLong \{"),
+    Row("A status (11, a file that is too long)", r"\b[Rr]eport(::|\.)TooLong\b|^    TooLong \{|const TOO_LONG\b"),
     Row("A way to fail outside (a save that fails)", r"\bSaveFault\b"),
     Row("A law of the meaning (`values_below_stay`)", r"values_below_stay|ValuesBelowStay"),
 ]

@@ -95,9 +95,9 @@ def effect_of(ins, outs):
 
 
 def rows(name, count):
-    """The words of a table, which has to have as many rows as its length says."""
+    """The words of a table, of which each row has a line."""
     text = read(TABLES + name)
-    length = int(re.search(r"static [A-Z_]+: \[\w+; (\d+)\]", text).group(1))
+    length = len(re.findall(r"^    \w+Row \{", text, re.MULTILINE))
     found = list((CLASS if count == "classes" else ROW).finditer(text))
     if len(found) != length:
         fail(f"{name}: {len(found)} rows are read, and the table has {length}")
@@ -170,7 +170,7 @@ def source_words(text, marks):
 
 def prelude_text():
     """The text of the prelude, which has no strings and no comments, so that its tokens stand between white space."""
-    text = re.search(r'^    "\\\n(.*?)^"$', read(PRELUDE), re.MULTILINE | re.DOTALL).group(1)
+    text = re.search(r'&str = "\\\n(.*?)^";$', read(PRELUDE), re.MULTILINE | re.DOTALL).group(1)
     if re.search(r'["\\]|(^|\s)!\s', text):
         fail(f"{PRELUDE} has a string or a comment")
     return text

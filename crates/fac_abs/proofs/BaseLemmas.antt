@@ -3,7 +3,7 @@ use Rattle.std.proofs.Common.{◌≡◌, ℕ, List, length, Bool, true, false, O
 use Rattle.std.specs.Prelude.{nat_eq, ◌&&◌}
 use Rattle.std.proofs.lemmas.Bool.{eq-eqb}
 use Rattle.fac_lang.specs.Phrases.{Mark}
-use Rattle.fac_lang.specs.RowVariables.{Row, hidden, named_row, row_eq}
+use Rattle.fac_abs.specs.RowVariables.{Row, hidden, named_row, row_eq}
 use Rattle.fac_abs.specs.Marks.{AbstractStack, on, base_eq, join_marks, cover_marks, joined, covered}
 use Rattle.fac_abs.specs.MarkTrees.{Naming}
 use Rattle.fac_abs.specs.SeenMarks.{MarksSeen, stack_of, base_seen}

@@ -4,7 +4,7 @@ use Rattle.std.specs.Prelude.{nat_eq, ◌&&◌, pos, negsuc}
 use Rattle.std.specs.Str.{bytes_eq}
 use Rattle.fac_lang.specs.Phrases.{Mark}
 use Rattle.fac_lang.specs.PhraseCodes.{Token, mark_tokens, mark_back, read, no_stacks, top_mark}
-use Rattle.fac_lang.specs.RowVariables.{Row, hidden, named_row, row_eq}
+use Rattle.fac_abs.specs.RowVariables.{Row, hidden, named_row, row_eq}
 use Rattle.fac_abs.specs.Marks.{int_eq, token_eq, tokens_eq, mark_eq, base_eq}
 use Rattle.std.proofs.lemmas.Bool.{eqb-true}
 use Rattle.std.proofs.lemmas.Float.{T_from_true}

@@ -5,7 +5,7 @@ use Rattle.fac_abs.specs.declared.stack_nodes.StackNode.{StackNode}
 use Rattle.fac_abs.specs.declared.mark_node.MarkNode.TheVariants.{Any, Lit, Cur, Com}
 use Rattle.fac_abs.specs.InTurn.{under, moved}
 use Rattle.fac_abs.specs.inner.Stacks.{zeros, joined_numbers, cover_numbers, stacks_of}
-use Rattle.fac_lang.specs.RowVariables.{hidden, named_row}
+use Rattle.fac_abs.specs.RowVariables.{hidden, named_row}
 use Rattle.fac_abs.specs.Marks.{dead, on, piled, mark_depth, phrase_marks, deepest, mark_eq, curried_mark, composed_mark, cover_marks, joined, covered}
 use Rattle.fac_abs.specs.MarkTrees.{Naming, trees}
 use Rattle.fac_abs.specs.inner.Interning.{deepest_of}

@@ -1,6 +1,7 @@
 -- Marks within the limit of depth.
 use Rattle.std.proofs.Common.{◌≡◌, ℕ, suc, ◌<◌, ◌≤◌, max, Bool, true, false, nat_le, Result, Ok, Err, IfOk, refl, ap, ◌∙◌, arith}
 use Rattle.std.proofs.lemmas.Bool.{le-leb, leb-true}
+use Rattle.fac_base.specs.declared.limits.TheConstants.{MOST_MARK_DEPTH}
 use Rattle.fac_lang.specs.Phrases.{Mark, any, lit_mark, cur_mark, com_mark}
 use Rattle.fac_abs.specs.declared.mark_node.MarkNode.TheVariants.{Lit, Cur, Com}
 use Rattle.fac_abs.specs.Marks.{mark_depth, is_callable, limited, curried_mark, composed_mark}
@@ -9,16 +10,16 @@ use Rattle.fac_abs.specs.SeenMarks.{MarksSeen, mark_of, cells_of, frame_of}
 use Rattle.fac_abs.specs.MarkPromises.{IsMarkOf}
 use Rattle.fac_abs.proofs.SeenLemmas.{both}
 
-within_limit : (m n : ℕ) → m < 64 → n < 64 → nat_le (suc (max m n)) 64 ≡ true
-within_limit m n h g = le-leb (suc (max m n)) 64 (omega arith)
+within_limit : (m n : ℕ) → m < MOST_MARK_DEPTH → n < MOST_MARK_DEPTH → nat_le (suc (max m n)) MOST_MARK_DEPTH ≡ true
+within_limit m n h g = le-leb (suc (max m n)) MOST_MARK_DEPTH (omega arith)
 
-limited_kept : (m : Mark) → nat_le (mark_depth m) 64 ≡ true → limited m ≡ m
+limited_kept : (m : Mark) → nat_le (mark_depth m) MOST_MARK_DEPTH ≡ true → limited m ≡ m
 limited_kept m e = ap (λ (b : Bool). elim b [ true ↦ m | false ↦ any ]) e
 
-pub curried_kept : (a b : Mark) → is_callable b ≡ true → mark_depth a < 64 → mark_depth b < 64 → curried_mark a b ≡ cur_mark a b
+pub curried_kept : (a b : Mark) → is_callable b ≡ true → mark_depth a < MOST_MARK_DEPTH → mark_depth b < MOST_MARK_DEPTH → curried_mark a b ≡ cur_mark a b
 curried_kept a b e h g = ap (λ (c : Bool). elim c [ true ↦ limited (cur_mark a b) | false ↦ any ]) e ∙ limited_kept (cur_mark a b) (within_limit (mark_depth a) (mark_depth b) h g)
 
-pub composed_kept : (a b : Mark) → is_callable a ≡ true → is_callable b ≡ true → mark_depth a < 64 → mark_depth b < 64 → composed_mark a b ≡ com_mark a b
+pub composed_kept : (a b : Mark) → is_callable a ≡ true → is_callable b ≡ true → mark_depth a < MOST_MARK_DEPTH → mark_depth b < MOST_MARK_DEPTH → composed_mark a b ≡ com_mark a b
 composed_kept a b d e h g =
     ap (λ (c : Bool). elim c [ true ↦ limited (com_mark a b) | false ↦ any ]) (both (is_callable a) (is_callable b) d e) ∙ limited_kept (com_mark a b) (within_limit (mark_depth a) (mark_depth b) h g)
 
@@ -39,12 +40,12 @@ pub lit_reads : (N : Naming) (M : MarksSeen) (q f : ℕ) → tree N M.frames (tr
 unfolding mark_of frame_of cells_of
 lit_reads N M q f = refl
 
-pub literal_kept : (m : Mark) (d : ℕ) → d ≡ mark_depth m → d ≤ 64 → limited m ≡ m
-literal_kept m d e h = limited_kept m (le-leb (mark_depth m) 64 (omega (arith, e)))
+pub literal_kept : (m : Mark) (d : ℕ) → d ≡ mark_depth m → d ≤ MOST_MARK_DEPTH → limited m ≡ m
+literal_kept m d e h = limited_kept m (le-leb (mark_depth m) MOST_MARK_DEPTH (omega (arith, e)))
 
-pub literal_lost : (m : Mark) (d : ℕ) → d ≡ mark_depth m → 64 < d → limited m ≡ any
-literal_lost m d e h = by_test (nat_le (mark_depth m) 64) refl
+pub literal_lost : (m : Mark) (d : ℕ) → d ≡ mark_depth m → MOST_MARK_DEPTH < d → limited m ≡ any
+literal_lost m d e h = by_test (nat_le (mark_depth m) MOST_MARK_DEPTH) refl
   where
-    by_test : (b : Bool) → nat_le (mark_depth m) 64 ≡ b → elim b [ true ↦ m | false ↦ any ] ≡ any
-    by_test true f = (let low = leb-true (mark_depth m) 64 f in absurd (omega (arith, e, h, low)))
+    by_test : (b : Bool) → nat_le (mark_depth m) MOST_MARK_DEPTH ≡ b → elim b [ true ↦ m | false ↦ any ] ≡ any
+    by_test true f = (let low = leb-true (mark_depth m) MOST_MARK_DEPTH f in absurd (omega (arith, e, h, low)))
     by_test false f = refl

@@ -4,7 +4,7 @@ use Rattle.fac_lang.specs.Phrases.{Phrase, Literal, Mark, any, lit_mark, cur_mar
 use Rattle.fac_abs.specs.declared.mark_node.MarkNode.{MarkNode}
 use Rattle.fac_abs.specs.declared.mark_node.MarkNode.TheVariants.{Any, Lit, Cur, Com, Wrd, Par}
 use Rattle.fac_abs.specs.InTurn.{in_turn}
-use Rattle.fac_lang.specs.RowVariables.{Row}
+use Rattle.fac_abs.specs.RowVariables.{Row}
 use Rattle.fac_abs.specs.Marks.{phrase_marks, deepest}
 
 -- What numbers name: which literal that of a template does, what its phrase is with marks in its cells, and which row that of a base.

@@ -1,9 +1,9 @@
 -- What the checker knows of a value and of a stack.
 use Rattle.std.specs.Prelude.{ℕ, zero, suc, max, ℤ, pos, negsuc, List, [], ◌∷◌, length, Bool, true, false, ◌&&◌, ◌||◌, nat_eq, nat_le, Option, Some, None}
 use Rattle.std.specs.Str.{bytes_eq}
-use Rattle.fac_lang.specs.declared.limits.TheConstants.{MOST_MARK_DEPTH}
+use Rattle.fac_base.specs.declared.limits.TheConstants.{MOST_MARK_DEPTH}
 use Rattle.fac_lang.specs.Phrases.{Phrase, end, then, Item, quot, fry, known, Mark, any, lit_mark, cur_mark, com_mark, wrd_mark, par_mark}
-use Rattle.fac_lang.specs.RowVariables.{Row, row_eq}
+use Rattle.fac_abs.specs.RowVariables.{Row, row_eq}
 use Rattle.fac_lang.specs.PhraseCodes.{Token, mark_tokens}
 
 -- A stack as the checker knows it: dead after something that never returns, else a base with marks on it, the top first. The base is a row of the word that is checked; where it is none, nothing is said of what lies below.

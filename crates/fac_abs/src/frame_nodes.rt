@@ -7,7 +7,7 @@ ghost use Rattle.fac_abs.specs.inner.Framing.{AreDistinct, IsNumbered};
 ghost use Rattle.fac_abs.specs.inner.Keeping.{Keeps, IsStackWith, Uncovers, IsWhere};
 
 use crate::stack_nodes::StackNode;
-use fac_lang::Memory;
+use fac_base::Memory;
 use indexmap::IndexMap;
 use std::alloc::Global;
 use std::marker::Model;

@@ -6,7 +6,7 @@ ghost use Rattle.fac_abs.specs.declared.mark_node.MarkNode.TheVariants.{Any};
 ghost use Rattle.fac_abs.specs.inner.Interning.{IsTable, Numbers};
 
 use crate::MarkNode;
-use fac_lang::Memory;
+use fac_base::Memory;
 use indexmap::IndexMap;
 use std::alloc::Global;
 use std::marker::Model;

@@ -5,7 +5,7 @@ ghost use Rattle.fac_abs.specs.InTurn.{under, taken, moved};
 ghost use Rattle.fac_abs.specs.inner.Stacks.{zeros, joined_number, joined_numbers, cover_numbers};
 ghost use Rattle.fac_abs.specs.inner.Keeping.{Keeps, IsStackWith, Uncovers, IsWhere, Joins};
 
-use fac_lang::Memory;
+use fac_base::Memory;
 use std::alloc::Global;
 use std::marker::Model;
 

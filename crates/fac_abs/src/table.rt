@@ -14,8 +14,8 @@ use crate::frame_nodes::FrameNodes;
 use crate::mark_nodes::MarkNodes;
 use crate::reached::Reached;
 use crate::stack_nodes::StackNodes;
-use fac_lang::Memory;
-use fac_lang::limits::MOST_MARK_DEPTH;
+use fac_base::Memory;
+use fac_base::limits::MOST_MARK_DEPTH;
 use std::alloc::Global;
 use std::marker::Model;
 
@@ -45,11 +45,11 @@ impl Model for Marks {
     ghost invariant = { λ a. IsOrdered a.templates a.frames (keys_of a.nodes) × TellDepths a.frames (keys_of a.nodes) (values_of a.nodes) };
 }
 
-// The depth of a literal with these cells, unless it is greater than 64.
+// The depth of a literal with these cells, unless it is greater than a mark's may be.
 fn frame_depth(nodes: &MarkNodes, frames: &FrameNodes, frame: u32) -> Option<u32>
     requires frame { frame < length frames.now }
     requires marks { are_below (length (keys_of nodes.now)) (get_or frames.now frame []) ≡ true }
-    ensures { MatchOption result (64 < deepest_of (values_of nodes.now) (get_or frames.now frame [])) (λ d. (d ≤ 64) × (d ≡ deepest_of (values_of nodes.now) (get_or frames.now frame []))) }
+    ensures { MatchOption result (MOST_MARK_DEPTH < deepest_of (values_of nodes.now) (get_or frames.now frame [])) (λ d. (d ≤ MOST_MARK_DEPTH) × (d ≡ deepest_of (values_of nodes.now) (get_or frames.now frame []))) }
 {
     let mut rest = frame;
     let mut depth = 0;
@@ -142,7 +142,7 @@ impl Marks {
     }
 
     /// The mark of a literal, by the number of its template, which is there, and the frame with the marks of its cells. Where it would be deeper
-    /// than 64, nothing is known. It takes the time of the cells.
+    /// than a mark may be, nothing is known. It takes the time of the cells.
     pub fn lit(&mut self, template: u32, frame: u32) -> Result<u32, Memory>
         requires template { template < self.old.templates }
         requires frame { IsFrame self.old frame }
@@ -217,7 +217,7 @@ impl Marks {
     }
 
     /// The mark of what `curry` makes of a value with the mark `mark` and a callable with the mark `callable`. Where `callable` doesn't stand for
-    /// callables alone, or the mark would be deeper than 64, nothing is known.
+    /// callables alone, or the mark would be deeper than one may be, nothing is known.
     pub fn curried(&mut self, mark: u32, callable: u32) -> Result<u32, Memory>
         requires mark { IsMark self.old mark }
         requires callable { IsMark self.old callable }
@@ -237,7 +237,7 @@ impl Marks {
     }
 
     /// The mark of what `compose` makes of two callables, of which `first` runs first. Where one of them doesn't stand for callables alone, or the
-    /// mark would be deeper than 64, nothing is known.
+    /// mark would be deeper than one may be, nothing is known.
     pub fn composed(&mut self, first: u32, second: u32) -> Result<u32, Memory>
         requires first { IsMark self.old first }
         requires second { IsMark self.old second }

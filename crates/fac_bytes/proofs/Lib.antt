@@ -10,3 +10,4 @@ pub mod PlainLaws
 pub mod DecodingLaws
 pub mod MethodLoops
 mod Examples
+pub mod ExamplesOfListings

@@ -1,7 +1,10 @@
 -- The laws of the rows of tables.
-use Rattle.std.proofs.Common.{◌≡◌, ℕ, [], ◌∷◌, Option, Some, None, refl, ap, arith}
+use Rattle.std.proofs.Common.{◌≡◌, ◌≤◌, ℕ, zero, suc, List, [], ◌∷◌, Option, Some, None, refl, ap, arith}
 use Rattle.std.specs.Prelude.{ℤ}
-use Rattle.fac_lang.specs.declared.phrase.Height.{Height}
+use Rattle.fac_lang.specs.declared.core_table.CoreWord.{CoreWord}
+use Rattle.fac_lang.specs.declared.core_table.CoreWord.TheVariants.{Call, Dip, If, Execute, Boa, Cond}
+use Rattle.fac_lang.specs.CoreWords.{core_number}
+use Rattle.fac_base.specs.declared.height.Height.{Height}
 use Rattle.fac_code.specs.declared.image.Elem.{Elem}
 use Rattle.fac_code.specs.declared.image.Elem.TheVariants as e
 use Rattle.fac_code.specs.declared.image.Action.{Action}
@@ -12,15 +15,15 @@ use Rattle.fac_code.specs.declared.image.WordRow.{WordRow}
 use Rattle.fac_spelling.specs.Formats.{Exact, follow}
 use Rattle.fac_spelling.specs.Numbers.{greatest32, greatest128, number32}
 use Rattle.fac_spelling.specs.Integers.{unzigzag}
-use Rattle.fac_spelling.specs.Choices.{row_at, plain}
+use Rattle.fac_spelling.specs.Choices.{row_at, plain, with_number, operands}
 use Rattle.fac_spelling.specs.Lists.{counted, optional}
 use Rattle.fac_spelling.proofs.FormatLaws.{follow_exact, seen_exact}
 use Rattle.fac_spelling.proofs.NumberLaws.{number32_exact}
 use Rattle.fac_spelling.proofs.ListLaws.{counted_exact, optional_exact}
 use Rattle.fac_spelling.proofs.IntegerLaws.{unzigzag_back, zigzag_back}
-use Rattle.fac_spelling.proofs.ChoiceLaws.{RowsHold, choice_exact, plain_holds, number_holds, numbers_hold}
+use Rattle.fac_spelling.proofs.ChoiceLaws.{RowHolds, RowsHold, choice_exact, plain_holds, number_holds, numbers_hold}
 use Rattle.fac_bytes.specs.InstructionBytes.{last_primitive}
-use Rattle.fac_bytes.specs.RowBytes.{elem_first, elem_rows, elem_parts, elem, action_first, action_rows, action_parts, action, height_rows, some_height, height_parts, height, kind, template, word}
+use Rattle.fac_bytes.specs.RowBytes.{core_numbered, last_core, elem_first, elem_rows, elem_parts, elem, action_first, action_rows, action_parts, action, height_rows, some_height, height_parts, height, kind, template, word}
 use Rattle.fac_bytes.proofs.InstructionLaws.{last_small}
 
 elem_rows_hold : RowsHold elem_parts 0 (elem_first ∷ elem_rows)
@@ -38,12 +41,37 @@ elem_back (e.Template x) = refl
 pub elem_exact : Exact elem
 elem_exact = choice_exact elem_first elem_rows elem_parts (omega arith) elem_rows_hold elem_back
 
+-- the core words and their numbers
+number_back : (k : ℕ) → k ≤ last_core → core_number (core_numbered k) ≡ k
+number_back zero h = refl
+number_back (suc zero) h = refl
+number_back (suc (suc zero)) h = refl
+number_back (suc (suc (suc zero))) h = refl
+number_back (suc (suc (suc (suc zero)))) h = refl
+number_back (suc (suc (suc (suc (suc k))))) h = absurd (omega (arith, h))
+
+core_back : (c : CoreWord) → core_numbered (core_number c) ≡ c
+core_back Call = refl
+core_back Dip = refl
+core_back If = refl
+core_back Execute = refl
+core_back Boa = refl
+core_back Cond = refl
+
+core_holds : RowHolds action_parts 1 (with_number last_core (λ k. a.Core (core_numbered k)))
+core_holds = record { below = (omega arith, tt); back = go }
+  where
+    go : (xs : List ℕ) → (operands (last_core ∷ [])).Fits xs → action_parts ((with_number last_core (λ k. a.Core (core_numbered k))).make xs) ≡ (1, xs)
+    go [] h = absurd h
+    go (x ∷ []) h = ap (λ (z : ℕ). (1, z ∷ [])) (number_back x h.0.below)
+    go (x ∷ y ∷ xs) h = absurd h.1
+
 action_rows_hold : RowsHold action_parts 0 (action_first ∷ action_rows)
-action_rows_hold = (number_holds action_parts 0 last_primitive (λ x. a.Prim x) last_small (λ x. refl), (number_holds action_parts 1 4 (λ x. a.Core x) (omega arith) (λ x. refl), (number_holds action_parts 2 greatest32 (λ x. a.Code x) (omega arith) (λ x. refl), (plain_holds action_parts 3 a.Itself refl, (number_holds action_parts 4 greatest32 (λ x. a.Generic x) (omega arith) (λ x. refl), (number_holds action_parts 5 greatest32 (λ x. a.Get x) (omega arith) (λ x. refl), (number_holds action_parts 6 greatest32 (λ x. a.Set x) (omega arith) (λ x. refl), (number_holds action_parts 7 greatest32 (λ x. a.Put x) (omega arith) (λ x. refl), (number_holds action_parts 8 greatest32 (λ x. a.Isa x) (omega arith) (λ x. refl), tt)))))))))
+action_rows_hold = (number_holds action_parts 0 last_primitive (λ x. a.Prim x) last_small (λ x. refl), (core_holds, (number_holds action_parts 2 greatest32 (λ x. a.Code x) (omega arith) (λ x. refl), (plain_holds action_parts 3 a.Itself refl, (number_holds action_parts 4 greatest32 (λ x. a.Generic x) (omega arith) (λ x. refl), (number_holds action_parts 5 greatest32 (λ x. a.Get x) (omega arith) (λ x. refl), (number_holds action_parts 6 greatest32 (λ x. a.Set x) (omega arith) (λ x. refl), (number_holds action_parts 7 greatest32 (λ x. a.Put x) (omega arith) (λ x. refl), (number_holds action_parts 8 greatest32 (λ x. a.Isa x) (omega arith) (λ x. refl), tt)))))))))
 
 action_back : (v : Action) → (row_at action_first action_rows (action_parts v).0).make (action_parts v).1 ≡ v
 action_back (a.Prim x) = refl
-action_back (a.Core x) = refl
+action_back (a.Core c) = ap (λ (d : CoreWord). a.Core d) (core_back c)
 action_back (a.Code x) = refl
 action_back a.Itself = refl
 action_back (a.Generic x) = refl

@@ -1,13 +1,18 @@
 -- The bytes of instructions: a code, and the operands as numbers.
-use Rattle.std.specs.Prelude.{ℕ, suc, ◌-◌, List, [], ◌∷◌, Option, Some, None, nat_eq, if◌then◌else◌}
+use Rattle.std.specs.Prelude.{ℕ, suc, ◌-◌, ◌≡◌, List, [], ◌++◌, Bool, false, Option, Some, None, nat_eq, if◌then◌else◌, Ok}
 use Rattle.fac_lang.specs.Primitives.{built_count}
-use Rattle.fac_lang.specs.declared.phrase.Height.{Height}
+use Rattle.fac_base.specs.declared.height.Height.{Height}
 use Rattle.fac_code.specs.declared.image.Instr.{Instr}
-use Rattle.fac_code.specs.declared.image.Instr.TheVariants as i
-use Rattle.fac_spelling.specs.Formats.{Format}
-use Rattle.fac_spelling.specs.Numbers.{greatest32, greatest128}
-use Rattle.fac_spelling.specs.Integers.{zigzag, unzigzag}
-use Rattle.fac_spelling.specs.Choices.{Row, choice, bit, plain, with_number, with_flag, number_and_flag, numbers_and_flag}
+use Rattle.fac_code.specs.declared.instr_row.Referent.{Referent}
+use Rattle.fac_code.specs.declared.instr_row.Referent.TheVariants as of
+use Rattle.fac_code.specs.declared.instr_row.Operand.{Operand}
+use Rattle.fac_code.specs.declared.instr_row.Operand.TheVariants as o
+use Rattle.fac_code.specs.declared.instr_row.TheConstants.{INSTR_COUNT}
+use Rattle.fac_code.specs.InstrRows.{row_of, number_in, integer_in, height_in, tail_in, made, blank}
+use Rattle.fac_spelling.specs.Formats.{Format, follow, seen, nothing, ◌>>=◌}
+use Rattle.fac_spelling.specs.Numbers.{number, number32, shortest, greatest32}
+use Rattle.fac_spelling.specs.Integers.{integer, zigzag}
+use Rattle.fac_spelling.specs.Choices.{bit}
 
 -- the number of the last primitive
 abbrev pub last_primitive : ℕ
@@ -24,80 +29,48 @@ number_outs n = if nat_eq n 0 then None else Some (n - 1)
 abbrev pub height_of : ℕ → ℕ → Height
 height_of n o = record { ins = n; outs = number_outs o }
 
--- the rows behind that of `halt`, in the order of their codes
-abbrev pub instr_rows : List (Row Instr)
-instr_rows =
-    with_number greatest32 (λ k. i.Tick k)
-    ∷ with_number greatest128 (λ n. i.Int (unzigzag n))
-    ∷ plain i.True
-    ∷ plain i.False
-    ∷ with_number greatest32 (λ s. i.Text s)
-    ∷ with_number greatest32 (λ a. i.Array a)
-    ∷ with_number greatest32 (λ w. i.Word w)
-    ∷ with_number greatest32 (λ q. i.Quot q)
-    ∷ with_number greatest32 (λ q. i.Fry q)
-    ∷ with_number last_primitive (λ p. i.Prim p)
-    ∷ number_and_flag greatest32 (λ w t. i.Callw w t)
-    ∷ with_flag (λ t. i.Call t)
-    ∷ plain i.Dip
-    ∷ with_flag (λ t. i.If t)
-    ∷ with_flag (λ t. i.Execute t)
-    ∷ numbers_and_flag greatest32 greatest32 (λ n o t. i.CallEffect (height_of n o) t)
-    ∷ numbers_and_flag greatest32 greatest32 (λ n o t. i.ExecuteEffect (height_of n o) t)
-    ∷ number_and_flag greatest32 (λ a t. i.Callp a t)
-    ∷ number_and_flag greatest32 (λ g t. i.Generic g t)
-    ∷ number_and_flag greatest32 (λ m t. i.Next m t)
-    ∷ plain i.Ret
-    ∷ plain i.Hold
-    ∷ plain i.Back
-    ∷ with_number greatest32 (λ a. i.Jump a)
-    ∷ with_number greatest32 (λ a. i.Branch a)
-    ∷ plain i.Bind
-    ∷ with_number greatest32 (λ k. i.Local k)
-    ∷ with_number greatest32 (λ k. i.Unbind k)
-    ∷ plain i.Boa
-    ∷ with_number greatest32 (λ s. i.Get s)
-    ∷ with_number greatest32 (λ s. i.Set s)
-    ∷ with_number greatest32 (λ s. i.Put s)
-    ∷ with_number greatest32 (λ c. i.Isa c)
-    ∷ []
+-- the greatest number of such a thing
+abbrev pub greatest : Referent → ℕ
+greatest of.Primitive = last_primitive
+greatest _ = greatest32
 
--- an instruction's code and its operands
-abbrev pub instr_parts : Instr → ℕ × List ℕ
-instr_parts i.Halt = (0, [])
-instr_parts (i.Tick k) = (1, k ∷ [])
-instr_parts (i.Int n) = (2, zigzag n ∷ [])
-instr_parts i.True = (3, [])
-instr_parts i.False = (4, [])
-instr_parts (i.Text s) = (5, s ∷ [])
-instr_parts (i.Array a) = (6, a ∷ [])
-instr_parts (i.Word w) = (7, w ∷ [])
-instr_parts (i.Quot q) = (8, q ∷ [])
-instr_parts (i.Fry q) = (9, q ∷ [])
-instr_parts (i.Prim p) = (10, p ∷ [])
-instr_parts (i.Callw w t) = (11, w ∷ bit t ∷ [])
-instr_parts (i.Call t) = (12, bit t ∷ [])
-instr_parts i.Dip = (13, [])
-instr_parts (i.If t) = (14, bit t ∷ [])
-instr_parts (i.Execute t) = (15, bit t ∷ [])
-instr_parts (i.CallEffect h t) = (16, h.ins ∷ outs_number h.outs ∷ bit t ∷ [])
-instr_parts (i.ExecuteEffect h t) = (17, h.ins ∷ outs_number h.outs ∷ bit t ∷ [])
-instr_parts (i.Callp a t) = (18, a ∷ bit t ∷ [])
-instr_parts (i.Generic g t) = (19, g ∷ bit t ∷ [])
-instr_parts (i.Next m t) = (20, m ∷ bit t ∷ [])
-instr_parts i.Ret = (21, [])
-instr_parts i.Hold = (22, [])
-instr_parts i.Back = (23, [])
-instr_parts (i.Jump a) = (24, a ∷ [])
-instr_parts (i.Branch a) = (25, a ∷ [])
-instr_parts i.Bind = (26, [])
-instr_parts (i.Local k) = (27, k ∷ [])
-instr_parts (i.Unbind k) = (28, k ∷ [])
-instr_parts i.Boa = (29, [])
-instr_parts (i.Get s) = (30, s ∷ [])
-instr_parts (i.Set s) = (31, s ∷ [])
-instr_parts (i.Put s) = (32, s ∷ [])
-instr_parts (i.Isa c) = (33, c ∷ [])
+-- one case of a type, by what it has
+abbrev pub one_case : {A B : Type 0} → (B → A) → (A → B) → Format A → Format B
+one_case to from f = record {
+  Fits = λ y. f.Fits (to y) × (from (to y) ≡ y);
+  spell = λ y. f.spell (to y);
+  read = λ bytes. f.read bytes >>= λ p. Ok (from p.0, p.1);
+}
 
+abbrev pub height : Format Height
+height = seen (λ h. (h.ins, outs_number h.outs)) (λ p. height_of p.0 p.1) (follow number32 (λ _. number32))
+
+-- the operands of the kind of this one
+abbrev pub operand : Operand → Format Operand
+operand o.Nothing = nothing o.Nothing
+operand (o.Integer z) = one_case integer_in (λ y. o.Integer y) integer
+operand (o.Height h) = one_case height_in (λ y. o.Height y) height
+operand (o.Number r k) = one_case number_in (λ y. o.Number r y) (number 0 (greatest r))
+
+-- the flag of an instruction that may be a tail call
+abbrev pub tail : Option Bool → Format Bool
+tail None = nothing false
+tail (Some t) = seen bit (λ n. nat_eq n 1) (number 0 1)
+
+-- A code, an operand of the kind that the code's instruction has, and a flag where that has one.
 abbrev pub instr : Format Instr
-instr = choice (plain i.Halt) instr_rows instr_parts
+instr =
+    seen (λ i. ((row_of i).code, ((row_of i).operand, tail_in (row_of i).tail))) (λ p. made p.0 p.1.0 p.1.1)
+    (follow (number 0 (INSTR_COUNT - 1)) (λ k. follow (operand (blank k).operand) (λ _. tail (blank k).tail)))
+
+-- ---- the same, by the row of an instruction
+
+abbrev pub operand_bytes : Operand → List ℕ
+operand_bytes o.Nothing = []
+operand_bytes (o.Integer z) = shortest (zigzag z)
+operand_bytes (o.Height h) = shortest h.ins ++ shortest (outs_number h.outs)
+operand_bytes (o.Number r k) = shortest k
+
+abbrev pub tail_bytes : Option Bool → List ℕ
+tail_bytes None = []
+tail_bytes (Some t) = shortest (bit t)

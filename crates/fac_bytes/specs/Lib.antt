@@ -4,3 +4,4 @@ pub mod GenericBytes
 pub mod ImageBytes
 pub mod Answers
 pub mod Laws
+pub mod Listings

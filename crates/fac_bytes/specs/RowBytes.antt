@@ -1,6 +1,9 @@
 -- The bytes of the elements of literal arrays, and of the rows of kinds, templates and words.
-use Rattle.std.specs.Prelude.{ℕ, List, [], ◌∷◌, Option, Some, None}
-use Rattle.fac_lang.specs.declared.phrase.Height.{Height}
+use Rattle.std.specs.Prelude.{ℕ, zero, suc, List, [], ◌∷◌, Option, Some, None}
+use Rattle.fac_lang.specs.declared.core_table.CoreWord.{CoreWord}
+use Rattle.fac_lang.specs.declared.core_table.CoreWord.TheVariants.{Call, Dip, If, Execute, Boa, Cond}
+use Rattle.fac_lang.specs.CoreWords.{core_number}
+use Rattle.fac_base.specs.declared.height.Height.{Height}
 use Rattle.fac_code.specs.declared.image.Elem.{Elem}
 use Rattle.fac_code.specs.declared.image.Elem.TheVariants as e
 use Rattle.fac_code.specs.declared.image.Action.{Action}
@@ -44,12 +47,25 @@ elem = choice elem_first elem_rows elem_parts
 
 -- ---- actions
 
+-- the core word that images have this number for; `cond` stands in none
+abbrev pub core_numbered : ℕ → CoreWord
+core_numbered zero = Call
+core_numbered (suc zero) = Dip
+core_numbered (suc (suc zero)) = If
+core_numbered (suc (suc (suc zero))) = Execute
+core_numbered (suc (suc (suc (suc zero)))) = Boa
+core_numbered (suc (suc (suc (suc (suc k))))) = Cond
+
+-- the number of the last one that is an action
+abbrev pub last_core : ℕ
+last_core = core_number Boa
+
 abbrev pub action_first : Row Action
 action_first = with_number last_primitive (λ p. a.Prim p)
 
 abbrev pub action_rows : List (Row Action)
 action_rows =
-    with_number 4 (λ k. a.Core k)
+    with_number last_core (λ k. a.Core (core_numbered k))
     ∷ with_number greatest32 (λ pc. a.Code pc)
     ∷ plain a.Itself
     ∷ with_number greatest32 (λ g. a.Generic g)
@@ -61,7 +77,7 @@ action_rows =
 
 abbrev pub action_parts : Action → ℕ × List ℕ
 action_parts (a.Prim p) = (0, p ∷ [])
-action_parts (a.Core k) = (1, k ∷ [])
+action_parts (a.Core c) = (1, core_number c ∷ [])
 action_parts (a.Code pc) = (2, pc ∷ [])
 action_parts a.Itself = (3, [])
 action_parts (a.Generic g) = (4, g ∷ [])

@@ -9,8 +9,8 @@ ghost use Rattle.fac_bytes.specs.ImageBytes.{image as image_format, first_bytes,
 
 use crate::part::Writable;
 use crate::parts::FIRST_BYTES;
+use fac_base::{Bytes, List, Memory};
 use fac_code::{GenericRow, Image};
-use fac_lang::{Bytes, List, Memory};
 use fac_spelling::{write_ascending_by, write_number};
 use std::alloc::Global;
 

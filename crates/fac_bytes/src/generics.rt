@@ -6,8 +6,8 @@ ghost use Rattle.fac_spelling.specs.Reads.{Gives};
 ghost use Rattle.fac_bytes.specs.GenericBytes.{method_in, method, methods as methods_format, method_room as room_of, generic_in, generic, numbers_of, generics_from, generics};
 
 use crate::part::{Writable, write_list};
+use fac_base::{Bytes, List, Memory};
 use fac_code::{GenericRow, MethodRow};
-use fac_lang::{Bytes, List, Memory};
 use fac_spelling::{ReadFault, Taken, number_fits, read_number, write_number};
 use std::alloc::Global;
 

@@ -7,6 +7,7 @@ mod encoding;
 mod generics;
 mod instructions;
 mod laws;
+mod listings;
 mod lists;
 mod operands;
 mod pairs;
@@ -21,4 +22,5 @@ pub use laws::{
     encoded_is_decoded, fronts_are_broken, images_are_exact, one_image, one_place,
     spelled_or_broken,
 };
+pub use listings::listing;
 pub use parts::ImageParts;

@@ -5,8 +5,8 @@ ghost use Rattle.fac_spelling.specs.Texts.{text};
 ghost use Rattle.fac_bytes.specs.RowBytes.{elem};
 
 use crate::part::{Part, Writable, list_has_spelling, read_list, write_list};
+use fac_base::{Bytes, List, Memory, Text};
 use fac_code::Elem;
-use fac_lang::{Bytes, List, Memory, Text};
 use fac_spelling::{
     ReadFault, Spelled, Writes, ascending_fits, read_ascending, text_fits, write_ascending,
 };

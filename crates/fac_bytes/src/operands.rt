@@ -1,20 +1,9 @@
-//! A code or tag with what stands behind it.
+//! A tag with the numbers behind it.
 ghost use Rattle.std.specs.Prelude.{◌≡◌, ◌++◌, [], OnOk};
 ghost use Rattle.fac_spelling.specs.Numbers.{shortest};
-ghost use Rattle.fac_spelling.specs.Choices.{bit};
 
-use fac_lang::{Bytes, Memory};
+use fac_base::{Bytes, Memory};
 use fac_spelling::write_number;
-
-/// A flag as a number.
-pub fn flag_number(flag: bool) -> u128
-    ensures { result ≡ bit flag }
-{
-    if flag {
-        return 1;
-    }
-    0
-}
 
 /// Adds a tag with nothing behind it.
 #[tactic(auto, using(crate::proofs::Written::written_one))]
@@ -41,18 +30,4 @@ pub fn write_two(out: &mut Bytes, tag: u128, first: u128, second: u128) -> Resul
     write_number(out, tag)?;
     write_number(out, first)?;
     write_number(out, second)
-}
-
-/// Adds a tag and a flag.
-pub fn write_flag(out: &mut Bytes, tag: u128, flag: bool) -> Result<(), Memory>
-    ensures { OnOk result (out.new ≡ out.old ++ (shortest tag ++ (shortest (bit flag) ++ []))) }
-{
-    write_one(out, tag, flag_number(flag))
-}
-
-/// Adds a tag, a number and a flag.
-pub fn write_one_flag(out: &mut Bytes, tag: u128, number: u32, flag: bool) -> Result<(), Memory>
-    ensures { OnOk result (out.new ≡ out.old ++ (shortest tag ++ (shortest number ++ (shortest (bit flag) ++ [])))) }
-{
-    write_two(out, tag, u128::from(number), flag_number(flag))
 }

@@ -4,7 +4,7 @@ ghost use Rattle.fac_spelling.specs.Formats.{Format, each};
 ghost use Rattle.fac_spelling.specs.Lists.{counted};
 ghost use Rattle.fac_spelling.specs.Reads.{Gives};
 
-use fac_lang::{Bytes, List, Memory};
+use fac_base::{Bytes, List, Memory};
 use fac_spelling::{ReadFault, read_number, write_number};
 use std::alloc::Global;
 

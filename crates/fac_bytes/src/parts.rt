@@ -1,8 +1,8 @@
 //! What an image is made of.
 use crate::part::read_list;
 use crate::tables::read_tables;
+use fac_base::List;
 use fac_code::{Instr, Tables};
-use fac_lang::List;
 use fac_spelling::{ReadFault, Spelled, read_fixed, read_number};
 use std::alloc::Global;
 

@@ -3,13 +3,15 @@ ghost use Rattle.std.specs.Prelude.{◌≡◌, ◌++◌, MatchBool, OnOk};
 ghost use Rattle.fac_spelling.specs.Numbers.{number32};
 ghost use Rattle.fac_spelling.specs.Lists.{counted, optional};
 ghost use Rattle.fac_spelling.specs.Reads.{Gives};
-ghost use Rattle.fac_bytes.specs.RowBytes.{elem as elem_format, action as action_format, height as height_format, kind, template, word};
+ghost use Rattle.fac_lang.specs.CoreWords.{core_number};
+ghost use Rattle.fac_bytes.specs.RowBytes.{core_numbered, elem as elem_format, action as action_format, height as height_format, kind, template, word};
 
 use crate::instructions::last_primitive;
 use crate::operands::{write_none, write_one, write_two};
 use crate::part::{Part, Writable};
+use fac_base::{Bytes, Height, List, Memory};
 use fac_code::{Action, Elem, KindRow, TemplateRow, WordRow};
-use fac_lang::{Bytes, Height, List, Memory};
+use fac_lang::CoreWord;
 use fac_spelling::{
     ReadFault, Spelled, Writes, number_fits, numbers_fit, read_number, read_wide, unzigzag,
     write_number, zigzag,
@@ -18,6 +20,34 @@ use std::alloc::Global;
 
 // The number of the last core word that is an action.
 const LAST_CORE: u32 = 4;
+
+// The number that images have for a core word. `cond` stands in none, and its number is past the last.
+fn number_of_core(core: CoreWord) -> u32
+    ensures { result ≡ core_number core }
+{
+    match core {
+        CoreWord::Call => 0,
+        CoreWord::Dip => 1,
+        CoreWord::If => 2,
+        CoreWord::Execute => 3,
+        CoreWord::Boa => 4,
+        CoreWord::Cond => 5,
+    }
+}
+
+// The core word that images have this number for.
+fn core_of_number(number: u32) -> CoreWord
+    ensures { result ≡ core_numbered number }
+{
+    match number {
+        0 => CoreWord::Call,
+        1 => CoreWord::Dip,
+        2 => CoreWord::If,
+        3 => CoreWord::Execute,
+        4 => CoreWord::Boa,
+        _ => CoreWord::Cond,
+    }
+}
 
 impl Writable for Elem {
     ghost format = { elem_format };
@@ -98,7 +128,7 @@ fn read_action(bytes: &[u8]) -> Result<(Action, &[u8]), ReadFault>
         }
         1 => {
             let (core, rest) = read_number(rest, 0, LAST_CORE)?;
-            Ok((Action::Core(core), rest))
+            Ok((Action::Core(core_of_number(core)), rest))
         }
         2 => {
             let (place, rest) = read_number(rest, 0, u32::MAX)?;
@@ -134,7 +164,7 @@ fn write_action(action: Action, out: &mut Bytes) -> Result<(), Memory>
 {
     match action {
         Action::Prim(primitive) => write_one(out, 0, u128::from(primitive)),
-        Action::Core(core) => write_one(out, 1, u128::from(core)),
+        Action::Core(core) => write_one(out, 1, u128::from(number_of_core(core))),
         Action::Code(place) => write_one(out, 2, u128::from(place)),
         Action::Itself => write_none(out, 3),
         Action::Generic(generic) => write_one(out, 4, u128::from(generic)),
@@ -151,7 +181,7 @@ fn action_fits(action: Action) -> bool
 {
     match action {
         Action::Prim(primitive) => primitive <= last_primitive(),
-        Action::Core(core) => core <= LAST_CORE,
+        Action::Core(core) => number_of_core(core) <= LAST_CORE,
         Action::Code(_)
         | Action::Itself
         | Action::Generic(_)

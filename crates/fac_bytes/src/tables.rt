@@ -7,8 +7,8 @@ ghost use Rattle.fac_bytes.specs.ImageBytes.{first_tables, last_tables, tables a
 use crate::generics::{generics_have_spelling, read_generics, write_generics};
 use crate::pairs::pairs_have_spelling;
 use crate::part::{list_has_spelling, read_list, write_list};
+use fac_base::{Bytes, List, Memory, Text};
 use fac_code::{Elem, GenericRow, Image, KindRow, Tables, TemplateRow, WordRow};
-use fac_lang::{Bytes, List, Memory, Text};
 use fac_spelling::{ReadFault, read_ascending_by, write_ascending_by};
 use std::alloc::Global;
 

@@ -22,8 +22,8 @@
 ghost use Rattle.fac_lines.specs.LineAnswers.{AtEnd};
 
 use crate::telling::{tell_bytes, tell_end, tell_left, tell_loads, tell_stack, tell_tokens};
+use fac_base::{Bytes, Duplicate, List, Memory, Text};
 use fac_io::{Files, MemFiles, MemSink, MemSource, Sink, Source};
-use fac_lang::{Bytes, Duplicate, List, Memory, Text};
 use fac_lines::Lines;
 use fac_tool::{Ended, factor_top};
 use std::alloc::Global;

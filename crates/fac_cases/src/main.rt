@@ -19,7 +19,7 @@ mod case;
 mod telling;
 
 use case::Case;
-use fac_lang::{Memory, Text};
+use fac_base::{Memory, Text};
 use std::alloc::Global;
 use std::io;
 use std::io::ErrorKind;

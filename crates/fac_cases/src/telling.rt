@@ -1,9 +1,10 @@
 //! How the end of a call and the tokens of a file are told.
 ghost use Rattle.fac_lines.specs.LineAnswers.{AtEnd};
 
+use fac_base::{Bytes, Memory, Text};
 use fac_io::{Asked, MemSource, Source};
-use fac_lang::{Bytes, Memory, Text, TokKind, Token};
 use fac_lines::Lines;
+use fac_source::{TokKind, Token};
 use fac_token::{TokenFault, tokens};
 use std::alloc::Global;
 use std::str;

@@ -6,9 +6,10 @@ use Rattle.std.proofs.lemmas.Bool.{eqb-true, eq-eqb, leb-true, le-leb}
 use Rattle.fac_lang.specs.Phrases.{Phrase, end, then, Item, lit, lit_arr, quot, word, bind, local, fry, hole, call_eff, exec_eff, next_method, made, next_after, held, known, Value, Callable}
 use Rattle.fac_lang.specs.World.{World, State, array}
 use Rattle.fac_lang.specs.declared.program.Lit.{Lit}
-use Rattle.fac_lang.specs.Signatures.{Signature, signature}
-use Rattle.fac_lang.specs.declared.phrase.Height.{Height}
-use Rattle.fac_lang.specs.Effects.{effect_height, inputs_count, word_height}
+use Rattle.fac_base.specs.Signatures.{Signature, signature}
+use Rattle.fac_base.specs.declared.height.Height.{Height}
+use Rattle.fac_base.specs.Effects.{effect_height, inputs_count}
+use Rattle.fac_lang.specs.WordHeights.{word_height}
 use Rattle.fac_lang.specs.Substitution.{of_method, of_method_item}
 use Rattle.fac_lang.specs.Primitives.{Primitive, prim_numbered, primitive_word, prim_fn}
 use Rattle.fac_lang.specs.PrimitiveWords.{PrimitiveWord, written_effect}
@@ -23,13 +24,15 @@ use Rattle.fac_lang.specs.Eval.{run_callable, eval}
 use Rattle.fac_lang.specs.Meaning.{meaning_values, names, sort_of, word_phrase, with_arrays, literal_value, array_method, start, run, act, is_top_phrase, one_item, word_fits, callable_fits}
 use Rattle.fac_lang.specs.Whole.{IsWhole, each_item, each_inner, item_fits, word_phrases, joined, quotations, has_written_effect, effect_written, is_effect, plain_effect, has_generic_effect, effect_of, sort_fits, is_generic, is_class, is_body, each_numbered, marks_fit}
 use Rattle.fac_lang.proofs.WholeLemmas.{same_effect}
-use Rattle.fac_lang.specs.RowVariables.{has_rows, bindable, is_row, outer_in, outer_out, effect_inputs, effect_leaving}
+use Rattle.fac_abs.specs.RowVariables.{has_rows, bindable, is_row, outer_in, outer_out, effect_inputs, effect_leaving}
 use Rattle.fac_rows.specs.RowBinding.{leaving_on, inputs_marks}
+use Rattle.fac_abs.specs.declared.rule.Rule.{Rule}
 use Rattle.fac_check.specs.declared.refusal.Broken.{Broken}
-use Rattle.fac_check.specs.Verdicts.{any_quoted, is_inline_body, inline_verdict, row_verdict, undeclared, bad_rows, bad_generic, no_generic_effect, ordinary_verdict, body_verdict, top_verdict, phrase_verdict, sort_verdict, ruled_verdict, word_verdict, verdict_from, verdict}
+use Rattle.fac_check.specs.Verdicts.{any_quoted, is_inline_body, inline_verdict, row_verdict, broken_at, head_rules, bad_rows, bad_generic, no_generic_effect, ordinary_verdict, body_verdict, top_verdict, phrase_verdict, sort_verdict, ruled_verdict, word_verdict, verdict_from, verdict}
 use Rattle.fac_abs.proofs.EqualMarks.{never_true, and_first, and_second}
 use Rattle.fac_check.proofs.StandingLaws.{Unmarked, UnmarkedItem}
-use Rattle.fac_lang.specs.HeightArithmetic.{fits}
+use Rattle.fac_check.proofs.VerdictLemmas.{NoneBroken}
+use Rattle.fac_base.specs.HeightArithmetic.{fits}
 use Rattle.fac_check.specs.CallableEffects.{callable_height}
 use Rattle.fac_check.specs.Promises.{Valid}
 use Rattle.fac_check.proofs.ValuesOfMarks.{EndsSo}
@@ -147,14 +150,17 @@ module _ (P : Program) where
   accepted_word : (start : ℕ) → verdict P start ≡ None → (w : ℕ) (d : WordDef) → slice_get P.words w ≡ Some d → word_verdict P start w d ≡ None
   accepted_word start h w d q = accepted_at start 0 P.words h w w d (omega arith) q
 
-  by_rules : (u r g : Bool) (start w : ℕ) (d : WordDef) → ruled_verdict P u r g start w d ≡ None → (r ≡ false) × (g ≡ false) × (sort_verdict P start w d d.sort ≡ None)
-  by_rules true r g start w d h = absurd (some_refusal _ h)
-  by_rules false true g start w d h = absurd (some_refusal _ h)
-  by_rules false false true start w d h = absurd (some_refusal _ h)
-  by_rules false false false start w d h = (refl, refl, h)
+  -- an accepted word breaks none of the rules that need no walk
+  by_rules : (rs : List (Bool × Rule)) (start w : ℕ) (d : WordDef) → ruled_verdict P rs start w d ≡ None → NoneBroken rs × (sort_verdict P start w d d.sort ≡ None)
+  by_rules [] start w d h = (tt, h)
+  by_rules (r ∷ rs) start w d h = by_first r.0 refl (by_rules rs start w d) h
+    where
+      by_first : (b : Bool) → r.0 ≡ b → (ruled_verdict P rs start w d ≡ None → NoneBroken rs × (sort_verdict P start w d d.sort ≡ None)) → (let o : Option Broken = elim b [ true ↦ broken_at r.1 d.place | false ↦ ruled_verdict P rs start w d ] in o ≡ None) → NoneBroken (r ∷ rs) × (sort_verdict P start w d d.sort ≡ None)
+      by_first true e others k = absurd (some_refusal _ k)
+      by_first false e others k = ((e, (others k).0), (others k).1)
 
   of_word : (start : ℕ) → verdict P start ≡ None → (w : ℕ) (d : WordDef) → slice_get P.words w ≡ Some d → (bad_rows P w d ≡ false) × (bad_generic d.sort d.effect ≡ false) × (sort_verdict P start w d d.sort ≡ None)
-  of_word start h w d q = by_rules (undeclared P w d) (bad_rows P w d) (bad_generic d.sort d.effect) start w d (accepted_word start h w d q)
+  of_word start h w d q = let ruled = by_rules (head_rules P w d) start w d (accepted_word start h w d q) in (ruled.0.1.0, ruled.0.1.1.0, ruled.1)
 
   -- an ordinary word
   by_phrase : (b : Bool) (start w : ℕ) (t : Phrase) (d : WordDef) → not b ≡ true → phrase_verdict P b start w t d ≡ None → body_verdict P d.inline w t d ≡ None

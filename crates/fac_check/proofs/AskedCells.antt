@@ -4,9 +4,9 @@ use Rattle.std.specs.Prelude.{◌||◌, not, slice_get}
 use Rattle.std.specs.List.{list_any}
 use Rattle.fac_lang.specs.Phrases.{Phrase, end, then, Item, quot, fry, hole}
 use Rattle.fac_lang.specs.Whole.{has_hole, item_has_hole}
-use Rattle.fac_captures.specs.declared.cell.Cell.{Cell}
-use Rattle.fac_captures.specs.declared.cell.Cell.TheVariants.{Hole}
-use Rattle.fac_captures.specs.Cells.{same_cell, asks, item_asks, is_local, keeps_cell, kept_cells}
+use Rattle.fac_locals.specs.declared.cell.Cell.{Cell}
+use Rattle.fac_locals.specs.declared.cell.Cell.TheVariants.{Hole}
+use Rattle.fac_locals.specs.Cells.{same_cell, asks, item_asks, is_local, keeps_cell, kept_cells}
 use Rattle.fac_abs.proofs.EqualMarks.{and_first, and_second}
 
 -- a phrase asks for the holes that stand in it

@@ -5,12 +5,11 @@ use mathlib.Core.Logic.{inl, inr}
 use Rattle.fac_lang.specs.declared.program.Program.{Program}
 use Rattle.fac_lang.specs.declared.program.WordDef.{WordDef}
 use Rattle.fac_lang.specs.declared.program.Sort.{Sort}
-use Rattle.fac_lang.specs.declared.program.Sort.TheVariants.{Prim as prim, Core as core, Body as body, Past as past}
+use Rattle.fac_lang.specs.declared.program.Sort.TheVariants.{Prim as prim, Body as body, Past as past}
 use Rattle.fac_lang.specs.PrimitiveWords.{written_effect}
 use Rattle.fac_lang.specs.Primitives.{Primitive, prim_numbered, is_built_primitive}
 use Rattle.fac_lang.proofs.SourcePrograms.{IsSourceProgram, IsSourceSort, AreSourceWords, IsPrimitiveWord, source_of_whole}
 use Rattle.fac_lang.specs.Whole.{IsWhole}
-use Rattle.fac_lang.specs.CoreWords.{is_built_core}
 use Rattle.fac_check.proofs.PrimitivesKeep.{prim_found}
 
 module _ {A : Type 0} where
@@ -31,16 +30,14 @@ built_there bound [] h k d e = absurd (cc)
 built_there bound (c ∷ ds) h zero d e = (let same : c ≡ d = cc in subst (λ x. IsSourceSort bound x x.sort) same h.0)
 built_there bound (c ∷ ds) h (suc k) d e = built_there bound ds h.1 k d e
 
--- the number of a primitive or a core word is that of a built one, and no word is an earlier top-level phrase
+-- the number of a primitive is that of a built one, and no word is an earlier top-level phrase
 abbrev pub HasBuiltNumber : Sort → Type 0
 HasBuiltNumber (prim k) = is_built_primitive k ≡ true
-HasBuiltNumber (core k) = is_built_core k ≡ true
 HasBuiltNumber (past t) = ⊥
 HasBuiltNumber _ = Unit {0}
 
 sort_numbered : (bound : ℕ) (d : WordDef) (s : Sort) → IsSourceSort bound d s → HasBuiltNumber s
 sort_numbered bound d (prim k) h = h.is_built
-sort_numbered bound d (core k) h = h.is_built
 sort_numbered bound d (past t) h = absurd h
 sort_numbered bound d _ h = tt
 

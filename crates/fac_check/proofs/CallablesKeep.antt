@@ -3,14 +3,14 @@ use Rattle.std.proofs.Common.{◌≡◌, ℕ, zero, suc, ◌≤◌, ◌+◌, ◌
 use Rattle.std.specs.Prelude.{nat_le, ◌&&◌}
 use Rattle.std.proofs.lemmas.Bool.{eqb-true, leb-true, leb-false}
 use native.Mathlib.Numerals.{unary_clauses}
-use Rattle.fac_lang.specs.declared.phrase.Height.{Height}
+use Rattle.fac_base.specs.declared.height.Height.{Height}
 use Rattle.fac_lang.specs.Phrases.{Value, Callable, of_phrase, cur, both}
 use Rattle.fac_lang.specs.World.{State, push}
 use Rattle.fac_lang.specs.declared.program.Program.{Program}
 use Rattle.fac_lang.specs.Eval.{Result, Done, Failed, Spent, Stuck, then_do, run_callable, eval}
 use Rattle.fac_lang.specs.Meaning.{callable_fits}
 use Rattle.fac_lang.proofs.Laws.{Within, within, within_call}
-use Rattle.fac_lang.specs.HeightArithmetic.{most_values, limited_if, limited_height, curried_numbers, curried_height, composed_over, composed_numbers, composed_height, fits, fits_outs}
+use Rattle.fac_base.specs.HeightArithmetic.{most_values, limited_if, limited_height, curried_numbers, curried_height, composed_over, composed_numbers, composed_height, fits, fits_outs}
 use Rattle.fac_check.specs.CallableEffects.{callable_height, most_inputs}
 use Rattle.fac_check.specs.Promises.{Valid}
 use Rattle.fac_check.proofs.ValuesOfMarks.{EndsSo}

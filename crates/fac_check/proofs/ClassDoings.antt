@@ -11,10 +11,11 @@ use Rattle.fac_lang.specs.declared.program.Shape.TheVariants.{Tuple as tuple_cla
 use Rattle.fac_lang.specs.declared.program.Sort.{Sort}
 use Rattle.fac_lang.specs.declared.program.Sort.TheVariants.{Body as body, Past as past, Class as class, Method as method}
 use Rattle.fac_lang.specs.Classes.{has_own, own_kind, shape_at, is_tuple, slots_within}
-use Rattle.fac_lang.specs.Effects.{effect_height}
-use Rattle.fac_lang.specs.Meaning.{c_boa, c_execute, names, class_of_word, sort_of}
+use Rattle.fac_base.specs.Effects.{effect_height}
+use Rattle.fac_lang.specs.declared.core_table.CoreWord.TheVariants.{Boa as c_boa, Execute as c_execute}
+use Rattle.fac_lang.specs.Meaning.{names, class_of_word, sort_of}
 use Rattle.fac_lang.specs.Phrases.{Mark, any, lit_mark, cur_mark, com_mark, wrd_mark, par_mark}
-use Rattle.fac_lang.specs.RowVariables.{Row}
+use Rattle.fac_abs.specs.RowVariables.{Row}
 use Rattle.fac_abs.specs.Marks.{on, unknowns}
 use Rattle.fac_abs.specs.InTurn.{under}
 use Rattle.fac_abs.specs.declared.rule.Rule.TheVariants.{Underflow, NotKnown, MethodEffect}
@@ -22,8 +23,8 @@ use Rattle.fac_abs.proofs.CallerLemmas.{popped_none, popped_some}
 use Rattle.fac_locals.specs.Closed.{Closes, ClosesSort}
 use Rattle.fac_locals.specs.declared.closing.Closed.{Closed}
 use Rattle.fac_locals.proofs.Lookups.{word_open, word_open_none}
-use Rattle.fac_slots.specs.Slots.{slot_count, slot_counts}
-use Rattle.fac_slots.proofs.SlotLemmas.{count_at}
+use Rattle.fac_graph.specs.Slots.{slot_count, slot_counts}
+use Rattle.fac_graph.proofs.SlotLemmas.{count_at}
 use Rattle.fac_check.specs.Flow.{Doing, breaks, gives, again, by_height, known_word, makes_by, core_doing, generic_doing, next_doing}
 use Rattle.fac_check.specs.inner.KnownClasses.{word_in, if_tuple, tuple_slots, TellsTuple, IsTupleWord, makes_counted, generic_word}
 
@@ -49,24 +50,24 @@ made_by P c None b ms h = sym (ap (λ (x : Option (ℕ × ℕ)). makes_by P x b 
 made_by P c (Some n) b ms h = sym (ap (λ (x : Option (ℕ × ℕ)). makes_by P x b ms) h.1)
 
 -- `boa` on a known word
-pub boa_word : (P : Program) (b : Option Row) (stack rest : List Mark) (m : Mark) (w : ℕ) (slots : Option ℕ) (X : Doing) → stack ≡ m ∷ rest → Some w ≡ word_in m → TellsTuple ((names P).tuple_class w) slots → X ≡ makes_counted slots b rest → X ≡ core_doing P (Some c_boa) b stack
+pub boa_word : (P : Program) (b : Option Row) (stack rest : List Mark) (m : Mark) (w : ℕ) (slots : Option ℕ) (X : Doing) → stack ≡ m ∷ rest → Some w ≡ word_in m → TellsTuple ((names P).tuple_class w) slots → X ≡ makes_counted slots b rest → X ≡ core_doing P c_boa b stack
 boa_word P b stack rest m w slots X is known tells x =
-    x ∙ made_by P ((names P).tuple_class w) slots b rest tells ∙ known_by m w (λ v. makes_by P ((names P).tuple_class v) b rest) known ∙ sym (ap (core_doing P (Some c_boa) b) is)
+    x ∙ made_by P ((names P).tuple_class w) slots b rest tells ∙ known_by m w (λ v. makes_by P ((names P).tuple_class v) b rest) known ∙ sym (ap (core_doing P c_boa b) is)
 
-pub boa_unknown : (P : Program) (b : Option Row) (stack rest : List Mark) (m : Mark) → stack ≡ m ∷ rest → None ≡ word_in m → breaks NotKnown ≡ core_doing P (Some c_boa) b stack
-boa_unknown P b stack rest m is none = unknown_by m (λ v. makes_by P ((names P).tuple_class v) b rest) none ∙ sym (ap (core_doing P (Some c_boa) b) is)
+pub boa_unknown : (P : Program) (b : Option Row) (stack rest : List Mark) (m : Mark) → stack ≡ m ∷ rest → None ≡ word_in m → breaks NotKnown ≡ core_doing P c_boa b stack
+boa_unknown P b stack rest m is none = unknown_by m (λ v. makes_by P ((names P).tuple_class v) b rest) none ∙ sym (ap (core_doing P c_boa b) is)
 
-pub boa_lacks : (P : Program) (b : Option Row) (stack : List Mark) → stack ≡ [] → breaks (Underflow 1 (length stack)) ≡ core_doing P (Some c_boa) b stack
+pub boa_lacks : (P : Program) (b : Option Row) (stack : List Mark) → stack ≡ [] → breaks (Underflow 1 (length stack)) ≡ core_doing P c_boa b stack
 boa_lacks P b stack is = rw is refl
 
 -- `execute`: the item of the word that its top mark stands for, or none
-pub execute_word : (P : Program) (b : Option Row) (stack rest : List Mark) (m : Mark) (w : ℕ) → stack ≡ m ∷ rest → Some w ≡ word_in m → again w b rest ≡ core_doing P (Some c_execute) b stack
-execute_word P b stack rest m w is known = known_by m w (λ v. again v b rest) known ∙ sym (ap (core_doing P (Some c_execute) b) is)
+pub execute_word : (P : Program) (b : Option Row) (stack rest : List Mark) (m : Mark) (w : ℕ) → stack ≡ m ∷ rest → Some w ≡ word_in m → again w b rest ≡ core_doing P c_execute b stack
+execute_word P b stack rest m w is known = known_by m w (λ v. again v b rest) known ∙ sym (ap (core_doing P c_execute b) is)
 
-pub execute_unknown : (P : Program) (b : Option Row) (stack rest : List Mark) (m : Mark) → stack ≡ m ∷ rest → None ≡ word_in m → breaks NotKnown ≡ core_doing P (Some c_execute) b stack
-execute_unknown P b stack rest m is none = unknown_by m (λ v. again v b rest) none ∙ sym (ap (core_doing P (Some c_execute) b) is)
+pub execute_unknown : (P : Program) (b : Option Row) (stack rest : List Mark) (m : Mark) → stack ≡ m ∷ rest → None ≡ word_in m → breaks NotKnown ≡ core_doing P c_execute b stack
+execute_unknown P b stack rest m is none = unknown_by m (λ v. again v b rest) none ∙ sym (ap (core_doing P c_execute b) is)
 
-pub execute_lacks : (P : Program) (b : Option Row) (stack : List Mark) → stack ≡ [] → breaks (Underflow 1 (length stack)) ≡ core_doing P (Some c_execute) b stack
+pub execute_lacks : (P : Program) (b : Option Row) (stack : List Mark) → stack ≡ [] → breaks (Underflow 1 (length stack)) ≡ core_doing P c_execute b stack
 execute_lacks P b stack is = rw is refl
 
 -- a tuple of the values that are there, or too few of them

@@ -5,11 +5,11 @@ use Rattle.std.proofs.lemmas.Bool.{eqb-true}
 use Rattle.fac_lang.specs.declared.program.Program.{Program}
 use Rattle.fac_lang.specs.declared.program.WordDef.{WordDef}
 use Rattle.fac_lang.specs.Phrases.{Mark, any}
-use Rattle.fac_lang.specs.Meaning.{c_dip, c_if}
+use Rattle.fac_lang.specs.declared.core_table.CoreWord.TheVariants.{Dip as c_dip, If as c_if}
 use Rattle.fac_lang.specs.Procedures.{picked}
-use Rattle.fac_lang.specs.Signatures.{Signature}
-use Rattle.fac_lang.specs.Effects.{inputs_count}
-use Rattle.fac_lang.specs.RowVariables.{Row, bindable, effect_inputs}
+use Rattle.fac_base.specs.Signatures.{Signature}
+use Rattle.fac_base.specs.Effects.{inputs_count}
+use Rattle.fac_abs.specs.RowVariables.{Row, bindable, effect_inputs}
 use Rattle.fac_rows.specs.RowBinding.{inputs_known}
 use Rattle.fac_abs.specs.Marks.{dead, on, is_callable, unknowns, piled, popped}
 use Rattle.fac_abs.specs.declared.rule.Rule.TheVariants.{Underflow, NotKnown}
@@ -85,25 +85,25 @@ made_lacks make j k b [] l = refl
 made_lacks make j k b (c ∷ []) l = refl
 made_lacks make j k b (c ∷ m ∷ ms) l = absurd (omega (arith, l))
 
-pub dip_lacks : (P : Program) (b : Option Row) (ms : List Mark) → length ms < 2 → breaks (Underflow 2 (length ms)) ≡ core_doing P (Some c_dip) b ms
+pub dip_lacks : (P : Program) (b : Option Row) (ms : List Mark) → length ms < 2 → breaks (Underflow 2 (length ms)) ≡ core_doing P c_dip b ms
 dip_lacks P b [] l = refl
 dip_lacks P b (c ∷ []) l = refl
 dip_lacks P b (c ∷ m ∷ ms) l = absurd (omega (arith, l))
 
-pub if_lacks : (P : Program) (b : Option Row) (ms : List Mark) → length ms < 3 → breaks (Underflow 3 (length ms)) ≡ core_doing P (Some c_if) b ms
+pub if_lacks : (P : Program) (b : Option Row) (ms : List Mark) → length ms < 3 → breaks (Underflow 3 (length ms)) ≡ core_doing P c_if b ms
 if_lacks P b [] l = refl
 if_lacks P b (c ∷ []) l = refl
 if_lacks P b (c ∷ m ∷ []) l = refl
 if_lacks P b (c ∷ m ∷ x ∷ ms) l = absurd (omega (arith, l))
 
 -- an `if` on callables of which one isn't known, and on known ones
-pub if_unknown_first : (P : Program) (b : Option Row) (ms : List Mark) (r l x : Mark) (rest : List Mark) → ms ≡ r ∷ l ∷ x ∷ rest → false ≡ is_callable l → breaks NotKnown ≡ core_doing P (Some c_if) b ms
+pub if_unknown_first : (P : Program) (b : Option Row) (ms : List Mark) (r l x : Mark) (rest : List Mark) → ms ≡ r ∷ l ∷ x ∷ rest → false ≡ is_callable l → breaks NotKnown ≡ core_doing P c_if b ms
 if_unknown_first P b ms r l x rest e f = rw (e, ← f) refl
 
-pub if_unknown_second : (P : Program) (b : Option Row) (ms : List Mark) (r l x : Mark) (rest : List Mark) → ms ≡ r ∷ l ∷ x ∷ rest → true ≡ is_callable l → false ≡ is_callable r → breaks NotKnown ≡ core_doing P (Some c_if) b ms
+pub if_unknown_second : (P : Program) (b : Option Row) (ms : List Mark) (r l x : Mark) (rest : List Mark) → ms ≡ r ∷ l ∷ x ∷ rest → true ≡ is_callable l → false ≡ is_callable r → breaks NotKnown ≡ core_doing P c_if b ms
 if_unknown_second P b ms r l x rest e f g = rw (e, ← f, ← g) refl
 
-pub if_known : (P : Program) (b : Option Row) (ms : List Mark) (r l x : Mark) (rest : List Mark) → ms ≡ r ∷ l ∷ x ∷ rest → true ≡ is_callable l → true ≡ is_callable r → forks l r b rest ≡ core_doing P (Some c_if) b ms
+pub if_known : (P : Program) (b : Option Row) (ms : List Mark) (r l x : Mark) (rest : List Mark) → ms ≡ r ∷ l ∷ x ∷ rest → true ≡ is_callable l → true ≡ is_callable r → forks l r b rest ≡ core_doing P c_if b ms
 if_known P b ms r l x rest e f g = rw (e, ← f, ← g) refl
 
 -- a use of a row word that isn't the one that is checked

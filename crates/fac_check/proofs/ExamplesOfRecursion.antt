@@ -4,7 +4,7 @@ use Rattle.std.specs.Prelude.{codes}
 use Rattle.fac_lang.specs.declared.program.Program.{Program}
 use Rattle.fac_lang.specs.declared.program.WordDef.{WordDef}
 use Rattle.fac_lang.specs.declared.program.Sort.TheVariants.{Body as body}
-use Rattle.fac_lang.specs.Signatures.{signature, no_inputs, leaves}
+use Rattle.fac_base.specs.Signatures.{signature, no_inputs, leaves}
 use Rattle.fac_lang.specs.Phrases.{Item, word}
 use Rattle.fac_lang.proofs.DemoWords.{phrase, quotation, itself}
 use Rattle.fac_lang.proofs.DemoPrelude.{word_of}

@@ -2,19 +2,19 @@
 use Rattle.std.proofs.Common.{◌≡◌, ℕ, zero, suc, List, [], ◌∷◌, ◌++◌, length, Bool, true, false, refl, Some, None, arith}
 use Rattle.std.specs.Prelude.{nat_eq, pos, codes}
 use Rattle.std.proofs.lemmas.Bool.{eqb-true, eq-eqb}
-use Rattle.fac_lang.specs.Signatures.{signature, no_inputs, quoted, leaves}
+use Rattle.fac_base.specs.Signatures.{signature, no_inputs, quoted, leaves}
 use Rattle.fac_lang.specs.Eval.{Result, Done, Failed, Spent, Stuck}
 use Rattle.fac_lang.specs.declared.program.Program.{Program}
 use Rattle.fac_lang.specs.Phrases.{int, Value, plain, fun, Callable, of_phrase}
 use Rattle.fac_lang.specs.Primitives.{prim_numbered, prim_fn}
-use Rattle.fac_lang.specs.Meaning.{core_numbered, nowhere, start, word_phrase, one_item}
+use Rattle.fac_lang.specs.Meaning.{nowhere, start, word_phrase, one_item}
 use Rattle.fac_lang.specs.Whole.{IsWhole, plain_effect}
-use Rattle.fac_lang.proofs.DemoWords.{phrase, number, own, +, show, drop, throw, loop}
+use Rattle.fac_lang.proofs.DemoWords.{phrase, number, own, +, show, drop, throw, loop, own_number}
 use Rattle.fac_lang.proofs.DemoPrelude.{ordinary, expanded}
 use Rattle.fac_lang.proofs.Demo.{program, plain_program}
 use Rattle.fac_lang.proofs.ExamplesOfObjects.{name, >>r, shapes, kept_in_array}
 use Rattle.fac_lang.proofs.ExamplesOfWhole.{sum_whole, shapes_whole, kept_whole}
-use Rattle.fac_lang.specs.RowVariables.{Row, named_row, row_eq}
+use Rattle.fac_abs.specs.RowVariables.{Row, named_row, row_eq}
 use Rattle.fac_abs.specs.Marks.{mark_eq}
 use Rattle.fac_abs.specs.declared.rule.Rule.TheVariants.{Underflow, Outputs}
 use Rattle.fac_check.specs.Verdicts.{verdict}
@@ -41,7 +41,7 @@ abbrev sum : Program
 sum = plain_program (number 1 ∷ number 2 ∷ + ∷ show ∷ [])
 
 sum_accepted : verdict sum 0 ≡ None
-unfolding prim_numbered core_numbered mark_eq
+unfolding prim_numbered mark_eq
 sum_accepted = refl
 
 sum_safe : IsSafe sum 0
@@ -77,7 +77,7 @@ rest_whole =
     record { items_fit = refl; literals_fit = refl; sorts_fit = refl; shapes_fit = refl; arrays_earlier = refl; arrays_once = refl; top_last = refl; top_phrase = refl; top_effect = refl; no_past = refl; items_spare = refl; literals_spare = refl; bound = refl; holes_in_fries = refl; holes_stand = refl; written_effects = refl; method_effects = refl; marks_of_bodies = refl; few_names = refl; small_tests = refl; slots_differ = refl; few_slots = refl; class_names_differ = refl; classes_end = refl; words_differ = refl; methods_differ = refl }
 
 rest_accepted : verdict rest 2 ≡ None
-unfolding prim_numbered core_numbered mark_eq
+unfolding prim_numbered mark_eq
 rest_accepted = refl
 
 -- whatever they are, and whatever stands in the world before it
@@ -86,12 +86,12 @@ rest_sound = (accepted_are_safe rest 2 rest_whole rest_accepted).phrase
 
 -- on one value it is refused
 pub rest_refused : verdict rest 1 ≡ Some (rest.top, record { rule = Underflow 2 1; place = nowhere })
-unfolding prim_numbered core_numbered mark_eq
+unfolding prim_numbered mark_eq
 rest_refused = refl
 
 -- tuple classes with a parent, a union, a generic with two methods
 pub shapes_accepted : verdict (shapes (number 7 ∷ name ∷ show ∷ [])) 0 ≡ None
-unfolding prim_numbered core_numbered mark_eq
+unfolding prim_numbered mark_eq
 shapes_accepted = refl
 
 shapes_safe : IsSafe (shapes (number 7 ∷ name ∷ show ∷ [])) 0
@@ -112,7 +112,7 @@ set_slot_keeps = shapes_safe.words _ _ (record { ins = 2; outs = Some 1 }) refl 
 
 -- a method whose phrase has a literal array with a quotation
 pub kept_accepted : verdict (kept_in_array (number 7 ∷ own 0 ∷ [])) 0 ≡ None
-unfolding prim_numbered core_numbered mark_eq
+unfolding prim_numbered mark_eq
 kept_accepted = refl
 
 pub kept_sound : NeverStuck (kept_in_array (number 7 ∷ own 0 ∷ []))
@@ -131,10 +131,10 @@ no_value (v ∷ vs) more e n = absurd (cc)
 -- its item is done and leaves nothing, where it declares a value
 pub none_left_unsafe : IsSafe none_left 0 → ⊥
 none_left_unsafe safe =
-    (let h = safe.words 82 _ (record { ins = 0; outs = Some 1 }) refl refl refl 1 [] (start none_left []) 1 (omega arith) ([], [], refl, refl, refl) (safe.begins []) in no_value h.0.0 h.0.1 h.0.2 h.0.3)
+    (let h = safe.words (own_number 0) _ (record { ins = 0; outs = Some 1 }) refl refl refl 1 [] (start none_left []) 1 (omega arith) ([], [], refl, refl, refl) (safe.begins []) in no_value h.0.0 h.0.1 h.0.2 h.0.3)
 
-pub none_left_refused : verdict none_left 0 ≡ Some (82, record { rule = Outputs 1 0; place = nowhere })
-unfolding prim_numbered core_numbered mark_eq
+pub none_left_refused : verdict none_left 0 ≡ Some (own_number 0, record { rule = Outputs 1 0; place = nowhere })
+unfolding prim_numbered mark_eq
 none_left_refused = refl
 
 -- : skip ( ..a quot: ( ..a -- ..b ) -- ..b ) drop ; inline
@@ -167,8 +167,8 @@ not_one (v ∷ vs) more e z = absurd (cc)
 pub skipped_unsafe : IsSafe skipped 0 → ⊥
 unfolding prim_numbered prim_fn
 skipped_unsafe safe =
-    (let h = safe.row_words 82 _ refl refl refl none_and_one 2 (record { stack = fun (of_phrase (phrase (number 1 ∷ []))) ∷ []; world = (start skipped []).world }) 2 (omega arith) (fun (of_phrase (phrase (number 1 ∷ []))) ∷ [], [], refl, (one_does 2, tt), refl) (safe.begins []) in not_one h.0.0 h.0.1 h.0.2 h.0.4)
+    (let h = safe.row_words (own_number 0) _ refl refl refl none_and_one 2 (record { stack = fun (of_phrase (phrase (number 1 ∷ []))) ∷ []; world = (start skipped []).world }) 2 (omega arith) (fun (of_phrase (phrase (number 1 ∷ []))) ∷ [], [], refl, (one_does 2, tt), refl) (safe.begins []) in not_one h.0.0 h.0.1 h.0.2 h.0.4)
 
-pub skipped_refused : verdict skipped 0 ≡ Some (82, record { rule = Outputs 0 0; place = nowhere })
-unfolding prim_numbered core_numbered mark_eq
+pub skipped_refused : verdict skipped 0 ≡ Some (own_number 0, record { rule = Outputs 0 0; place = nowhere })
+unfolding prim_numbered mark_eq
 skipped_refused = refl

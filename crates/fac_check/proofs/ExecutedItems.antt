@@ -6,7 +6,7 @@ use Rattle.fac_lang.specs.declared.phrase.Template.{Template}
 use Rattle.fac_lang.specs.declared.program.Program.{Program}
 use Rattle.fac_lang.specs.declared.program.WordDef.{WordDef}
 use Rattle.fac_lang.specs.Phrases.{Literal, end, then, word}
-use Rattle.fac_lang.specs.RowVariables.{Row}
+use Rattle.fac_abs.specs.RowVariables.{Row}
 use Rattle.fac_locals.specs.Literals.{behind}
 use Rattle.fac_abs.specs.declared.rule.Rule.TheVariants.{TooLarge}
 use Rattle.fac_abs.specs.MarkTrees.{Naming}

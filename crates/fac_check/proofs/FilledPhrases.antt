@@ -3,12 +3,12 @@ use Rattle.std.proofs.Common.{◌≡◌, ◌≤◌, ◌⊎◌, inl, inr, ℕ, Bo
 use Rattle.std.specs.Prelude.{◌&&◌, not, max}
 use Rattle.std.proofs.lemmas.Bool.{or_cases}
 use Rattle.std.proofs.Math.Nat.{le-max_left, le-max_right, max-le}
-use Rattle.fac_lang.specs.declared.phrase.Place.{Place}
+use Rattle.fac_base.specs.declared.place.Place.{Place}
 use Rattle.fac_lang.specs.Phrases.{Phrase, end, then, Item, quot, local, fry, hole, made, known}
 use Rattle.fac_lang.specs.declared.program.Program.{Program}
-use Rattle.fac_captures.specs.declared.cell.Cell.{Cell}
-use Rattle.fac_captures.specs.declared.cell.Cell.TheVariants.{Local, Hole}
-use Rattle.fac_captures.specs.Cells.{asks, item_asks, is_local, binds_cell}
+use Rattle.fac_locals.specs.declared.cell.Cell.{Cell}
+use Rattle.fac_locals.specs.declared.cell.Cell.TheVariants.{Local, Hole}
+use Rattle.fac_locals.specs.Cells.{asks, item_asks, is_local, binds_cell}
 use Rattle.fac_locals.specs.Frames.{IsPut, cell_item, put_behind, put_in_fry, filled_by, filled_item}
 use Rattle.fac_locals.proofs.FrameLaws.{Fills, same_is}
 use Rattle.fac_locals.proofs.RunningPhrases.{IsRun, IsRunItem}

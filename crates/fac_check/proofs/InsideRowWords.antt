@@ -1,14 +1,14 @@
 -- The context of a row word's phrase at a use: its inputs are what stood for the marks, its rows are what was bound.
 use Rattle.std.proofs.Common.{◌≡◌, ℕ, zero, suc, ◌≤◌, List, [], ◌∷◌, length, drop, Bool, true, false, refl, sym, Option, Some, None, subst}
 use Rattle.std.specs.Prelude.{nat_eq, nat_lt, ◌&&◌, not}
-use Rattle.fac_lang.specs.declared.phrase.Place.{Place}
+use Rattle.fac_base.specs.declared.place.Place.{Place}
 use Rattle.fac_lang.specs.Phrases.{Value, fun, Callable, Mark}
 use Rattle.fac_lang.specs.World.{State}
-use Rattle.fac_lang.specs.Signatures.{Signature, signature, Inputs, no_inputs, value, quoted, Leaving, never, leaves}
-use Rattle.fac_lang.specs.Effects.{inputs_count, leaving_outs}
+use Rattle.fac_base.specs.Signatures.{Signature, signature, Inputs, no_inputs, value, quoted, Leaving, never, leaves}
+use Rattle.fac_base.specs.Effects.{inputs_count, leaving_outs}
 use Rattle.fac_lang.specs.declared.program.Program.{Program}
 use Rattle.fac_lang.specs.Eval.{Run, run_callable}
-use Rattle.fac_lang.specs.RowVariables.{Row, named_row, leaving_row, effect_inputs, input_effect}
+use Rattle.fac_abs.specs.RowVariables.{Row, named_row, leaving_row, effect_inputs, input_effect}
 use Rattle.fac_abs.specs.Marks.{AbstractStack, dead, on, base_eq, unknowns}
 use Rattle.fac_abs.specs.declared.rule.Rule.TheVariants.{Rows}
 use Rattle.fac_rows.specs.RowBinding.{Binding, bound_to, stack_or_dead, leaving_on, Called, call_breaks, called_if, calls_input}

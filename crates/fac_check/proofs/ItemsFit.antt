@@ -2,15 +2,16 @@
 use Rattle.std.proofs.Common.{subst, ◌≡◌, ◌+◌, ℕ, zero, suc, ◌≤◌, List, [], ◌∷◌, map, length, Bool, true, false, refl, sym, ap, ◌∙◌, arith, Option, Some, None}
 use Rattle.std.specs.Prelude.{nat_eq, nat_lt, nat_le, not, ◌&&◌, slice_get}
 use mathlib.Core.Logic.{inl, inr}
-use Rattle.fac_lang.specs.declared.phrase.Height.{Height}
+use Rattle.fac_base.specs.declared.height.Height.{Height}
 use Rattle.fac_lang.specs.Phrases.{Literal, Plain, no, wrd, arr, tup, Phrase, Item, lit, lit_arr, quot, word, bind, local, fry, hole, call_eff, exec_eff, next_method, made, next_after, held, known, Value, plain, fun, Callable, of_phrase, cur, both, Mark, any, lit_mark, cur_mark, com_mark, wrd_mark, par_mark}
 use Rattle.fac_lang.specs.World.{State, World, Error, push, pile}
 use Rattle.fac_lang.specs.declared.error_name.ErrorName.{ErrorName}
 use Rattle.fac_lang.specs.declared.error_name.ErrorName.TheVariants.{NoMethod, NoNextMethod, WrongValues}
 use Rattle.fac_lang.specs.Substitution.{put_holes, of_method}
-use Rattle.fac_lang.specs.Effects.{effect_height}
+use Rattle.fac_base.specs.Effects.{effect_height}
 use Rattle.fac_lang.specs.Procedures.{Procedure, leaves, curries, composes, Gives, gives as gave, bad, Fn, fn0, fn1, fn2, fn3, followed, by_inputs, picked, value_at, made_or}
-use Rattle.fac_lang.specs.Primitives.{Primitive, prim_numbered, prim_fn, seen_no}
+use Rattle.fac_lang.specs.Primitives.{Primitive, prim_numbered, prim_fn}
+use Rattle.fac_lang.specs.Operations.{seen_no}
 use Rattle.fac_lang.specs.declared.program.Program.{Program}
 use Rattle.fac_lang.specs.declared.program.WordDef.{WordDef}
 use Rattle.fac_lang.specs.declared.program.Sort.{Sort}
@@ -18,13 +19,15 @@ use Rattle.fac_lang.specs.declared.program.Sort.TheVariants.{Prim as prim, Core 
 use Rattle.fac_lang.specs.Objects.{made_tuple, get_slot, set_slot, put_slot, kind_of}
 use Rattle.fac_lang.specs.Classes.{has_kind, pick, next}
 use Rattle.fac_lang.specs.Eval.{Result, Done, Failed, Spent, Stuck, Act, fails, goes, binds, runs, Run, run_callable}
-use Rattle.fac_lang.specs.Meaning.{meaning_values, names, seen, curry_of, compose_of, taking1, taking2, taking3, taking, with_callable, given, does, does_call, does_dip, does_if, Core, does_execute, does_boa, with_word, error, word_call, makes_tuple, run_phrase, one_item, core_act, prim_act, core_numbered, generic_of, pushes_array, c_call, c_dip, c_if, c_execute, c_boa, either, sort_of, sort_act, callable_fits, tested_call, act, word_phrase, enters, tested_execute, word_execute, word_fits, truth_value}
-use Rattle.fac_lang.specs.RowVariables.{Row, is_row}
+use Rattle.fac_lang.specs.declared.core_table.CoreWord.{CoreWord}
+use Rattle.fac_lang.specs.declared.core_table.CoreWord.TheVariants.{Call as c_call, Dip as c_dip, If as c_if, Execute as c_execute, Boa as c_boa, Cond as c_cond}
+use Rattle.fac_lang.specs.Meaning.{meaning_values, names, seen, curry_of, compose_of, taking1, taking2, taking3, taking, with_callable, given, does, does_call, does_dip, does_if, does_execute, does_boa, with_word, error, word_call, makes_tuple, run_phrase, one_item, core_act, prim_act, generic_of, pushes_array, either, sort_of, sort_act, callable_fits, tested_call, act, word_phrase, enters, tested_execute, word_execute, word_fits, truth_value}
+use Rattle.fac_abs.specs.RowVariables.{Row, is_row}
 use Rattle.fac_abs.specs.Marks.{AbstractStack, dead, on, limited, mark_depth, deepest_mark, is_callable, unknowns, popped, piled, curried_mark, composed_mark}
 use Rattle.fac_abs.specs.declared.rule.Rule.{Rule}
 use Rattle.fac_abs.specs.declared.rule.Rule.TheVariants.{Underflow, NotKnown}
 use Rattle.fac_check.specs.Flow.{Doing, breaks, gives, expands, walks, forks, again, Walk, needing, by_height, callable_or, mark_at, core_doing, known_word, makes_by, array_doing, word_doing, sort_doing, procedure_doing, prim_doing, inline_doing, row_or_phrase, generic_doing, next_doing, doing, lit_doing, is_own}
-use Rattle.fac_lang.specs.HeightArithmetic.{fits}
+use Rattle.fac_base.specs.HeightArithmetic.{fits}
 use Rattle.fac_check.specs.CallableEffects.{callable_height}
 use Rattle.fac_check.specs.Promises.{Valid}
 use Rattle.fac_check.proofs.ValuesOfMarks.{Stands, StandsPhrase, StandsItem, StandsOn, EndsSo}
@@ -163,18 +166,18 @@ module _ (P : Program) (C : Context) where
     if_callable true x E a h = h refl
     if_callable false x E a h = tt
 
-    pub call_does : (b : Option Row) (ms : List Mark) (st : State Value) → OnState P C b ms st → D (core_doing P (Some c_call) b ms) (does_call P st)
+    pub call_does : (b : Option Row) (ms : List Mark) (st : State Value) → OnState P C b ms st → D (core_doing P c_call b ms) (does_call P st)
     call_does b [] st e = tt
     call_does b (q ∷ ms) st e =
         rw e.0.2 (if_callable (is_callable q) NotKnown (walks q b ms []) (with_callable e.0.0 (λ c. runs c (record { stack = e.0.1; world = st.world }) [])) (λ yes. (let c = callable_is C.inputs q e.0.0 e.0.3 yes in rw c.1 (c.0, record { stack = e.0.1; world = st.world }, [], refl, rw (sym c.1) e.0.3, (e.0.4, e.1), refl))))
 
-    pub dip_does : (b : Option Row) (ms : List Mark) (st : State Value) → OnState P C b ms st → D (core_doing P (Some c_dip) b ms) (does_dip P st)
+    pub dip_does : (b : Option Row) (ms : List Mark) (st : State Value) → OnState P C b ms st → D (core_doing P c_dip b ms) (does_dip P st)
     dip_does b [] st e = tt
     dip_does b (q ∷ []) st e = tt
     dip_does b (q ∷ x ∷ ms) st e =
         rw e.0.2 (rw e.0.4.2 (if_callable (is_callable q) NotKnown (walks q b ms (x ∷ [])) (with_callable e.0.0 (λ c. runs c (record { stack = e.0.4.1; world = st.world }) (e.0.4.0 ∷ []))) (λ yes. (let c = callable_is C.inputs q e.0.0 e.0.3 yes in rw c.1 (c.0, record { stack = e.0.4.1; world = st.world }, e.0.4.0 ∷ [], refl, rw (sym c.1) e.0.3, (e.0.4.4, e.1), (e.0.4.0, [], refl, e.0.4.3, refl))))))
 
-    pub if_does : (b : Option Row) (ms : List Mark) (st : State Value) → OnState P C b ms st → D (core_doing P (Some c_if) b ms) (does_if P st)
+    pub if_does : (b : Option Row) (ms : List Mark) (st : State Value) → OnState P C b ms st → D (core_doing P c_if b ms) (does_if P st)
     if_does b [] st e = tt
     if_does b (r ∷ []) st e = tt
     if_does b (r ∷ l ∷ []) st e = tt
@@ -185,7 +188,7 @@ module _ (P : Program) (C : Context) where
         chosen true c d x y = (d, record { stack = e.0.4.4.1; world = st.world }, refl, inr y, (e.0.4.4.4, e.1))
         chosen false c d x y = (c, record { stack = e.0.4.4.1; world = st.world }, refl, inl x, (e.0.4.4.4, e.1))
 
-    pub execute_does : (b : Option Row) (ms : List Mark) (st : State Value) → OnState P C b ms st → D (core_doing P (Some c_execute) b ms) (does_execute P st)
+    pub execute_does : (b : Option Row) (ms : List Mark) (st : State Value) → OnState P C b ms st → D (core_doing P c_execute b ms) (does_execute P st)
     execute_does b [] st e = tt
     execute_does b (m ∷ ms) st e = rw e.0.2 (known m e.0.0 e.0.3)
       where
@@ -210,7 +213,7 @@ module _ (P : Program) (C : Context) where
     makes_does None b ms st e = tt
     makes_does (Some c) b ms st e = taking_does c.1 [] [] b ms st.stack st.world (λ vs st'. given 0 st'.stack (made_tuple meaning_values (names P) c.0 vs st'.world)) (λ taken rest. gives (on b (any ∷ rest))) (Underflow (suc c.1) (suc (length ms))) refl e.0 (λ taken rest vs r x q. ((plain (tup (length st.world.objects)), r, refl, tt, q), e.1))
 
-    pub boa_does : (b : Option Row) (ms : List Mark) (st : State Value) → OnState P C b ms st → D (core_doing P (Some c_boa) b ms) (does_boa P st)
+    pub boa_does : (b : Option Row) (ms : List Mark) (st : State Value) → OnState P C b ms st → D (core_doing P c_boa b ms) (does_boa P st)
     boa_does b [] st e = tt
     boa_does b (m ∷ ms) st e = rw e.0.2 (known m e.0.0 e.0.3)
       where
@@ -403,13 +406,13 @@ module _ (P : Program) (C : Context) where
       prim_does a None few b ms st e = tt
       prim_does a (Some p) few b ms st e = procedure_does p.does (length p.word.ins) (few p refl) a b ms st e
 
-      core_does : (c : Option Core) (b : Option Row) (ms : List Mark) (st : State Value) → OnState P C b ms st → D (core_doing P c b ms) (core_act P c st)
-      core_does None b ms st e = tt
-      core_does (Some c_call) b ms st e = call_does b ms st e
-      core_does (Some c_dip) b ms st e = dip_does b ms st e
-      core_does (Some c_if) b ms st e = if_does b ms st e
-      core_does (Some c_execute) b ms st e = execute_does b ms st e
-      core_does (Some c_boa) b ms st e = boa_does b ms st e
+      core_does : (c : CoreWord) (b : Option Row) (ms : List Mark) (st : State Value) → OnState P C b ms st → D (core_doing P c b ms) (core_act P c st)
+      core_does c_cond b ms st e = tt
+      core_does c_call b ms st e = call_does b ms st e
+      core_does c_dip b ms st e = dip_does b ms st e
+      core_does c_if b ms st e = if_does b ms st e
+      core_does c_execute b ms st e = execute_does b ms st e
+      core_does c_boa b ms st e = boa_does b ms st e
 
       phrase_does : (w : ℕ) (t : Phrase) → StandsPhrase C.inputs t t → (b : Option Row) (ms : List Mark) (st : State Value) → OnState P C b ms st → D (expands w t b ms) (run_phrase t st)
       phrase_does w t h b ms st e = (t, st, refl, h, e)
@@ -439,7 +442,7 @@ module _ (P : Program) (C : Context) where
       next_does m s y b ms st e = tt
 
       sort_does : (w : ℕ) (d : WordDef) (s : Sort) → slice_get P.words w ≡ Some d → d.sort ≡ s → (b : Option Row) (ms : List Mark) (st : State Value) → OnState P C b ms st → D (sort_doing P C.word w d s b ms) (sort_act P w (Some s) st)
-      sort_does w d (core k) g q b ms st e = core_does (core_numbered k) b ms st e
+      sort_does w d (core k) g q b ms st e = core_does k b ms st e
       sort_does w d (prim k) g q b ms st e = prim_does w (prim_numbered k) (few_inputs k) b ms st e
       sort_does w d itself g q b ms st e = ((plain (wrd w), st.stack, refl, refl, e.0), e.1)
       sort_does w d (class c) g q b ms st e = ((plain (wrd w), st.stack, refl, refl, e.0), e.1)

@@ -2,7 +2,7 @@
 use Rattle.std.proofs.Common.{◌≡◌, ℕ, ◌∷◌, [], Option, Some, None, refl, ap, ◌∙◌}
 use Rattle.fac_lang.specs.declared.program.WordDef.{WordDef}
 use Rattle.fac_lang.specs.Phrases.{Mark}
-use Rattle.fac_lang.specs.RowVariables.{Row}
+use Rattle.fac_abs.specs.RowVariables.{Row}
 use Rattle.fac_abs.specs.Marks.{on}
 use Rattle.fac_abs.specs.MarkTrees.{Naming}
 use Rattle.fac_abs.specs.SeenMarks.{MarksSeen, Grows, mark_of, stack_of, base_seen}

@@ -54,3 +54,8 @@ pub mod UndeclaredWords
 pub mod JudgeLemmas
 pub mod ExamplesOfRecursion
 pub mod ExamplesOfAlone
+pub mod FewerInputs
+pub mod LeastHeights
+pub mod SearchLemmas
+pub mod EffectLists
+mod ExamplesOfEffects

@@ -1,7 +1,7 @@
 -- A literal takes and leaves what its effect says.
 use Rattle.std.proofs.Common.{◌≡◌, ℕ, zero, suc, ◌≤◌, List, [], length, Bool, true, false, sym, ap, Option, Some, None, subst}
 use Rattle.std.specs.Prelude.{nat_le}
-use Rattle.fac_lang.specs.declared.phrase.Height.{Height}
+use Rattle.fac_base.specs.declared.height.Height.{Height}
 use Rattle.fac_lang.specs.Phrases.{Phrase, Value}
 use Rattle.fac_lang.specs.World.{State}
 use Rattle.fac_lang.specs.declared.program.Program.{Program}
@@ -10,7 +10,7 @@ use Rattle.fac_abs.specs.Marks.{AbstractStack, dead, on, unknowns}
 use Rattle.fac_locals.specs.Literals.{first_of_word}
 use Rattle.fac_check.specs.Flow.{Walked, found, refused, walked, most_walked, most_steps, most_nested}
 use Rattle.fac_check.specs.CallableEffects.{forgotten, least_height}
-use Rattle.fac_lang.specs.HeightArithmetic.{most_values}
+use Rattle.fac_base.specs.HeightArithmetic.{most_values}
 use Rattle.fac_check.specs.Promises.{Valid}
 use Rattle.fac_check.proofs.ValuesOfMarks.{EndsSo}
 use Rattle.fac_abs.proofs.EqualMarks.{never_true}

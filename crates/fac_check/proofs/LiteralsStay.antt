@@ -1,13 +1,14 @@
 -- No run changes which literal arrays there are, whatever its end.
 use Rattle.std.proofs.Common.{◌≡◌, ℕ, zero, suc, List, [], ◌∷◌, map, Bool, true, false, Option, Some, None, refl}
 use Rattle.std.specs.Prelude.{slice_get}
-use Rattle.fac_lang.specs.declared.phrase.Height.{Height}
+use Rattle.fac_base.specs.declared.height.Height.{Height}
 use Rattle.fac_lang.specs.Phrases.{int, yes, no, str, iota, wrd, arr, tup, Phrase, end, then, Item, lit, lit_arr, quot, word, bind, local, fry, hole, call_eff, exec_eff, next_method, made, next_after, held, known, Value, plain, fun, Callable, of_phrase, cur, both}
 use Rattle.fac_lang.specs.World.{World, State, push, push_each}
 use Rattle.fac_lang.specs.declared.error_name.ErrorName.{ErrorName}
 use Rattle.fac_lang.specs.declared.error_name.ErrorName.TheVariants.{NoMethod, NoNextMethod}
 use Rattle.fac_lang.specs.Procedures.{Gives, gives, bad, Fn, fn0, fn1, fn2, fn3}
-use Rattle.fac_lang.specs.Primitives.{Primitive, prim_numbered, prim_fn, seen_no}
+use Rattle.fac_lang.specs.Primitives.{Primitive, prim_numbered, prim_fn}
+use Rattle.fac_lang.specs.Operations.{seen_no}
 use Rattle.fac_lang.specs.Objects.{kind_of, get_slot, set_slot, put_slot, made_tuple}
 use Rattle.fac_lang.specs.declared.program.Program.{Program}
 use Rattle.fac_lang.specs.declared.program.Sort.{Sort}
@@ -15,7 +16,9 @@ use Rattle.fac_lang.specs.declared.program.Sort.TheVariants.{Prim as prim, Core 
 use Rattle.fac_lang.specs.Classes.{has_kind, pick, next}
 use Rattle.fac_lang.specs.Substitution.{put_local, put_holes}
 use Rattle.fac_lang.specs.Eval.{Result, Done, Failed, Spent, Stuck, then_do, Act, wrong, fails, goes, binds, runs, Run, run_callable, go_on, eval}
-use Rattle.fac_lang.specs.Meaning.{meaning_values, names, seen, taking1, taking2, taking3, taking, with_callable, with_word, given, does, makes_tuple, Core, c_call, c_dip, c_if, c_execute, c_boa, core_numbered, core_act, prim_act, enters, sort_of, sort_act, truth_value, one_item, either, callable_fits, word_fits, tested_call, tested_execute, pushes_array, generic_of, act, run}
+use Rattle.fac_lang.specs.declared.core_table.CoreWord.{CoreWord}
+use Rattle.fac_lang.specs.declared.core_table.CoreWord.TheVariants.{Call as c_call, Dip as c_dip, If as c_if, Execute as c_execute, Boa as c_boa, Cond as c_cond}
+use Rattle.fac_lang.specs.Meaning.{meaning_values, names, seen, taking1, taking2, taking3, taking, with_callable, with_word, given, does, makes_tuple, core_act, prim_act, enters, sort_of, sort_act, truth_value, one_item, either, callable_fits, word_fits, tested_call, tested_execute, pushes_array, generic_of, act, run}
 use Rattle.fac_check.proofs.PrimitivesStay.{StaysGives, StaysFn, prim_stays, getter_stays, setter_stays, putter_stays}
 
 -- behind the run the literal arrays have these addresses
@@ -118,14 +121,14 @@ module _ (ls : List ℕ) where
     makes_stays (Some c) st e =
         taking_stays c.1 [] st.stack st.world (λ vs st'. given 0 st'.stack (made_tuple meaning_values (names P) c.0 vs st'.world)) e (λ vs st' e'. e')
 
-    core_stays : (c : Option Core) → Keeps (core_act P c)
-    core_stays None st e = tt
-    core_stays (Some c_call) st e = taking1_stays st.stack st.world (λ q st'. with_callable q (λ c. runs c st' [])) e (λ q. callable_stays q (λ c st'. runs c st' []) (λ c st' e'. e'))
-    core_stays (Some c_dip) st e = taking2_stays st.stack st.world (λ x q st'. with_callable q (λ c. runs c st' (x ∷ []))) e (λ x q. callable_stays q (λ c st'. runs c st' (x ∷ [])) (λ c st' e'. e'))
-    core_stays (Some c_if) st e =
+    core_stays : (c : CoreWord) → Keeps (core_act P c)
+    core_stays c_cond st e = tt
+    core_stays c_call st e = taking1_stays st.stack st.world (λ q st'. with_callable q (λ c. runs c st' [])) e (λ q. callable_stays q (λ c st'. runs c st' []) (λ c st' e'. e'))
+    core_stays c_dip st e = taking2_stays st.stack st.world (λ x q st'. with_callable q (λ c. runs c st' (x ∷ []))) e (λ x q. callable_stays q (λ c st'. runs c st' (x ∷ [])) (λ c st' e'. e'))
+    core_stays c_if st e =
         taking3_stays st.stack st.world (λ t p q st'. with_callable p (λ c. with_callable q (λ d. runs (elim (seen_no (seen t)) [ true ↦ d | false ↦ c ]) st' []))) e (λ t p q. callable_stays p (λ c st'. with_callable q (λ d. runs (elim (seen_no (seen t)) [ true ↦ d | false ↦ c ]) st' [])) (λ c. callable_stays q (λ d st'. runs (elim (seen_no (seen t)) [ true ↦ d | false ↦ c ]) st' []) (λ d st' e'. e')))
-    core_stays (Some c_execute) st e = taking1_stays st.stack st.world (λ v st'. with_word v (λ a. runs (of_phrase (one_item (word a))) st' [])) e (λ v. word_stays v (λ a st'. runs (of_phrase (one_item (word a))) st' []) (λ a st' e'. e'))
-    core_stays (Some c_boa) st e = taking1_stays st.stack st.world (λ v st'. with_word v (λ a. makes_tuple P ((names P).tuple_class a) st')) e (λ v. word_stays v (λ a st'. makes_tuple P ((names P).tuple_class a) st') (λ a. makes_stays ((names P).tuple_class a)))
+    core_stays c_execute st e = taking1_stays st.stack st.world (λ v st'. with_word v (λ a. runs (of_phrase (one_item (word a))) st' [])) e (λ v. word_stays v (λ a st'. runs (of_phrase (one_item (word a))) st' []) (λ a st' e'. e'))
+    core_stays c_boa st e = taking1_stays st.stack st.world (λ v st'. with_word v (λ a. makes_tuple P ((names P).tuple_class a) st')) e (λ v. word_stays v (λ a st'. makes_tuple P ((names P).tuple_class a) st') (λ a. makes_stays ((names P).tuple_class a)))
 
     primitive_stays : (a : ℕ) (p : Option Primitive) → Keeps (prim_act P a p)
     primitive_stays a None st e = tt
@@ -138,7 +141,7 @@ module _ (ls : List ℕ) where
     sort_stays : (a : ℕ) (s : Option Sort) → Keeps (sort_act P a s)
     sort_stays a None st e = tt
     sort_stays a (Some (prim k)) st e = primitive_stays a (prim_numbered k) st e
-    sort_stays a (Some (core k)) st e = core_stays (core_numbered k) st e
+    sort_stays a (Some (core k)) st e = core_stays k st e
     sort_stays a (Some (body t)) st e = e
     sort_stays a (Some (past t)) st e = e
     sort_stays a (Some itself) st e = e

@@ -1,7 +1,7 @@
 -- The walk of a callable by the walks of its parts.
 use Rattle.std.proofs.Common.{◌≡◌, ◌≢◌, ◌-◌, ◌+◌, ◌<◌, ◌≤◌, ℕ, zero, suc, List, [], ◌∷◌, length, Option, Some, Ok, refl, sym, ap, subst, ◌∙◌, arith}
 use Rattle.std.specs.Prelude.{slice_get}
-use Rattle.fac_lang.specs.declared.phrase.Place.{Place}
+use Rattle.fac_base.specs.declared.place.Place.{Place}
 use Rattle.fac_lang.specs.declared.phrase.Template.{Template}
 use Rattle.fac_lang.specs.declared.program.Program.{Program}
 use Rattle.fac_lang.specs.declared.program.WordDef.{WordDef}
@@ -15,9 +15,9 @@ use Rattle.fac_check.proofs.ClosedSorts.{opens_body}
 use Rattle.fac_lang.specs.Meaning.{nowhere}
 use Rattle.fac_abs.specs.declared.rule.Rule.TheVariants.{NotKnown}
 use Rattle.fac_check.proofs.OpenedItems.{known_put, items_length}
-use Rattle.fac_lang.specs.Signatures.{Signature}
+use Rattle.fac_base.specs.Signatures.{Signature}
 use Rattle.fac_locals.proofs.Lookups.{word_open}
-use Rattle.fac_lang.specs.RowVariables.{Row}
+use Rattle.fac_abs.specs.RowVariables.{Row}
 use Rattle.fac_abs.specs.Marks.{AbstractStack, on, piled}
 use Rattle.fac_abs.specs.MarkTrees.{Naming}
 use Rattle.fac_abs.specs.SeenMarks.{MarksSeen, Grows, IsMark, IsStack, IsReached, mark_of, stack_of, base_seen, reached_seen}

@@ -6,10 +6,10 @@ use Rattle.std.proofs.lemmas.Bool.{ne_eqb, ltb-false, le-ltb, lt-leb, leb-true, 
 use Rattle.fac_graph.proofs.NumberLists.{same_number}
 use Rattle.fac_lang.specs.Meaning.{nowhere}
 use Rattle.fac_lang.specs.Phrases.{Literal, Phrase, end, then, made, known, Mark}
-use Rattle.fac_lang.specs.RowVariables.{Row, named_row}
+use Rattle.fac_abs.specs.RowVariables.{Row, named_row}
 use Rattle.fac_lang.specs.declared.phrase.Template.{Template}
 use Rattle.fac_lang.specs.declared.program.Program.{Program}
-use Rattle.fac_captures.specs.Cells.{inner_cells, hole_count}
+use Rattle.fac_locals.specs.Cells.{inner_cells, hole_count}
 use Rattle.fac_locals.specs.Closed.{Closes}
 use Rattle.fac_locals.specs.Frames.{template_phrase}
 use Rattle.fac_locals.specs.Literals.{NotBehind, NotBefore, Quoted, first_of_word, first_of_literal, literal_numbered}

@@ -6,7 +6,7 @@ use Rattle.std.proofs.lemmas.Option.{slice_get-map}
 use Rattle.fac_lang.specs.declared.phrase.Template.{Template}
 use Rattle.fac_lang.specs.declared.program.Program.{Program}
 use Rattle.fac_lang.specs.Phrases.{Literal, Phrase, Item, quot, fry, local, made, known, Mark, lit_mark}
-use Rattle.fac_lang.specs.RowVariables.{Row}
+use Rattle.fac_abs.specs.RowVariables.{Row}
 use Rattle.fac_lang.specs.Substitution.{put_holes}
 use Rattle.fac_locals.specs.Literals.{literal_numbered}
 use Rattle.fac_locals.specs.Frames.{IsPlain, ArePut, items_at, template_phrase, OpensItem, o_plain, o_local, o_quotation, o_fry}

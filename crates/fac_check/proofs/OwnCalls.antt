@@ -2,9 +2,9 @@
 use Rattle.std.proofs.Common.{◌≡◌, ℕ, List, [], length, Bool, true, false, Option, Some, None, refl}
 use Rattle.std.specs.Prelude.{◌&&◌, nat_eq}
 use Rattle.fac_lang.specs.Phrases.{Mark}
-use Rattle.fac_lang.specs.Signatures.{Signature}
-use Rattle.fac_lang.specs.Effects.{inputs_count}
-use Rattle.fac_lang.specs.RowVariables.{Row, effect_inputs, effect_leaving, outer_in, outer_out}
+use Rattle.fac_base.specs.Signatures.{Signature}
+use Rattle.fac_base.specs.Effects.{inputs_count}
+use Rattle.fac_abs.specs.RowVariables.{Row, effect_inputs, effect_leaving, outer_in, outer_out}
 use Rattle.fac_abs.specs.Marks.{base_eq, popped}
 use Rattle.fac_abs.specs.declared.rule.Rule.TheVariants.{Underflow, RecursiveInput, Rows}
 use Rattle.fac_rows.specs.RowBinding.{other_input, leaving_on, called_if, call_breaks, own_rest_call, own_inputs_call}

@@ -2,13 +2,13 @@
 use Rattle.std.proofs.Common.{◌≡◌, ℕ, zero, suc, List, [], ◌∷◌, ◌++◌, length, Bool, true, Option, Some, None, option_map, refl, sym, ap, subst, ◌≤◌, arith}
 use Rattle.std.specs.Prelude.{nat_le, map, slice_get}
 use Rattle.std.specs.List.{list_all}
-use Rattle.fac_lang.specs.declared.phrase.Height.{Height}
+use Rattle.fac_base.specs.declared.height.Height.{Height}
 use Rattle.fac_lang.specs.Phrases.{Value, plain, no}
 use Rattle.fac_lang.specs.World.{World}
 use Rattle.fac_lang.specs.declared.error_name.ErrorName.{ErrorName}
 use Rattle.fac_lang.specs.declared.error_name.ErrorName.TheVariants.{NotTuple, NoSlot}
-use Rattle.fac_lang.specs.declared.limits.TheConstants.{MOST_PAIRS}
-use Rattle.fac_lang.specs.Effects.{inputs_count, leaving_outs, effect_height}
+use Rattle.fac_base.specs.declared.limits.TheConstants.{MOST_PAIRS}
+use Rattle.fac_base.specs.Effects.{inputs_count, leaving_outs, effect_height}
 use Rattle.fac_lang.specs.Equality.{equal_pairs}
 use Rattle.fac_lang.specs.Printed.{Names, printed}
 use Rattle.fac_lang.specs.PrimitiveWords.{PrimitiveWord, outputs_of, plain_inputs, plain_leaving, written_effect}

@@ -8,11 +8,11 @@ use Rattle.fac_lang.specs.Eval.{Result, Done, Failed, Spent, Stuck}
 use Rattle.fac_lang.specs.Meaning.{word_phrase, one_item}
 use Rattle.fac_lang.specs.RunningLaws.{IsNotStuck}
 use Rattle.fac_check.specs.CallableEffects.{callable_height}
-use Rattle.fac_lang.specs.HeightArithmetic.{fits}
+use Rattle.fac_base.specs.HeightArithmetic.{fits}
 use Rattle.fac_check.specs.Promises.{Valid, AcceptedAreSafe, SafeAreNotStuck, Lists, Exactly, LeftOn, Ends, OfRow}
 use Rattle.fac_check.proofs.ValuesOfMarks.{EndsSo}
-use Rattle.fac_lang.specs.Effects.{effect_height}
-use Rattle.fac_lang.specs.RowVariables.{effect_leaving, outer_out}
+use Rattle.fac_base.specs.Effects.{effect_height}
+use Rattle.fac_abs.specs.RowVariables.{effect_leaving, outer_out}
 use Rattle.fac_rows.specs.RowBinding.{leaving_on}
 use Rattle.fac_check.proofs.WalksFit.{StackState}
 use Rattle.fac_check.proofs.ItemsFit.{Over, Leaves}

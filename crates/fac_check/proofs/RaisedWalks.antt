@@ -2,18 +2,20 @@
 use Rattle.std.proofs.Common.{◌≡◌, ℕ, zero, suc, ◌+◌, ◌≤◌, List, [], ◌∷◌, length, drop, ◌&&◌, ◌||◌, not, Bool, true, false, Option, Some, None, refl, sym, ap, subst, arith, eq-eqb, length-drop}
 use Rattle.std.specs.Prelude.{nat_eq, nat_lt, slice_get}
 use Rattle.std.proofs.lemmas.Bool.{ltb-false}
-use Rattle.fac_lang.specs.declared.phrase.Place.{Place}
+use Rattle.fac_base.specs.declared.place.Place.{Place}
 use Rattle.fac_lang.specs.declared.program.Program.{Program}
 use Rattle.fac_lang.specs.declared.program.WordDef.{WordDef}
 use Rattle.fac_lang.specs.declared.program.Sort.{Sort}
 use Rattle.fac_lang.specs.declared.program.Sort.TheVariants.{Prim as prim, Core as core, Body as body, Past as past, Itself as itself, Class as class, Method as method}
 use Rattle.fac_lang.specs.Phrases.{Plain, wrd, Literal, Phrase, end, then, Item, lit, lit_arr, quot, word, bind, local, fry, hole, call_eff, exec_eff, next_method, made, next_after, held, known, Mark, any, lit_mark, cur_mark, com_mark, wrd_mark, par_mark}
-use Rattle.fac_lang.specs.Signatures.{Signature, Inputs, no_inputs, value, quoted, Leaving, never, leaves as leaving}
-use Rattle.fac_lang.specs.Effects.{inputs_count, effect_height}
+use Rattle.fac_base.specs.Signatures.{Signature, Inputs, no_inputs, value, quoted, Leaving, never, leaves as leaving}
+use Rattle.fac_base.specs.Effects.{inputs_count, effect_height}
 use Rattle.fac_lang.specs.Procedures.{Procedure, leaves, curries, composes, picked}
 use Rattle.fac_lang.specs.Primitives.{Primitive, prim_numbered}
-use Rattle.fac_lang.specs.Meaning.{sort_of, names, Core, c_call, c_dip, c_if, c_execute, c_boa, core_numbered}
-use Rattle.fac_lang.specs.RowVariables.{Row, named_row, row_eq, row_name, effect_inputs, effect_leaving, outer_in, outer_out, bindable, is_row}
+use Rattle.fac_lang.specs.declared.core_table.CoreWord.{CoreWord}
+use Rattle.fac_lang.specs.declared.core_table.CoreWord.TheVariants.{Call as c_call, Dip as c_dip, If as c_if, Execute as c_execute, Boa as c_boa, Cond as c_cond}
+use Rattle.fac_lang.specs.Meaning.{sort_of, names}
+use Rattle.fac_abs.specs.RowVariables.{Row, named_row, row_eq, row_name, effect_inputs, effect_leaving, outer_in, outer_out, bindable, is_row}
 use Rattle.fac_lang.specs.Substitution.{put_local}
 use Rattle.fac_abs.specs.declared.rule.Rule.{Rule}
 use Rattle.fac_abs.specs.declared.rule.Rule.TheVariants.{Underflow, NotKnown, Branches}
@@ -438,21 +440,21 @@ module _ (P : Program) {below : List Mark} (b : Option Row) where
   known_word_raised go go' (wrd_mark w) f = f w
   known_word_raised go go' _ f = d_breaks
 
-  core_raised : {ms ns : List Mark} (o : Option Core) → Raised below ms ns → RaisedDoing below (core_doing P o b ms) (core_doing P o b ns)
-  core_raised None h = d_breaks
-  core_raised (Some c_call) r_below = d_breaks
-  core_raised (Some c_call) (r_mark {m = q} h) = callable_or_raised NotKnown (is_callable q) (d_walks h)
-  core_raised (Some c_dip) r_below = d_breaks
-  core_raised (Some c_dip) (r_mark r_below) = d_breaks
-  core_raised (Some c_dip) (r_mark {m = q} (r_mark h)) = callable_or_raised NotKnown (is_callable q) (d_walks h)
-  core_raised (Some c_if) r_below = d_breaks
-  core_raised (Some c_if) (r_mark r_below) = d_breaks
-  core_raised (Some c_if) (r_mark (r_mark r_below)) = d_breaks
-  core_raised (Some c_if) (r_mark {m = r} (r_mark {m = l} (r_mark h))) = callable_or_raised NotKnown (is_callable l && is_callable r) (d_forks h)
-  core_raised (Some c_execute) r_below = d_breaks
-  core_raised (Some c_execute) (r_mark {m = m} h) = known_word_raised _ _ m (λ w. d_again h)
-  core_raised (Some c_boa) r_below = d_breaks
-  core_raised (Some c_boa) (r_mark {m = m} h) = known_word_raised _ _ m (λ w. makes_raised ((names P).tuple_class w) h)
+  core_raised : {ms ns : List Mark} (o : CoreWord) → Raised below ms ns → RaisedDoing below (core_doing P o b ms) (core_doing P o b ns)
+  core_raised c_cond h = d_breaks
+  core_raised c_call r_below = d_breaks
+  core_raised c_call (r_mark {m = q} h) = callable_or_raised NotKnown (is_callable q) (d_walks h)
+  core_raised c_dip r_below = d_breaks
+  core_raised c_dip (r_mark r_below) = d_breaks
+  core_raised c_dip (r_mark {m = q} (r_mark h)) = callable_or_raised NotKnown (is_callable q) (d_walks h)
+  core_raised c_if r_below = d_breaks
+  core_raised c_if (r_mark r_below) = d_breaks
+  core_raised c_if (r_mark (r_mark r_below)) = d_breaks
+  core_raised c_if (r_mark {m = r} (r_mark {m = l} (r_mark h))) = callable_or_raised NotKnown (is_callable l && is_callable r) (d_forks h)
+  core_raised c_execute r_below = d_breaks
+  core_raised c_execute (r_mark {m = m} h) = known_word_raised _ _ m (λ w. d_again h)
+  core_raised c_boa r_below = d_breaks
+  core_raised c_boa (r_mark {m = m} h) = known_word_raised _ _ m (λ w. makes_raised ((names P).tuple_class w) h)
 
 module _ (P : Program) {below ms ns : List Mark} (h : Raised below ms ns) (b : Option Row) where
   row_or_phrase_raised : (x : Bool) (w : ℕ) (t : Phrase) (e : Signature) → RaisedDoing below (row_or_phrase P None x false w t e b ms) (row_or_phrase P None x false w t e b ns)
@@ -464,7 +466,7 @@ module _ (P : Program) {below ms ns : List Mark} (h : Raised below ms ns) (b : O
   inline_raised false w d t = height_raised h b (effect_height d.effect).ins (effect_height d.effect).outs
 
   sort_raised : (w : ℕ) (d : WordDef) (s : Sort) → RaisedDoing below (sort_doing P None w d s b ms) (sort_doing P None w d s b ns)
-  sort_raised w d (core k) = core_raised P b (core_numbered k) h
+  sort_raised w d (core k) = core_raised P b k h
   sort_raised w d (prim k) = prim_raised h b (prim_numbered k)
   sort_raised w d itself = d_gives (t_on (r_mark h))
   sort_raised w d (class c) = d_gives (t_on (r_mark h))

@@ -2,9 +2,9 @@
 use Rattle.std.proofs.Common.{◌≡◌, ℕ, zero, suc, List, [], ◌∷◌, true, false, refl, sym, ap, Option}
 use Rattle.fac_lang.specs.Phrases.{Value, Callable, Mark, any, par_mark}
 use Rattle.fac_lang.specs.World.{pile}
-use Rattle.fac_lang.specs.Signatures.{Inputs, no_inputs, value, quoted}
+use Rattle.fac_base.specs.Signatures.{Inputs, no_inputs, value, quoted}
 use Rattle.fac_lang.specs.declared.program.Program.{Program}
-use Rattle.fac_lang.specs.RowVariables.{Row}
+use Rattle.fac_abs.specs.RowVariables.{Row}
 use Rattle.fac_abs.specs.Marks.{is_callable}
 use Rattle.fac_rows.specs.RowBinding.{inputs_known, inputs_marks}
 use Rattle.fac_check.proofs.ValuesOfMarks.{Stands, StandsOn}

@@ -2,16 +2,16 @@
 use Rattle.std.proofs.Common.{◌≡◌, ◌≤◌, ℕ, zero, suc, List, [], ◌∷◌, length, drop, Bool, true, false, Option, Some, None, refl, sym, ap, ◌∙◌, arith, subst}
 use Rattle.std.specs.Prelude.{nat_eq, nat_lt, ◌&&◌, not, slice_get}
 use Rattle.std.proofs.lemmas.Bool.{ltb-false}
-use Rattle.fac_lang.specs.declared.phrase.Place.{Place}
+use Rattle.fac_base.specs.declared.place.Place.{Place}
 use Rattle.fac_lang.specs.declared.program.Program.{Program}
 use Rattle.fac_lang.specs.declared.program.WordDef.{WordDef}
 use Rattle.fac_lang.specs.Phrases.{Value, plain, fun, Callable, Mark, any, par_mark}
 use Rattle.fac_lang.specs.World.{State, pile}
-use Rattle.fac_lang.specs.Signatures.{Signature, signature, Inputs, no_inputs, value, quoted, Leaving, never, leaves}
-use Rattle.fac_lang.specs.Effects.{inputs_count, leaving_outs, effect_height}
+use Rattle.fac_base.specs.Signatures.{Signature, signature, Inputs, no_inputs, value, quoted, Leaving, never, leaves}
+use Rattle.fac_base.specs.Effects.{inputs_count, leaving_outs, effect_height}
 use Rattle.fac_lang.specs.Eval.{Result, Done, Failed, Spent, Stuck, run_callable, eval}
 use Rattle.fac_lang.proofs.Laws.{within, agree_call, same_run}
-use Rattle.fac_lang.specs.RowVariables.{Row, named_row, leaving_row, effect_inputs, effect_leaving, input_effect, outer_in, outer_out}
+use Rattle.fac_abs.specs.RowVariables.{Row, named_row, leaving_row, effect_inputs, effect_leaving, input_effect, outer_in, outer_out}
 use Rattle.fac_abs.specs.Marks.{base_eq, unknowns}
 use Rattle.fac_abs.specs.declared.rule.Rule.TheVariants.{Rows}
 use Rattle.fac_abs.proofs.EqualMarks.{and_first, and_second, length_same, base_same}

@@ -1,14 +1,14 @@
 -- A use of a row word, and an accepted row word. `SoundPrograms` joins both by induction.
 use Rattle.std.proofs.Common.{◌≡◌, ℕ, ◌≤◌, List, [], ◌∷◌, length, Bool, true, false, refl, Option, Some, None, subst}
 use Rattle.std.specs.Prelude.{nat_eq, ◌&&◌}
-use Rattle.fac_lang.specs.declared.phrase.Place.{Place}
+use Rattle.fac_base.specs.declared.place.Place.{Place}
 use Rattle.fac_lang.specs.Phrases.{Phrase, Value, Mark}
 use Rattle.fac_lang.specs.World.{State}
-use Rattle.fac_lang.specs.Signatures.{Signature, Leaving, never, leaves}
+use Rattle.fac_base.specs.Signatures.{Signature, Leaving, never, leaves}
 use Rattle.fac_lang.specs.declared.program.Program.{Program}
 use Rattle.fac_lang.specs.declared.program.WordDef.{WordDef}
 use Rattle.fac_lang.specs.Eval.{Result, Run, eval}
-use Rattle.fac_lang.specs.RowVariables.{Row, effect_inputs, effect_leaving, outer_in, outer_out}
+use Rattle.fac_abs.specs.RowVariables.{Row, effect_inputs, effect_leaving, outer_in, outer_out}
 use Rattle.fac_abs.specs.Marks.{AbstractStack, dead, on, base_eq, unknowns}
 use Rattle.fac_abs.specs.declared.rule.Rule.TheVariants.{Outputs, MustReturn}
 use Rattle.fac_rows.specs.RowBinding.{Binding, leaving_on, row_result, inputs_marks}

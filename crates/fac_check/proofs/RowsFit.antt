@@ -2,14 +2,14 @@
 use Rattle.std.proofs.Common.{◌≡◌, ℕ, zero, suc, ◌≤◌, ◌+◌, List, [], ◌∷◌, length, drop, Bool, true, false, refl, sym, ap, ◌∙◌, Option, Some, None, arith, length-drop}
 use Rattle.std.specs.Prelude.{nat_eq, nat_lt, ◌&&◌, ◌||◌, not}
 use Rattle.std.specs.Str.{bytes_eq}
-use Rattle.fac_lang.specs.declared.phrase.Place.{Place}
+use Rattle.fac_base.specs.declared.place.Place.{Place}
 use Rattle.fac_lang.specs.Phrases.{Value, fun, Callable, Mark, any}
 use Rattle.fac_lang.specs.World.{State}
-use Rattle.fac_lang.specs.Signatures.{Signature, signature, Inputs, no_inputs, value, quoted, Leaving, never, leaves}
-use Rattle.fac_lang.specs.Effects.{inputs_count, leaving_outs}
+use Rattle.fac_base.specs.Signatures.{Signature, signature, Inputs, no_inputs, value, quoted, Leaving, never, leaves}
+use Rattle.fac_base.specs.Effects.{inputs_count, leaving_outs}
 use Rattle.fac_lang.specs.declared.program.Program.{Program}
 use Rattle.fac_lang.specs.Eval.{Run, run_callable}
-use Rattle.fac_lang.specs.RowVariables.{Row, named_row, row_eq, row_of, row_name, effect_leaving}
+use Rattle.fac_abs.specs.RowVariables.{Row, named_row, row_eq, row_of, row_name, effect_leaving}
 use Rattle.fac_abs.specs.Marks.{AbstractStack, dead, on, base_eq, mark_eq, unknowns, cover_marks}
 use Rattle.fac_abs.specs.declared.rule.Rule.TheVariants.{Rows}
 use Rattle.fac_rows.specs.RowBinding.{Binding, bound_to, stack_or_dead, Tied, tied, untied, tied_if, tie, tie_row, start_row}

@@ -6,8 +6,8 @@ use Rattle.fac_lang.specs.Phrases.{Phrase, Item, known, Mark}
 use Rattle.fac_lang.proofs.SourcePrograms.{IsSourceProgram}
 use Rattle.fac_lang.specs.Meaning.{nowhere}
 use Rattle.fac_lang.specs.declared.program.Program.{Program}
-use Rattle.fac_captures.specs.declared.cell.Cell.{Cell}
-use Rattle.fac_captures.specs.Cells.{asks, cell_number, inner_cells}
+use Rattle.fac_locals.specs.declared.cell.Cell.{Cell}
+use Rattle.fac_locals.specs.Cells.{asks, cell_number, inner_cells}
 use Rattle.fac_locals.specs.Literals.{Quoted, quoted_phrase, literal_numbered}
 use Rattle.fac_locals.proofs.RunningPhrases.{IsRun, literal_runs}
 use Rattle.fac_locals.specs.Frames.{item_or, item_in, cell_item, item_for, filled}

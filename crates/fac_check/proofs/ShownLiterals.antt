@@ -5,9 +5,9 @@ use Rattle.std.proofs.lemmas.Bool.{eqb-true}
 use Rattle.std.proofs.lemmas.List.Folds.{list_any-append}
 use Rattle.fac_lang.specs.Phrases.{Phrase, end, Item, quot, fry}
 use Rattle.fac_lang.specs.Whole.{has_hole, has_holes}
-use Rattle.fac_captures.specs.declared.cell.Cell.{Cell}
-use Rattle.fac_captures.specs.declared.cell.Cell.TheVariants.{Local, Hole}
-use Rattle.fac_captures.specs.Cells.{same_cell, number_from, asks, item_asks, keeps_cell, kept_cells, hole_cells, inner_cells}
+use Rattle.fac_locals.specs.declared.cell.Cell.{Cell}
+use Rattle.fac_locals.specs.declared.cell.Cell.TheVariants.{Local, Hole}
+use Rattle.fac_locals.specs.Cells.{same_cell, number_from, asks, item_asks, keeps_cell, kept_cells, hole_cells, inner_cells}
 use Rattle.fac_locals.proofs.FrameLaws.{same_self}
 use Rattle.fac_abs.proofs.EqualMarks.{and_first, and_second}
 use Rattle.fac_check.proofs.AskedCells.{same_holes, fry_asked}

@@ -3,10 +3,10 @@ use Rattle.std.proofs.Common.{◌≡◌, ℕ, zero, suc, ◌≤◌, ◌+◌, Lis
 use Rattle.std.specs.Prelude.{slice_get, nat_eq, nat_le, not, ◌&&◌, ◌||◌}
 use Rattle.std.proofs.lemmas.Slice.Eq.{bytes_eq-Decides}
 use Rattle.std.proofs.lemmas.Bool.{eqb-true, eq-eqb, le-leb}
-use Rattle.fac_lang.specs.declared.phrase.Height.{Height}
+use Rattle.fac_base.specs.declared.height.Height.{Height}
 use Rattle.fac_lang.specs.Phrases.{Phrase, end, Value, Callable, of_phrase, word, Mark, any, par_mark}
 use Rattle.fac_lang.specs.World.{State, pile}
-use Rattle.fac_lang.specs.Signatures.{Signature, signature, Inputs, no_inputs, value, quoted, never, leaves}
+use Rattle.fac_base.specs.Signatures.{Signature, signature, Inputs, no_inputs, value, quoted, never, leaves}
 use Rattle.fac_lang.specs.Primitives.{Primitive, prim_numbered, prim_fn}
 use Rattle.fac_lang.specs.Objects.{get_slot, set_slot, put_slot}
 use Rattle.fac_lang.specs.Classes.{pick, next}
@@ -17,15 +17,16 @@ use Rattle.fac_lang.specs.declared.program.Sort.{Sort}
 use Rattle.fac_lang.specs.declared.program.Sort.TheVariants.{Prim as prim, Core as core, Body as body, Past as past, Itself as itself, Class as class, Isa as isa, Getter as getter, Setter as setter, Putter as putter, Generic as generic, Method as method}
 use Rattle.fac_lang.specs.Eval.{Result, Done, Failed, Spent, Stuck, then_do, Act, run_callable, go_on, eval}
 use Rattle.fac_lang.specs.Meaning.{meaning_values, names, sort_of, is_past, is_top_phrase, word_phrase, word_fits, callable_fits, one_item, run_phrase, sort_act, nowhere}
-use Rattle.fac_lang.specs.Effects.{effect_height, inputs_count, word_height}
-use Rattle.fac_lang.specs.RowVariables.{Row, hidden, named_row, row_eq, is_row, bindable, inputs_rows, nested_one_sided, bound_all, bound_rows, outer_in, outer_out, effect_inputs, effect_leaving}
+use Rattle.fac_base.specs.Effects.{effect_height, inputs_count}
+use Rattle.fac_lang.specs.WordHeights.{word_height}
+use Rattle.fac_abs.specs.RowVariables.{Row, hidden, named_row, row_eq, is_row, bindable, inputs_rows, nested_one_sided, bound_all, bound_rows, outer_in, outer_out, effect_inputs, effect_leaving}
 use Rattle.fac_abs.specs.Marks.{AbstractStack, dead, on, base_eq, mark_eq, popped, unknowns}
 use Rattle.fac_abs.specs.declared.rule.Rule.{Rule}
 use Rattle.fac_abs.specs.declared.rule.Rule.TheVariants.{Underflow, NotKnown, Rows, RecursiveInput}
 use Rattle.fac_rows.specs.RowBinding.{Binding, stack_or_dead, row_bound, row_binding, inputs_known, other_input, leaving_on, row_result, inputs_marks}
 use Rattle.fac_locals.specs.Literals.{first_of_word}
 use Rattle.fac_check.specs.Flow.{Walked, found, refused, and_then, Walk, walk_on, Doing, breaks, gives, uses, by_height, callable_or, walk_inputs, is_own, own_doing, row_doing, row_or_phrase}
-use Rattle.fac_lang.specs.HeightArithmetic.{fits, fits_outs}
+use Rattle.fac_base.specs.HeightArithmetic.{fits, fits_outs}
 use Rattle.fac_check.specs.CallableEffects.{callable_height}
 use Rattle.fac_check.specs.Verdicts.{ordinary_verdict, row_verdict, top_verdict}
 use Rattle.fac_check.specs.Promises.{Valid}

@@ -1,23 +1,23 @@
 -- The walk of a phrase fits its run, by induction on the ticks.
 use Rattle.std.proofs.Common.{◌≡◌, ℕ, zero, suc, ◌≤◌, List, [], ◌∷◌, length, Bool, true, false, refl, sym, ap, Option, Some, None, arith}
 use Rattle.std.specs.Prelude.{nat_eq, ◌&&◌}
-use Rattle.fac_lang.specs.declared.phrase.Place.{Place}
+use Rattle.fac_base.specs.declared.place.Place.{Place}
 use Rattle.fac_lang.specs.Phrases.{Literal, Phrase, end, then, Item, Value, Mark}
 use Rattle.fac_lang.specs.World.{State}
-use Rattle.fac_lang.specs.Signatures.{Signature, signature, Leaving, never, leaves}
-use Rattle.fac_lang.specs.Effects.{inputs_count, leaving_outs, effect_height}
+use Rattle.fac_base.specs.Signatures.{Signature, signature, Leaving, never, leaves}
+use Rattle.fac_base.specs.Effects.{inputs_count, leaving_outs, effect_height}
 use Rattle.fac_lang.specs.declared.program.Program.{Program}
 use Rattle.fac_lang.specs.declared.program.WordDef.{WordDef}
 use Rattle.fac_lang.specs.Eval.{Result, Done, Failed, Spent, Stuck, Act, Run, eval}
 use Rattle.fac_lang.specs.Meaning.{act, run}
-use Rattle.fac_lang.specs.RowVariables.{Row, effect_inputs, effect_leaving}
+use Rattle.fac_abs.specs.RowVariables.{Row, effect_inputs, effect_leaving}
 use Rattle.fac_abs.specs.Marks.{AbstractStack, dead, on, base_eq, unknowns}
 use Rattle.fac_abs.specs.declared.rule.Rule.{Rule}
 use Rattle.fac_abs.specs.declared.rule.Rule.TheVariants.{Outputs, MustReturn}
 use Rattle.fac_locals.specs.Literals.{first_of_word, behind}
 use Rattle.fac_check.specs.declared.refusal.Broken.{Broken}
 use Rattle.fac_check.specs.Flow.{Walked, found, refused, walk, doing, walked, most_walked, most_steps, most_nested}
-use Rattle.fac_lang.specs.HeightArithmetic.{fits}
+use Rattle.fac_base.specs.HeightArithmetic.{fits}
 use Rattle.fac_check.specs.CallableEffects.{callable_height}
 use Rattle.fac_check.specs.Verdicts.{broken_at, end_of, kept_word, ordinary_verdict, top_verdict}
 use Rattle.fac_check.specs.Promises.{Valid}

@@ -2,7 +2,7 @@
 use Rattle.std.proofs.Common.{◌≡◌, ◌<◌, ◌≤◌, ◌+◌, ◌-◌, ℕ, suc, List, [], Bool, true, false, Option, Some, refl, sym, ap, subst, ◌∙◌, length, arith}
 use Rattle.std.specs.Prelude.{nat_eq, slice_get}
 use Rattle.fac_graph.proofs.NumberLists.{same_number}
-use Rattle.fac_lang.proofs.WholeLemmas.{same_bytes}
+use Rattle.fac_base.proofs.SameBytes.{same_bytes}
 use Rattle.fac_lang.specs.Phrases.{Literal, Item}
 use Rattle.fac_lang.specs.declared.phrase.Template.{Template}
 use Rattle.fac_lang.specs.declared.program.Program.{Program}

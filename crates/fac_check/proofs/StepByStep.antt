@@ -1,9 +1,9 @@
 -- The walk of a phrase is the walk of its first item, and then that of the rest.
 use Rattle.std.proofs.Common.{◌≡◌, ℕ, zero, suc, List, Option, Some, None, refl, sym, ap, ◌∙◌}
-use Rattle.fac_lang.specs.declared.phrase.Place.{Place}
-use Rattle.fac_lang.specs.Signatures.{Signature}
+use Rattle.fac_base.specs.declared.place.Place.{Place}
+use Rattle.fac_base.specs.Signatures.{Signature}
 use Rattle.fac_lang.specs.Phrases.{Literal, Phrase, end, then, word, Mark}
-use Rattle.fac_lang.specs.RowVariables.{Row, effect_inputs, outer_in}
+use Rattle.fac_abs.specs.RowVariables.{Row, effect_inputs, outer_in}
 use Rattle.fac_abs.specs.Marks.{AbstractStack, dead, on}
 use Rattle.fac_abs.specs.declared.rule.Rule.{Rule}
 use Rattle.fac_rows.specs.RowBinding.{row_binding}

@@ -9,18 +9,17 @@ use Rattle.fac_lang.specs.declared.phrase.Template.{Template}
 use Rattle.fac_lang.specs.declared.program.Program.{Program}
 use Rattle.fac_lang.specs.declared.program.WordDef.{WordDef}
 use Rattle.fac_lang.specs.declared.program.Sort.{Sort}
-use Rattle.fac_lang.specs.declared.program.Sort.TheVariants.{Prim as prim, Core as core, Body as body, Past as past, Method as method}
+use Rattle.fac_lang.specs.declared.program.Sort.TheVariants.{Prim as prim, Body as body, Past as past, Method as method}
 use Rattle.fac_lang.specs.Phrases.{int, yes, no, str, iota, wrd, arr, tup, Literal, Phrase, end, then, Item, lit, lit_arr, quot, word, bind, local, fry, hole, call_eff, exec_eff, next_method, made, next_after, held, known}
 use Rattle.fac_lang.specs.PhraseView.{what_item, items_phrase}
-use Rattle.fac_lang.specs.Signatures.{Signature, signature, Inputs, no_inputs, value, quoted}
-use Rattle.fac_lang.specs.Effects.{effect_height, inputs_count}
+use Rattle.fac_base.specs.Signatures.{Signature, signature, Inputs, no_inputs, value, quoted}
+use Rattle.fac_base.specs.Effects.{effect_height, inputs_count}
 use Rattle.fac_lang.specs.Primitives.{built_count}
-use Rattle.fac_lang.specs.CoreWords.{is_built_core}
 use Rattle.fac_lang.specs.Substitution.{of_method}
 use Rattle.fac_lang.proofs.SourcePrograms.{IsSourceProgram, source_of_whole}
 use Rattle.fac_lang.specs.Whole.{IsWhole, name_count, inputs_name_count}
-use Rattle.fac_captures.specs.declared.cell.Cell.{Cell}
-use Rattle.fac_captures.specs.Cells.{cells_behind, inner_cells}
+use Rattle.fac_locals.specs.declared.cell.Cell.{Cell}
+use Rattle.fac_locals.specs.Cells.{cells_behind, inner_cells}
 use Rattle.fac_locals.specs.Closed.{Closes, ClosesPhrase, ClosesItem, ClosesSort, IsMadeBy}
 use Rattle.fac_locals.proofs.Lookups.{word_open, words_closed_count, template_closed}
 use Rattle.fac_locals.proofs.RunningPhrases.{IsRun, IsRunItem, RunsAs, word_runs, literal_runs}
@@ -78,7 +77,6 @@ module _ (P : Program) (count : ℕ) (numbered : (cells : List Cell) (at : Liter
 
   taken_sort : (w : ℕ) (s o : Sort) → w < length P.words → ClosesSort P w s o → RunsAs P w s → HasBuiltNumber s → takes_sort P.top count o ≡ true
   taken_sort w (prim k) o l c h b = rw c b
-  taken_sort w (core k) o l c h b = rw c b
   taken_sort w (body t) o l c h b = rw c.1 (taken_phrase [] (first_of_word w) t c.0 l c.2 h)
   taken_sort w (method k g t) o l c h b = rw c.1 (taken_phrase [] (first_of_word w) (of_method w t) c.0 l c.2 h)
   taken_sort w (past t) o l c h b = absurd h
@@ -204,9 +202,6 @@ module _ (C : Program) (templates : List Template) (taken : takes_all C template
   made_below (next_after m) k h e = absurd cc
   made_below (held v) k h e = absurd cc
   made_below (known m) k h e = absurd cc
-
-pub core_below : (top count k : ℕ) (d : WordDef) → takes_word top count d ≡ true → d.sort ≡ core k → is_built_core k ≡ true
-core_below top count k d h e = subst (λ x. takes_sort top count x ≡ true) e (and_first _ _ h)
 
 pub primitive_below : (top count k : ℕ) (d : WordDef) → takes_word top count d ≡ true → d.sort ≡ prim k → k < built_count
 primitive_below top count k d h e = is_below k built_count (subst (λ x. takes_sort top count x ≡ true) e (and_first _ _ h))

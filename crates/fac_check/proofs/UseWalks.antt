@@ -1,14 +1,14 @@
 -- The walk of a use by the walks of its inputs.
 use Rattle.std.proofs.Common.{◌≡◌, ℕ, suc, List, ◌∷◌, true, Option, Some, None, refl, sym, ap, ◌∙◌}
 use Rattle.std.specs.Prelude.{slice_get}
-use Rattle.fac_lang.specs.declared.effect.Input.{Input}
+use Rattle.fac_base.specs.declared.effect.Input.{Input}
 use Rattle.fac_lang.specs.declared.phrase.Template.{Template}
 use Rattle.fac_lang.specs.declared.program.Program.{Program}
 use Rattle.fac_lang.specs.declared.program.WordDef.{WordDef}
-use Rattle.fac_lang.specs.EffectView.{inputs_tree}
-use Rattle.fac_lang.specs.Effects.{inputs_count}
-use Rattle.fac_lang.specs.RowVariables.{Row, row_name, effect_inputs, effect_leaving, outer_in}
-use Rattle.fac_lang.specs.Signatures.{Signature}
+use Rattle.fac_base.specs.EffectView.{inputs_tree}
+use Rattle.fac_base.specs.Effects.{inputs_count}
+use Rattle.fac_abs.specs.RowVariables.{Row, row_name, effect_inputs, effect_leaving, outer_in}
+use Rattle.fac_base.specs.Signatures.{Signature}
 use Rattle.fac_locals.proofs.Lookups.{word_open}
 use Rattle.fac_abs.specs.Marks.{AbstractStack, on}
 use Rattle.fac_abs.specs.MarkPromises.{HasTop}
@@ -16,7 +16,7 @@ use Rattle.fac_abs.specs.SeenMarks.{MarksSeen, Grows, IsMark, mark_of, stack_of,
 use Rattle.fac_abs.specs.declared.reached.Reached.{Reached}
 use Rattle.fac_abs.specs.declared.reached.Reached.TheVariants.{Dead, On}
 use Rattle.fac_abs.specs.declared.rule.Rule.{Rule}
-use Rattle.fac_lang.specs.declared.phrase.Place.{Place}
+use Rattle.fac_base.specs.declared.place.Place.{Place}
 use Rattle.fac_rows.specs.RowBinding.{Binding, tie, start_row, row_binding}
 use Rattle.fac_rows.specs.SeenBindings.{binding_seen, IsBinding, IsStart, IsTie}
 use Rattle.fac_rows.proofs.BindingLemmas.{binding_same}

@@ -1,8 +1,8 @@
 -- The verdict on a word, from the walk of its closed phrase.
-use Rattle.std.proofs.Common.{◌≡◌, ◌≢◌, ◌<◌, ◌≤◌, ◌+◌, ℕ, List, [], length, Bool, true, false, Option, Some, None, refl, sym, ap, subst, ◌∙◌, arith}
+use Rattle.std.proofs.Common.{◌≡◌, ◌≢◌, ◌<◌, ◌≤◌, ◌+◌, ℕ, List, [], ◌∷◌, ◌++◌, length, Bool, true, false, Option, Some, None, refl, sym, ap, subst, ◌∙◌, arith}
 use Rattle.std.specs.Prelude.{nat_eq, not, ◌&&◌, slice_get}
 use Rattle.std.proofs.lemmas.Bool.{ne_eqb}
-use Rattle.fac_lang.specs.declared.phrase.Place.{Place}
+use Rattle.fac_base.specs.declared.place.Place.{Place}
 use Rattle.fac_lang.specs.declared.phrase.Template.{Template}
 use Rattle.fac_lang.specs.declared.program.Program.{Program}
 use Rattle.fac_lang.specs.declared.program.WordDef.{WordDef}
@@ -10,8 +10,8 @@ use Rattle.fac_lang.specs.declared.program.Sort.{Sort}
 use Rattle.fac_lang.specs.declared.program.Sort.TheVariants.{Body as body, Past as past, Generic as generic, Method as method}
 use Rattle.fac_lang.specs.Phrases.{Literal, Phrase, then, made, Mark}
 use Rattle.fac_lang.specs.Meaning.{nowhere}
-use Rattle.fac_lang.specs.Signatures.{Signature, signature}
-use Rattle.fac_lang.specs.Effects.{effect_height, inputs_count}
+use Rattle.fac_base.specs.Signatures.{Signature, signature}
+use Rattle.fac_base.specs.Effects.{effect_height, inputs_count}
 use Rattle.fac_lang.specs.Substitution.{of_method}
 use Rattle.fac_lang.specs.Whole.{IsWhole}
 use Rattle.fac_locals.specs.Literals.{first_of_word, literal_numbered}
@@ -19,19 +19,19 @@ use Rattle.fac_locals.specs.Closed.{Closes, ClosesSort, ClosesWord}
 use Rattle.fac_locals.specs.Frames.{Opens}
 use Rattle.fac_locals.proofs.OpeningLaws.{programs_open}
 use Rattle.fac_locals.proofs.Lookups.{word_closed}
-use Rattle.fac_lang.specs.RowVariables.{effect_inputs, effect_leaving, outer_in, outer_out, has_rows, bindable, is_row}
+use Rattle.fac_abs.specs.RowVariables.{effect_inputs, effect_leaving, outer_in, outer_out, has_rows, bindable, is_row}
 use Rattle.fac_abs.specs.Marks.{AbstractStack, unknowns}
 use Rattle.fac_abs.specs.MarkTrees.{Naming}
 use Rattle.fac_abs.specs.SeenMarks.{MarksSeen, frame_of, stack_of, base_seen}
 use Rattle.fac_abs.specs.declared.rule.Rule.{Rule}
-use Rattle.fac_abs.specs.declared.rule.Rule.TheVariants.{RowDeclaration, MethodEffect}
+use Rattle.fac_abs.specs.declared.rule.Rule.TheVariants.{UndeclaredRecursion, RowDeclaration, MethodEffect}
 use Rattle.fac_rows.specs.RowBinding.{inputs_marks}
 use Rattle.fac_rows.specs.RowNumbers.{NamesRows, NamesOwn}
 use Rattle.fac_rows.proofs.NamingRows.{naming_for, naming_for_names}
 use Rattle.fac_check.specs.declared.refusal.Broken.{Broken}
 use Rattle.fac_check.specs.declared.walker.Walked.{Walked}
 use Rattle.fac_check.specs.Flow.{Walked as WalkedPhrase, most_steps, walk, doing, walked}
-use Rattle.fac_check.specs.Verdicts.{broken_at, end_of, kept_word, ordinary_verdict, row_verdict, top_verdict, inline_verdict, body_verdict, phrase_verdict, sort_verdict, ruled_verdict, word_verdict, undeclared, bad_rows, bad_generic, no_generic_effect}
+use Rattle.fac_check.specs.Verdicts.{broken_at, end_of, kept_word, ordinary_verdict, row_verdict, top_verdict, inline_verdict, body_verdict, phrase_verdict, sort_verdict, head_rules, ruled_verdict, word_verdict, undeclared, bad_rows, bad_generic, no_generic_effect}
 use Rattle.fac_check.specs.inner.Walking.{Opened, NamesTemplate, items_of, walked_seen, go_at}
 use Rattle.fac_check.specs.inner.Alone.{placed_alone}
 use Rattle.fac_check.specs.inner.OwnEffects.{effect_where, own_effect}
@@ -186,21 +186,39 @@ module _ (P : Program) (w : ℕ) (d c : WordDef) (closes : ClosesWord P w d c) w
       ∙ ap (λ (b : Bool). rows_so P.top (is_past_sort d.sort) b d.effect) (ap (λ (b : Bool). inline_phrase b c.sort) closes.inline ∙ closes_inline P w d.inline d.sort c.sort closes.sort)
       ∙ rows_sorted d.sort d.inline d.effect
 
+-- none of these rules is broken
+abbrev pub NoneBroken : List (Bool × Rule) → Type 0
+NoneBroken [] = Unit {0}
+NoneBroken (r ∷ rs) = (r.0 ≡ false) × NoneBroken rs
+
+module _ (P : Program) (start w : ℕ) (d : WordDef) where
+  -- rules that aren't broken decide nothing
+  past_rules : (rs ss : List (Bool × Rule)) → NoneBroken rs → ruled_verdict P (rs ++ ss) start w d ≡ ruled_verdict P ss start w d
+  past_rules [] ss h = refl
+  past_rules (r ∷ rs) ss h = ap (λ (b : Bool). elim b [ true ↦ broken_at r.1 d.place | false ↦ ruled_verdict P (rs ++ ss) start w d ]) h.0 ∙ past_rules rs ss h.1
+
+  -- the first one that is decides
+  first_broken : (b : Bool) (r : Rule) (rs : List (Bool × Rule)) → b ≡ true → ruled_verdict P ((b, r) ∷ rs) start w d ≡ broken_at r d.place
+  first_broken b r rs h = ap (λ (q : Bool). elim q [ true ↦ broken_at r d.place | false ↦ ruled_verdict P rs start w d ]) h
+
 module _ (P : Program) (w : ℕ) (d : WordDef) (start : ℕ) where
   -- the verdict where no rule is broken that comes before that of generics
   abbrev verdict_by : Bool → Sort → Option Broken
   verdict_by true s = broken_at MethodEffect d.place
   verdict_by false s = sort_verdict P start w d s
 
-  ruled : (u r g : Bool) → false ≡ u → r ≡ false → verdict_by g d.sort ≡ ruled_verdict P u r g start w d
-  ruled false false true e f = refl
-  ruled false false false e f = refl
-  ruled true r g e f = absurd (cc)
-  ruled false true g e f = absurd (cc)
+  -- that of the rule on generics and of the walk
+  last_ruled : (g : Bool) → verdict_by g d.sort ≡ ruled_verdict P ((g, MethodEffect) ∷ []) start w d
+  last_ruled true = refl
+  last_ruled false = refl
 
   -- the verdict on a word of this sort
   pub sorted_verdict : (s : Sort) (x : Option Broken) → d.sort ≡ s → false ≡ undeclared P w d → bad_rows P w d ≡ false → x ≡ verdict_by (bad_generic s d.effect) s → x ≡ word_verdict P start w d
-  sorted_verdict s x is e f h = h ∙ ap (λ q. verdict_by (bad_generic q d.effect) q) (sym is) ∙ ruled (undeclared P w d) (bad_rows P w d) (bad_generic d.sort d.effect) e f
+  sorted_verdict s x is e f h =
+      h
+      ∙ ap (λ q. verdict_by (bad_generic q d.effect) q) (sym is)
+      ∙ last_ruled (bad_generic d.sort d.effect)
+      ∙ sym (past_rules P start w d ((undeclared P w d, UndeclaredRecursion) ∷ (bad_rows P w d, RowDeclaration) ∷ []) ((bad_generic d.sort d.effect, MethodEffect) ∷ []) (sym e, (f, tt)))
 
   pub body_verdict_is : (t : Phrase) (x : Option Broken) → d.sort ≡ body t → false ≡ undeclared P w d → bad_rows P w d ≡ false → x ≡ phrase_verdict P (nat_eq w P.top) start w t d → x ≡ word_verdict P start w d
   body_verdict_is t x is e f h = sorted_verdict (body t) x is e f h
@@ -235,4 +253,7 @@ module _ (P : Program) (w : ℕ) (d : WordDef) (start : ℕ) where
 -- a word whose rows can't be bound, where its phrase doesn't lead back to it
 pub rows_refused : (P : Program) (start w : ℕ) (d c : WordDef) → ClosesWord P w d c → false ≡ undeclared P w d → bad_rows P w d ≡ true → broken_at RowDeclaration c.place ≡ word_verdict P start w d
 rows_refused P start w d c closes e f =
-    ap (broken_at RowDeclaration) closes.place ∙ ap (λ u. ruled_verdict P u true (bad_generic d.sort d.effect) start w d) e ∙ ap (λ r. ruled_verdict P (undeclared P w d) r (bad_generic d.sort d.effect) start w d) (sym f)
+    let others : List (Bool × Rule) = (bad_generic d.sort d.effect, MethodEffect) ∷ [] in
+    ap (broken_at RowDeclaration) closes.place
+    ∙ sym (first_broken P start w d (bad_rows P w d) RowDeclaration others f)
+    ∙ sym (past_rules P start w d ((undeclared P w d, UndeclaredRecursion) ∷ []) ((bad_rows P w d, RowDeclaration) ∷ others) (sym e, tt))

@@ -1,7 +1,7 @@
 -- How the walk of a phrase goes on behind an item.
 use Rattle.std.specs.Prelude.{slice_get}
 use Rattle.std.proofs.Common.{◌≡◌, ◌<◌, ◌≤◌, ℕ, zero, suc, List, [], ◌∷◌, ◌++◌, length, Bool, false, Option, refl, sym, ap, subst, ◌∙◌, arith}
-use Rattle.fac_lang.specs.declared.phrase.Place.{Place}
+use Rattle.fac_base.specs.declared.place.Place.{Place}
 use Rattle.fac_lang.specs.declared.phrase.Template.{Template}
 use Rattle.fac_lang.specs.declared.phrase.Item.{Item as PlacedItem}
 use Rattle.fac_lang.specs.declared.phrase.What.{What}
@@ -12,7 +12,7 @@ use Rattle.fac_lang.specs.PhraseView.{what_item, items_phrase}
 use Rattle.fac_locals.specs.Literals.{behind}
 use Rattle.fac_lang.specs.Substitution.{put_local}
 use Rattle.fac_locals.specs.Frames.{IsPut, Opens, OpensItem, o_plain, o_end, o_item, o_bind}
-use Rattle.fac_lang.specs.RowVariables.{Row}
+use Rattle.fac_abs.specs.RowVariables.{Row}
 use Rattle.fac_abs.specs.Marks.{AbstractStack, dead, on}
 use Rattle.fac_abs.specs.MarkTrees.{Naming}
 use Rattle.fac_abs.specs.SeenMarks.{MarksSeen, Grows, IsFrame, IsStack, frame_of, stack_of, base_seen}

@@ -2,15 +2,15 @@
 use Rattle.std.proofs.Common.{◌≡◌, ◌⊎◌, ℕ, zero, suc, ◌≤◌, List, [], ◌∷◌, length, Bool, true, false, refl, ap, Option, Some, None, arith}
 use Rattle.std.specs.Prelude.{nat_eq, ◌&&◌}
 use mathlib.Core.Logic.{inl, inr}
-use Rattle.fac_lang.specs.declared.phrase.Place.{Place}
+use Rattle.fac_base.specs.declared.place.Place.{Place}
 use Rattle.fac_lang.specs.Phrases.{Literal, Phrase, end, then, Item, word, held, known, Value, plain, fun, Callable, of_phrase, Mark, any, lit_mark, cur_mark, com_mark, wrd_mark, par_mark}
 use Rattle.fac_lang.specs.World.{State, Error, push, pile, push_each}
 use Rattle.fac_lang.specs.Substitution.{put_local}
-use Rattle.fac_lang.specs.Signatures.{Signature}
+use Rattle.fac_base.specs.Signatures.{Signature}
 use Rattle.fac_lang.specs.declared.program.Program.{Program}
 use Rattle.fac_lang.specs.Eval.{Result, Done, Failed, Spent, Stuck, then_do, Act, wrong, fails, goes, binds, runs, Run, run_callable, go_on}
 use Rattle.fac_lang.specs.Meaning.{one_item, nowhere}
-use Rattle.fac_lang.specs.RowVariables.{Row, effect_inputs, outer_in}
+use Rattle.fac_abs.specs.RowVariables.{Row, effect_inputs, outer_in}
 use Rattle.fac_abs.specs.Marks.{AbstractStack, dead, on, base_eq, mark_eq, join_marks, piled}
 use Rattle.fac_abs.specs.declared.rule.Rule.{Rule}
 use Rattle.fac_abs.specs.declared.rule.Rule.TheVariants.{Branches}

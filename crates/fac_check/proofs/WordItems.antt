@@ -2,22 +2,21 @@
 use Rattle.std.proofs.Common.{◌≡◌, ◌≢◌, ℕ, List, [], ◌∷◌, ◌++◌, length, Bool, true, false, Option, Some, None, refl, sym, ap, subst, ◌∙◌, arith, Result, Ok, Err}
 use Rattle.std.specs.Prelude.{not, nat_eq, slice_get, IfOk}
 use Rattle.std.proofs.lemmas.Bool.{ne_eqb}
-use Rattle.fac_lang.specs.declared.phrase.Height.{Height}
+use Rattle.fac_base.specs.declared.height.Height.{Height}
 use Rattle.fac_lang.specs.declared.program.Program.{Program}
 use Rattle.fac_lang.specs.declared.program.WordDef.{WordDef}
 use Rattle.fac_lang.specs.declared.program.Sort.{Sort}
 use Rattle.fac_lang.specs.declared.program.Sort.TheVariants.{Prim as prim, Body as body}
 use Rattle.fac_lang.specs.declared.phrase.Template.{Template}
 use Rattle.fac_lang.specs.Phrases.{Phrase, Mark}
-use Rattle.fac_lang.specs.Signatures.{Signature}
-use Rattle.fac_lang.specs.Effects.{effect_height}
+use Rattle.fac_base.specs.Signatures.{Signature}
+use Rattle.fac_base.specs.Effects.{effect_height}
 use Rattle.fac_lang.specs.PrimitiveWords.{outputs_of, written_effect}
 use Rattle.fac_lang.specs.Primitives.{Primitive, prim_numbered}
-use Rattle.fac_lang.specs.Meaning.{core_numbered, c_call, c_dip, c_if, c_execute, c_boa}
 use Rattle.fac_lang.proofs.SourcePrograms.{IsSourceProgram}
 use Rattle.fac_locals.specs.Closed.{Closes, ClosesWord}
 use Rattle.fac_locals.proofs.Lookups.{word_open_none}
-use Rattle.fac_lang.specs.RowVariables.{Row, is_row}
+use Rattle.fac_abs.specs.RowVariables.{Row, is_row}
 use Rattle.fac_abs.specs.declared.rule.Rule.TheVariants.{NotKnown}
 use Rattle.fac_check.specs.Flow.{Doing, breaks, word_doing, by_height, callable_or, prim_doing, is_own, sort_doing, inline_doing, row_or_phrase}
 use Rattle.fac_check.specs.inner.Walking.{Opened, NamesWhereOwn, body_phrase, phrase_of, sort_phrase}
@@ -29,31 +28,6 @@ use Rattle.fac_check.proofs.PrimitivesKeep.{written_height}
 pub ok_maps : {A E : Type 0} {Q R : A → Type 0} (r : Result A E) → ((x : A) → Q x → R x) → IfOk r Q → IfOk r R
 ok_maps (Ok x) f h = f x h
 ok_maps (Err e) f h = h
-
--- the core words by their numbers
-pub core_0 : core_numbered 0 ≡ Some c_call
-unfolding core_numbered
-core_0 = refl
-
-pub core_1 : core_numbered 1 ≡ Some c_dip
-unfolding core_numbered
-core_1 = refl
-
-pub core_2 : core_numbered 2 ≡ Some c_if
-unfolding core_numbered
-core_2 = refl
-
-pub core_3 : core_numbered 3 ≡ Some c_execute
-unfolding core_numbered
-core_3 = refl
-
-pub core_4 : core_numbered 4 ≡ Some c_boa
-unfolding core_numbered
-core_4 = refl
-
-pub core_9 : core_numbered 9 ≡ None
-unfolding core_numbered
-core_9 = refl
 
 -- the last element of a list
 last_at : {A : Type 0} (xs : List A) (y : A) → slice_get (xs ++ y ∷ []) (length xs) ≡ Some y

@@ -1,9 +1,9 @@
 -- The effect of a callable: how many values it takes and leaves. That of a literal is found by walks of its phrase, and those of what `curry` and `compose` made by arithmetic.
 use Rattle.std.specs.Prelude.{ℕ, zero, suc, [], length, true, false, nat_le, Option, Some, None}
-use Rattle.fac_lang.specs.declared.limits.TheConstants.{MOST_TRIED_INPUTS}
-use Rattle.fac_lang.specs.declared.phrase.Height.{Height}
+use Rattle.fac_base.specs.declared.limits.TheConstants.{MOST_TRIED_INPUTS}
+use Rattle.fac_base.specs.declared.height.Height.{Height}
 use Rattle.fac_lang.specs.declared.program.Program.{Program}
-use Rattle.fac_lang.specs.HeightArithmetic.{most_values, curried_height, composed_height}
+use Rattle.fac_base.specs.HeightArithmetic.{most_values, curried_height, composed_height}
 use Rattle.fac_lang.specs.Phrases.{Phrase, end, then, Item, lit, lit_arr, quot, word, bind, local, fry, hole, call_eff, exec_eff, next_method, made, next_after, held, known, any, Callable, of_phrase, cur, both}
 use Rattle.fac_abs.specs.Marks.{dead, on, unknowns}
 use Rattle.fac_check.specs.Flow.{found, refused, walked}

@@ -1,10 +1,10 @@
 -- How the checker walks a phrase: it takes the items in order and follows what each does to the stack as it knows it. A phrase of the walk is a phrase as a run has it, with a known mark where a run has a held value.
 use Rattle.std.specs.Prelude.{ℕ, zero, suc, List, [], ◌∷◌, map, length, Bool, true, false, ◌&&◌, not, nat_eq, nat_lt, Option, Some, None, slice_get}
-use Rattle.fac_lang.specs.declared.limits.TheConstants.{MOST_APPLICATIONS, MOST_ITEMS}
-use Rattle.fac_lang.specs.declared.phrase.Place.{Place}
+use Rattle.fac_base.specs.declared.limits.TheConstants.{MOST_APPLICATIONS, MOST_ITEMS}
+use Rattle.fac_base.specs.declared.place.Place.{Place}
 use Rattle.fac_lang.specs.Phrases.{Literal, Plain, wrd, Phrase, end, then, Item, lit, lit_arr, quot, word, bind, local, fry, hole, call_eff, exec_eff, next_method, made, next_after, held, known, Mark, any, lit_mark, cur_mark, com_mark, wrd_mark, par_mark}
-use Rattle.fac_lang.specs.Signatures.{Signature, Inputs, no_inputs, value, quoted}
-use Rattle.fac_lang.specs.Effects.{inputs_count, effect_height}
+use Rattle.fac_base.specs.Signatures.{Signature, Inputs, no_inputs, value, quoted}
+use Rattle.fac_base.specs.Effects.{inputs_count, effect_height}
 use Rattle.fac_lang.specs.Procedures.{Procedure, leaves, curries, composes, or_else, picked}
 use Rattle.fac_lang.specs.Primitives.{Primitive, prim_numbered}
 use Rattle.fac_lang.specs.Substitution.{put_local, put_holes}
@@ -12,8 +12,10 @@ use Rattle.fac_lang.specs.declared.program.Program.{Program}
 use Rattle.fac_lang.specs.declared.program.WordDef.{WordDef}
 use Rattle.fac_lang.specs.declared.program.Sort.{Sort}
 use Rattle.fac_lang.specs.declared.program.Sort.TheVariants.{Prim as prim, Core as core, Body as body, Past as past, Itself as itself, Class as class, Method as method}
-use Rattle.fac_lang.specs.Meaning.{sort_of, names, Core, c_call, c_dip, c_if, c_execute, c_boa, core_numbered}
-use Rattle.fac_lang.specs.RowVariables.{Row, effect_inputs, effect_leaving, outer_in, bindable, row_name, is_row}
+use Rattle.fac_lang.specs.declared.core_table.CoreWord.{CoreWord}
+use Rattle.fac_lang.specs.declared.core_table.CoreWord.TheVariants.{Call as c_call, Dip as c_dip, If as c_if, Execute as c_execute, Boa as c_boa, Cond as c_cond}
+use Rattle.fac_lang.specs.Meaning.{sort_of, names}
+use Rattle.fac_abs.specs.RowVariables.{Row, effect_inputs, effect_leaving, outer_in, bindable, row_name, is_row}
 use Rattle.fac_abs.specs.Marks.{AbstractStack, dead, on, limited, is_callable, curried_mark, composed_mark, joined, unknowns, popped, piled}
 use Rattle.fac_abs.specs.declared.rule.Rule.{Rule}
 use Rattle.fac_abs.specs.declared.rule.Rule.TheVariants.{Underflow, NotKnown, NotAClass, Branches, Rows, MethodEffect, TooDeep, TooLarge}
@@ -264,22 +266,22 @@ module _ (P : Program) where
   makes_by None b ms = breaks NotAClass
   makes_by (Some c) b ms = elim (popped c.1 [] ms) [ Some r ↦ gives (on b (any ∷ r.1)) | None ↦ breaks (Underflow (suc c.1) (suc (length ms))) ]
 
-  -- a core word
-  abbrev pub core_doing : Option Core → Option Row → List Mark → Doing
-  core_doing None b ms = breaks NotKnown
-  core_doing (Some c_call) b [] = breaks (Underflow 1 0)
-  core_doing (Some c_call) b (q ∷ ms) = callable_or (is_callable q) NotKnown (walks q b ms [])
-  core_doing (Some c_dip) b [] = breaks (Underflow 2 0)
-  core_doing (Some c_dip) b (q ∷ []) = breaks (Underflow 2 1)
-  core_doing (Some c_dip) b (q ∷ x ∷ ms) = callable_or (is_callable q) NotKnown (walks q b ms (x ∷ []))
-  core_doing (Some c_if) b [] = breaks (Underflow 3 0)
-  core_doing (Some c_if) b (r ∷ []) = breaks (Underflow 3 1)
-  core_doing (Some c_if) b (r ∷ l ∷ []) = breaks (Underflow 3 2)
-  core_doing (Some c_if) b (r ∷ l ∷ x ∷ ms) = callable_or (is_callable l && is_callable r) NotKnown (forks l r b ms)
-  core_doing (Some c_execute) b [] = breaks (Underflow 1 0)
-  core_doing (Some c_execute) b (m ∷ ms) = known_word m (λ w. again w b ms)
-  core_doing (Some c_boa) b [] = breaks (Underflow 1 0)
-  core_doing (Some c_boa) b (m ∷ ms) = known_word m (λ w. makes_by ((names P).tuple_class w) b ms)
+  -- a core word; `cond` is known nowhere but with its literal
+  abbrev pub core_doing : CoreWord → Option Row → List Mark → Doing
+  core_doing c_call b [] = breaks (Underflow 1 0)
+  core_doing c_call b (q ∷ ms) = callable_or (is_callable q) NotKnown (walks q b ms [])
+  core_doing c_dip b [] = breaks (Underflow 2 0)
+  core_doing c_dip b (q ∷ []) = breaks (Underflow 2 1)
+  core_doing c_dip b (q ∷ x ∷ ms) = callable_or (is_callable q) NotKnown (walks q b ms (x ∷ []))
+  core_doing c_if b [] = breaks (Underflow 3 0)
+  core_doing c_if b (r ∷ []) = breaks (Underflow 3 1)
+  core_doing c_if b (r ∷ l ∷ []) = breaks (Underflow 3 2)
+  core_doing c_if b (r ∷ l ∷ x ∷ ms) = callable_or (is_callable l && is_callable r) NotKnown (forks l r b ms)
+  core_doing c_execute b [] = breaks (Underflow 1 0)
+  core_doing c_execute b (m ∷ ms) = known_word m (λ w. again w b ms)
+  core_doing c_boa b [] = breaks (Underflow 1 0)
+  core_doing c_boa b (m ∷ ms) = known_word m (λ w. makes_by ((names P).tuple_class w) b ms)
+  core_doing c_cond b ms = breaks NotKnown
 
   -- All this is with the number of the word that is checked, where it is a row word.
   module _ (own : Option ℕ) where
@@ -300,7 +302,7 @@ module _ (P : Program) where
 
     -- the item of a word, by its sort; an earlier top-level phrase and a method are never items
     abbrev pub sort_doing : ℕ → WordDef → Sort → Option Row → List Mark → Doing
-    sort_doing w d (core k) b ms = core_doing (core_numbered k) b ms
+    sort_doing w d (core c) b ms = core_doing c b ms
     sort_doing w d (prim k) b ms = prim_doing (prim_numbered k) b ms
     sort_doing w d itself b ms = gives (on b (wrd_mark w ∷ ms))
     sort_doing w d (class c) b ms = gives (on b (wrd_mark w ∷ ms))

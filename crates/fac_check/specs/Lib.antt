@@ -6,4 +6,5 @@ pub mod TemplateWalks
 pub mod Promises
 pub mod Judged
 pub mod Checks
+pub mod TemplateEffects
 pub mod inner

@@ -2,7 +2,7 @@
 use Rattle.std.specs.Prelude.{◌≡◌, ℕ, List, ◌++◌, Option, None}
 use Rattle.fac_lang.specs.declared.program.Program.{Program}
 use Rattle.fac_lang.specs.Phrases.{Literal, Phrase, Mark}
-use Rattle.fac_lang.specs.RowVariables.{Row}
+use Rattle.fac_abs.specs.RowVariables.{Row}
 use Rattle.fac_abs.specs.Marks.{AbstractStack, dead, on}
 use Rattle.fac_check.specs.Flow.{found, walk, doing}
 

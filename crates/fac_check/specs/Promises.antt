@@ -1,19 +1,20 @@
 -- What a program promises that is accepted by the checker of the whole language, in terms of the meaning alone.
 use Rattle.std.specs.Prelude.{◌≡◌, ◌≤◌, ℕ, List, [], ◌∷◌, ◌++◌, length, Bool, true, false, nat_lt, Option, Some, None, slice_get}
-use Rattle.fac_lang.specs.declared.phrase.Height.{Height}
+use Rattle.fac_base.specs.declared.height.Height.{Height}
 use Rattle.fac_lang.specs.declared.program.Program.{Program}
 use Rattle.fac_lang.specs.declared.program.WordDef.{WordDef}
 use Rattle.fac_lang.specs.Phrases.{Phrase, word, Value, fun, Callable}
 use Rattle.fac_lang.specs.World.{World, State, pile}
-use Rattle.fac_lang.specs.Signatures.{Signature, signature, Inputs, no_inputs, value, quoted}
-use Rattle.fac_lang.specs.Effects.{inputs_count, leaving_outs, effect_height, word_height}
+use Rattle.fac_base.specs.Signatures.{Signature, signature, Inputs, no_inputs, value, quoted}
+use Rattle.fac_base.specs.Effects.{inputs_count, leaving_outs, effect_height}
+use Rattle.fac_lang.specs.WordHeights.{word_height}
 use Rattle.fac_lang.specs.Eval.{Result, Done, Failed, Spent, Stuck, run_callable}
 use Rattle.fac_lang.specs.Meaning.{run, start, word_phrase, one_item, is_top_phrase, callable_fits, word_fits}
 use Rattle.fac_lang.specs.RunningLaws.{IsNotStuck}
 use Rattle.fac_lang.specs.Whole.{IsWhole}
-use Rattle.fac_lang.specs.RowVariables.{Row, named_row, leaving_row, effect_inputs, outer_in, outer_out, is_row}
+use Rattle.fac_abs.specs.RowVariables.{Row, named_row, leaving_row, effect_inputs, outer_in, outer_out, is_row}
 use Rattle.fac_check.specs.CallableEffects.{callable_height}
-use Rattle.fac_lang.specs.HeightArithmetic.{fits}
+use Rattle.fac_base.specs.HeightArithmetic.{fits}
 use Rattle.fac_check.specs.Verdicts.{verdict}
 
 -- Of a state soundness needs this alone: each literal array has its address.

@@ -1,15 +1,15 @@
 -- The verdict on each word and on the program.
 use Rattle.std.specs.Prelude.{ℕ, zero, suc, List, [], ◌∷◌, ◌++◌, length, Bool, true, false, ◌&&◌, ◌||◌, not, nat_eq, Option, Some, None, slice_get}
-use Rattle.fac_lang.specs.declared.phrase.Place.{Place}
+use Rattle.fac_base.specs.declared.place.Place.{Place}
 use Rattle.fac_lang.specs.Phrases.{wrd, Phrase, end, then, Item, lit, quot, word, fry}
-use Rattle.fac_lang.specs.Signatures.{Signature, Inputs, no_inputs, value, quoted, Leaving, never, leaves}
-use Rattle.fac_lang.specs.Effects.{inputs_count}
+use Rattle.fac_base.specs.Signatures.{Signature, Inputs, no_inputs, value, quoted, Leaving, never, leaves}
+use Rattle.fac_base.specs.Effects.{inputs_count}
 use Rattle.fac_lang.specs.Substitution.{of_method}
 use Rattle.fac_lang.specs.declared.program.Program.{Program}
 use Rattle.fac_lang.specs.declared.program.WordDef.{WordDef}
 use Rattle.fac_lang.specs.declared.program.Sort.{Sort}
 use Rattle.fac_lang.specs.declared.program.Sort.TheVariants.{Body as body, Past as past, Generic as generic, Method as method}
-use Rattle.fac_lang.specs.RowVariables.{Row, effect_inputs, effect_leaving, outer_in, outer_out, has_rows, bindable, is_row}
+use Rattle.fac_abs.specs.RowVariables.{Row, effect_inputs, effect_leaving, outer_in, outer_out, has_rows, bindable, is_row}
 use Rattle.fac_abs.specs.Marks.{AbstractStack, dead, on, base_eq, unknowns}
 use Rattle.fac_abs.specs.declared.rule.Rule.{Rule}
 use Rattle.fac_abs.specs.declared.rule.Rule.TheVariants.{UndeclaredRecursion, RowDeclaration, MethodEffect, Outputs, MustReturn}
@@ -141,16 +141,18 @@ module _ (P : Program) where
   sort_verdict start w d (method c g t) = ordinary_verdict w (of_method w t) d
   sort_verdict start w d _ = None
 
-  -- the rules that need no walk come first, and stand at the word's name
-  abbrev pub ruled_verdict : Bool → Bool → Bool → ℕ → ℕ → WordDef → Option Broken
-  ruled_verdict true r g start w d = broken_at UndeclaredRecursion d.place
-  ruled_verdict false true g start w d = broken_at RowDeclaration d.place
-  ruled_verdict false false true start w d = broken_at MethodEffect d.place
-  ruled_verdict false false false start w d = sort_verdict start w d d.sort
+  -- The rules that need no walk, each with whether the word breaks it. They come first, in this order, and stand at the word's name.
+  abbrev pub head_rules : ℕ → WordDef → List (Bool × Rule)
+  head_rules w d = (undeclared w d, UndeclaredRecursion) ∷ (bad_rows w d, RowDeclaration) ∷ (bad_generic d.sort d.effect, MethodEffect) ∷ []
+
+  -- by the first of these rules that is broken, and by the walk where none is
+  abbrev pub ruled_verdict : List (Bool × Rule) → ℕ → ℕ → WordDef → Option Broken
+  ruled_verdict [] start w d = sort_verdict start w d d.sort
+  ruled_verdict (r ∷ rs) start w d = elim r.0 [ true ↦ broken_at r.1 d.place | false ↦ ruled_verdict rs start w d ]
 
   -- the verdict on word w
   abbrev pub word_verdict : ℕ → ℕ → WordDef → Option Broken
-  word_verdict start w d = ruled_verdict (undeclared w d) (bad_rows w d) (bad_generic d.sort d.effect) start w d
+  word_verdict start w d = ruled_verdict (head_rules w d) start w d
 
   -- the first refused word, counted from w
   abbrev pub verdict_from : ℕ → ℕ → List WordDef → Option (ℕ × Broken)

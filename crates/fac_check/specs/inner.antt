@@ -7,3 +7,4 @@ pub mod Walking
 pub mod UndeclaredRecursion
 pub mod Alone
 pub mod BrokenRules
+pub mod Searching

@@ -1,13 +1,13 @@
 //! The verdict on each word.
 ghost use Rattle.std.specs.Prelude.{◌≡◌, ◌≤◌, true, false, length, None, IfOk};
 ghost use Rattle.fac_lang.specs.declared.program.Program.{Program as ProgramSeen};
-ghost use Rattle.fac_lang.specs.declared.limits.TheConstants.{MOST_APPLICATIONS, MOST_ITEMS};
+ghost use Rattle.fac_base.specs.declared.limits.TheConstants.{MOST_APPLICATIONS, MOST_EFFECT_NAMES, MOST_ITEMS};
 ghost use Rattle.fac_abs.specs.Marks.{on};
 ghost use Rattle.fac_abs.specs.SeenMarks.{MarksSeen, IsStack, stack_of, base_seen};
 ghost use Rattle.fac_abs.specs.MarkTrees.{Naming};
-ghost use Rattle.fac_lang.specs.Effects.{effect_height};
-ghost use Rattle.fac_lang.specs.RowVariables.{effect_leaving};
-ghost use Rattle.fac_lang.specs.EffectView.{inputs_tree};
+ghost use Rattle.fac_base.specs.Effects.{effect_height};
+ghost use Rattle.fac_abs.specs.RowVariables.{effect_leaving};
+ghost use Rattle.fac_base.specs.EffectView.{inputs_tree};
 ghost use Rattle.fac_check.specs.Verdicts.{any_quoted, end_of, kept_word, no_generic_effect};
 ghost use Rattle.fac_check.specs.inner.BrokenRules.{IsOrdinaryBroken, IsRowBroken, IsTopBroken, IsInlineBroken, IsPhraseBroken, IsWordBroken, bad_rows_so, generic_rule, is_past_sort};
 ghost use Rattle.fac_check.specs.inner.Taken.{takes_all, takes_phrase, takes_word};
@@ -18,11 +18,11 @@ use crate::refusal::{Broken, Refusal};
 use crate::subject::Subject;
 use crate::walker::{Step, Walked, Walker};
 use fac_abs::{Marks, Reached, Rule, same_base};
-use fac_effect::{bindable, has_rows, is_row_word};
-use fac_lang::limits::{MOST_APPLICATIONS, MOST_ITEMS};
-use fac_lang::{Effect, Input, Memory, Phrase, Place, Sort, WordDef};
+use fac_base::limits::{MOST_APPLICATIONS, MOST_ITEMS};
+use fac_base::{Effect, Input, Memory, Place};
+use fac_lang::{Phrase, Sort, WordDef};
 use fac_locals::Closed;
-use fac_rows::{inputs_marks, outer_in, outer_out};
+use fac_rows::{bindable, has_rows, inputs_marks, is_row_word, outer_in, outer_out};
 use std::alloc::Global;
 
 /// The verdict on a word.
@@ -102,108 +102,104 @@ fn top_kept(walked: Walked) -> Option<Broken>
     }
 }
 
-// What an ordinary word with this phrase breaks, which starts from its inputs.
-fn ordinary_broken(
+// A closed program whose words are checked.
+#[derive(Drop)]
+struct Checker<'a> {
     alloc: Global,
-    closed: &Closed,
-    word: &WordDef,
-    phrase: &Phrase,
-) -> Result<Option<Broken>, Memory>
-    requires program { takes_all closed.now.program closed.now.templates ≡ true }
-    requires phrase { takes_phrase closed.now.program.top (length closed.now.templates) phrase.now ≡ true }
-    ensures { IfOk result (λ broken. IsOrdinaryBroken closed.now word.now phrase.now broken) }
-{
-    let own = None;
-    let inner = closed.templates.len();
-    let mut walker = Walker::new(alloc, Subject { closed, own, inner })?;
-    let stack = walker.marks.unknowns(0, word.effect.inputs() as u64)?;
-    let step = first_step(word.place, None, stack);
-    let walked = walker.walk_phrase(phrase, step)?;
-    Ok(kept(&walker.marks, word, None, walked))
+    closed: &'a Closed,
+    ghost taken: { takes_all closed.now.program closed.now.templates ≡ true },
 }
 
-// What a row word with this phrase breaks, which starts from its input row with a mark of its own for each quotation input, and must leave its
-// outputs on its output row.
-fn row_broken(
-    alloc: Global,
-    closed: &Closed,
-    number: u32,
-    word: &WordDef,
-    phrase: &Phrase,
-) -> Result<Option<Broken>, Memory>
-    requires program { takes_all closed.now.program closed.now.templates ≡ true }
-    requires few { (effect_height word.now.effect).ins ≤ 65 }
-    requires phrase { takes_phrase closed.now.program.top (length closed.now.templates) phrase.now ≡ true }
-    ensures { IfOk result (λ broken. IsRowBroken closed.now number word.now phrase.now broken) }
-{
-    let own = Some(number);
-    let inner = closed.templates.len();
-    let mut walker = Walker::new(alloc, Subject { closed, own, inner })?;
-    let stack = inputs_marks(&mut walker.marks, &word.effect)?;
-    let step = first_step(word.place, outer_in(&word.effect), stack);
-    let walked = walker.walk_phrase(phrase, step)?;
-    Ok(kept(&walker.marks, word, outer_out(&word.effect), walked))
-}
-
-// What the top-level word with this phrase breaks, which starts from so many values.
-fn top_broken(
-    alloc: Global,
-    closed: &Closed,
-    place: Place,
-    phrase: &Phrase,
-) -> Result<Option<Broken>, Memory>
-    requires program { takes_all closed.now.program closed.now.templates ≡ true }
-    requires phrase { takes_phrase closed.now.program.top (length closed.now.templates) phrase.now ≡ true }
-    ensures { IfOk result (λ broken. IsTopBroken closed.now phrase.now broken) }
-{
-    let own = None;
-    let inner = closed.templates.len();
-    let mut walker = Walker::new(alloc, Subject { closed, own, inner })?;
-    let stack = walker.marks.unknowns(0, closed.start)?;
-    let step = first_step(place, None, stack);
-    let walked = walker.walk_phrase(phrase, step)?;
-    Ok(top_kept(walked))
-}
-
-// What an inline word with this phrase breaks. An expanded word isn't walked at its definition.
-fn inline_broken(
-    alloc: Global,
-    closed: &Closed,
-    number: u32,
-    word: &WordDef,
-    phrase: &Phrase,
-) -> Result<Option<Broken>, Memory>
-    requires program { takes_all closed.now.program closed.now.templates ≡ true }
-    requires few { (effect_height word.now.effect).ins ≤ 65 }
-    requires phrase { takes_phrase closed.now.program.top (length closed.now.templates) phrase.now ≡ true }
-    ensures { IfOk result (λ broken. IsInlineBroken closed.now number word.now phrase.now broken) }
-{
-    if is_row_word(word) {
-        return row_broken(alloc, closed, number, word, phrase);
+impl<'a> Checker<'a> {
+    // What an ordinary word with this phrase breaks, which starts from its inputs.
+    fn ordinary_broken(&self, word: &WordDef, phrase: &Phrase) -> Result<Option<Broken>, Memory>
+        requires { takes_phrase self.now.closed.now.program.top (length self.now.closed.now.templates) phrase.now ≡ true }
+        ensures { IfOk result (λ broken. IsOrdinaryBroken self.now.closed.now word.now phrase.now broken) }
+    {
+        let closed = self.closed;
+        let own = None;
+        let inner = closed.templates.len();
+        let mut walker = Walker::new(self.alloc, Subject { closed, own, inner })?;
+        let stack = walker.marks.unknowns(0, word.effect.inputs() as u64)?;
+        let step = first_step(word.place, None, stack);
+        let walked = walker.walk_phrase(phrase, step)?;
+        Ok(kept(&walker.marks, word, None, walked))
     }
-    Ok(None)
-}
 
-// What a word with this phrase breaks by its walk.
-fn phrase_broken(
-    alloc: Global,
-    closed: &Closed,
-    number: u32,
-    word: &WordDef,
-    phrase: &Phrase,
-) -> Result<Option<Broken>, Memory>
-    requires program { takes_all closed.now.program closed.now.templates ≡ true }
-    requires few { (effect_height word.now.effect).ins ≤ 65 }
-    requires phrase { takes_phrase closed.now.program.top (length closed.now.templates) phrase.now ≡ true }
-    ensures { IfOk result (λ broken. IsPhraseBroken closed.now number word.now phrase.now broken) }
-{
-    if number == closed.program.top {
-        return top_broken(alloc, closed, word.place, phrase);
+    // What a row word with this phrase breaks, which starts from its input row with a mark of its own for each quotation input, and must leave
+    // its outputs on its output row.
+    fn row_broken(
+        &self,
+        number: u32,
+        word: &WordDef,
+        phrase: &Phrase,
+    ) -> Result<Option<Broken>, Memory>
+        requires few { (effect_height word.now.effect).ins ≤ MOST_EFFECT_NAMES }
+        requires phrase { takes_phrase self.now.closed.now.program.top (length self.now.closed.now.templates) phrase.now ≡ true }
+        ensures { IfOk result (λ broken. IsRowBroken self.now.closed.now number word.now phrase.now broken) }
+    {
+        let closed = self.closed;
+        let own = Some(number);
+        let inner = closed.templates.len();
+        let mut walker = Walker::new(self.alloc, Subject { closed, own, inner })?;
+        let stack = inputs_marks(&mut walker.marks, &word.effect)?;
+        let step = first_step(word.place, outer_in(&word.effect), stack);
+        let walked = walker.walk_phrase(phrase, step)?;
+        Ok(kept(&walker.marks, word, outer_out(&word.effect), walked))
     }
-    if word.inline {
-        return inline_broken(alloc, closed, number, word, phrase);
+
+    // What the top-level word with this phrase breaks, which starts from so many values.
+    fn top_broken(&self, place: Place, phrase: &Phrase) -> Result<Option<Broken>, Memory>
+        requires { takes_phrase self.now.closed.now.program.top (length self.now.closed.now.templates) phrase.now ≡ true }
+        ensures { IfOk result (λ broken. IsTopBroken self.now.closed.now phrase.now broken) }
+    {
+        let closed = self.closed;
+        let own = None;
+        let inner = closed.templates.len();
+        let mut walker = Walker::new(self.alloc, Subject { closed, own, inner })?;
+        let stack = walker.marks.unknowns(0, closed.start)?;
+        let step = first_step(place, None, stack);
+        let walked = walker.walk_phrase(phrase, step)?;
+        Ok(top_kept(walked))
     }
-    ordinary_broken(alloc, closed, word, phrase)
+
+    // What an inline word with this phrase breaks. An expanded word isn't walked at its definition.
+    fn inline_broken(
+        &self,
+        number: u32,
+        word: &WordDef,
+        phrase: &Phrase,
+    ) -> Result<Option<Broken>, Memory>
+        requires few { (effect_height word.now.effect).ins ≤ MOST_EFFECT_NAMES }
+        requires phrase { takes_phrase self.now.closed.now.program.top (length self.now.closed.now.templates) phrase.now ≡ true }
+        ensures { IfOk result (λ broken. IsInlineBroken self.now.closed.now number word.now phrase.now broken) }
+    {
+        if is_row_word(word) {
+            return self.row_broken(number, word, phrase);
+        }
+        Ok(None)
+    }
+
+    // What a word with this phrase breaks by its walk.
+    fn phrase_broken(
+        &self,
+        number: u32,
+        word: &WordDef,
+        phrase: &Phrase,
+    ) -> Result<Option<Broken>, Memory>
+        requires few { (effect_height word.now.effect).ins ≤ MOST_EFFECT_NAMES }
+        requires phrase { takes_phrase self.now.closed.now.program.top (length self.now.closed.now.templates) phrase.now ≡ true }
+        ensures { IfOk result (λ broken. IsPhraseBroken self.now.closed.now number word.now phrase.now broken) }
+    {
+        let closed = self.closed;
+        if number == closed.program.top {
+            return self.top_broken(word.place, phrase);
+        }
+        if word.inline {
+            return self.inline_broken(number, word, phrase);
+        }
+        self.ordinary_broken(word, phrase)
+    }
 }
 
 // Whether a word is an earlier top-level phrase.
@@ -286,9 +282,10 @@ pub fn word_broken(
             place: word.place,
         }));
     }
+    let checker = Checker { alloc, closed };
     match &word.sort {
-        Sort::Body(phrase) => phrase_broken(alloc, closed, number, word, phrase),
-        Sort::Method { body, .. } => ordinary_broken(alloc, closed, word, body),
+        Sort::Body(phrase) => checker.phrase_broken(number, word, phrase),
+        Sort::Method { body, .. } => checker.ordinary_broken(word, body),
         Sort::Generic => Ok(generic_broken(word)),
         _ => Ok(None),
     }

@@ -1,11 +1,11 @@
 //! What an item does to a stack at once.
 ghost use Rattle.std.specs.declared.option.Option.{Option};
 ghost use Rattle.std.specs.Prelude.{◌≡◌, ◌<◌, ◌≤◌, ◌+◌, ◌∷◌, ℕ, suc, Bool, true, false, length, slice_get, Some, IfOk, MatchOption, option_copied};
+ghost use Rattle.fac_base.specs.declared.limits.TheConstants.{MOST_EFFECT_NAMES};
 ghost use Rattle.fac_lang.specs.declared.program.Program.{Program as ProgramSeen};
-ghost use Rattle.fac_lang.specs.Effects.{effect_height};
-ghost use Rattle.fac_lang.specs.CoreWords.{is_built_core};
-ghost use Rattle.fac_lang.specs.Meaning.{c_boa, c_call, c_dip, c_execute, c_if, class_of_word, core_numbered, sort_of};
-ghost use Rattle.fac_lang.specs.Primitives.{built_count};
+ghost use Rattle.fac_base.specs.Effects.{effect_height};
+ghost use Rattle.fac_lang.specs.Meaning.{class_of_word, sort_of};
+ghost use Rattle.fac_lang.specs.Primitives.{built_count, IsOperationOf};
 ghost use Rattle.fac_lang.specs.Phrases.{any, wrd_mark, made as made_item, local as local_item};
 ghost use Rattle.fac_lang.specs.PhraseView.{what_item};
 ghost use Rattle.fac_abs.specs.Marks.{on, piled, curried_mark, composed_mark};
@@ -24,10 +24,12 @@ ghost use Rattle.fac_check.specs.inner.Walking.{DoesIn, DoesItem, DoesWord, Does
 use crate::subject::Subject;
 use crate::walker::Step;
 use fac_abs::{MarkNode, Marks, Reached, Rule};
-use fac_effect::{bindable, is_row_word};
-use fac_lang::{Effect, Height, Memory, Operation, Shape, Sort, What, WordDef, operation_of};
+use fac_base::{Effect, Height, Memory};
+use fac_lang::{CoreWord, Operation, Shape, Sort, Storing, What, WordDef, operation_of};
 use fac_locals::Closed;
-use fac_rows::{Called, known_inputs, own_call as own_call_of, take, take_inputs};
+use fac_rows::{
+    Called, bindable, is_row_word, known_inputs, own_call as own_call_of, take, take_inputs,
+};
 
 /// What an item does at once, with marks and stacks by their numbers. A stack stays on its base, but for `Leaves`.
 #[derive(Clone, Copy)]
@@ -186,7 +188,7 @@ fn compose(marks: &mut Marks, stack: u32) -> Result<Doing, Memory>
 fn call(marks: &Marks, stack: u32) -> Doing
     requires { IsStack marks.now stack }
     ensures there { IsDoing marks.now result }
-    ensures does { (P : ProgramSeen) → DoesAs marks.now marks.now stack result (core_doing P (Some c_call)) }
+    ensures does { (P : ProgramSeen) → DoesAs marks.now marks.now stack result (core_doing P CoreWord.Call) }
 {
     match marks.pop(stack) {
         Some((mark, rest)) => {
@@ -208,7 +210,7 @@ fn call(marks: &Marks, stack: u32) -> Doing
 fn dip(marks: &Marks, stack: u32) -> Doing
     requires { IsStack marks.now stack }
     ensures there { IsDoing marks.now result }
-    ensures does { (P : ProgramSeen) → DoesAs marks.now marks.now stack result (core_doing P (Some c_dip)) }
+    ensures does { (P : ProgramSeen) → DoesAs marks.now marks.now stack result (core_doing P CoreWord.Dip) }
 {
     match pop_two(marks, stack) {
         Some((value, mark, rest)) => {
@@ -240,7 +242,7 @@ fn pop_branches(marks: &Marks, stack: u32) -> Option<(u32, u32, u32)>
 fn branch(marks: &Marks, stack: u32) -> Doing
     requires { IsStack marks.now stack }
     ensures there { IsDoing marks.now result }
-    ensures does { (P : ProgramSeen) → DoesAs marks.now marks.now stack result (core_doing P (Some c_if)) }
+    ensures does { (P : ProgramSeen) → DoesAs marks.now marks.now stack result (core_doing P CoreWord.If) }
 {
     match pop_branches(marks, stack) {
         Some((first, second, stack)) => {
@@ -279,7 +281,7 @@ fn word_of(marks: &Marks, mark: u32) -> Option<u32>
 fn execute(marks: &Marks, stack: u32) -> Doing
     requires { IsStack marks.now stack }
     ensures there { IsDoing marks.now result }
-    ensures does { (P : ProgramSeen) → DoesAs marks.now marks.now stack result (core_doing P (Some c_execute)) }
+    ensures does { (P : ProgramSeen) → DoesAs marks.now marks.now stack result (core_doing P CoreWord.Execute) }
 {
     match marks.pop(stack) {
         Some((mark, rest)) => match word_of(marks, mark) {
@@ -365,7 +367,7 @@ fn boa(closed: &Closed, marks: &mut Marks, stack: u32) -> Result<Doing, Memory>
     requires { IsStack marks.old stack }
     ensures grows { Grows marks.old marks.new }
     ensures there { IfOk result (λ doing. IsDoing marks.new doing) }
-    ensures does { IfOk result (λ doing. DoesIn closed.now marks.old marks.new stack doing (λ P. core_doing P (Some c_boa))) }
+    ensures does { IfOk result (λ doing. DoesIn closed.now marks.old marks.new stack doing (λ P. core_doing P CoreWord.Boa)) }
 {
     match marks.pop(stack) {
         Some((mark, rest)) => match word_of(marks, mark) {
@@ -377,21 +379,40 @@ fn boa(closed: &Closed, marks: &mut Marks, stack: u32) -> Result<Doing, Memory>
 }
 
 // A core word. `cond` is read with its literal, and is known nowhere else.
-fn core(closed: &Closed, marks: &mut Marks, stack: u32, number: u32) -> Result<Doing, Memory>
-    requires stack { IsStack marks.old stack }
-    requires number { is_built_core number ≡ true }
+fn core(closed: &Closed, marks: &mut Marks, stack: u32, word: CoreWord) -> Result<Doing, Memory>
+    requires { IsStack marks.old stack }
     ensures grows { Grows marks.old marks.new }
     ensures there { IfOk result (λ doing. IsDoing marks.new doing) }
-    ensures does { IfOk result (λ doing. DoesIn closed.now marks.old marks.new stack doing (λ P. core_doing P (core_numbered number))) }
+    ensures does { IfOk result (λ doing. DoesIn closed.now marks.old marks.new stack doing (λ P. core_doing P word)) }
 {
-    match number {
-        0 => Ok(call(marks, stack)),
-        1 => Ok(dip(marks, stack)),
-        2 => Ok(branch(marks, stack)),
-        3 => Ok(execute(marks, stack)),
-        4 => boa(closed, marks, stack),
-        9 => Ok(Doing::Breaks(Rule::NotKnown)),
-        _ => unreachable!(),
+    match word {
+        CoreWord::Call => Ok(call(marks, stack)),
+        CoreWord::Dip => Ok(dip(marks, stack)),
+        CoreWord::If => Ok(branch(marks, stack)),
+        CoreWord::Execute => Ok(execute(marks, stack)),
+        CoreWord::Boa => boa(closed, marks, stack),
+        CoreWord::Cond => Ok(Doing::Breaks(Rule::NotKnown)),
+    }
+}
+
+// A primitive that works with the store, where this is how many values its word takes and leaves by its effect.
+fn storing(
+    marks: &mut Marks,
+    stack: u32,
+    number: u32,
+    operation: Storing,
+    height: Height,
+) -> Result<Doing, Memory>
+    requires stack { IsStack marks.old stack }
+    requires operation { IsOperationOf number (Operation.Storing operation) }
+    ensures grows { Grows marks.old marks.new }
+    ensures there { IfOk result (λ doing. IsDoing marks.new doing) }
+    ensures does { IfOk result (λ doing. DoesPrimitive marks.old marks.new stack number height doing) }
+{
+    match operation {
+        Storing::Curry => curry(marks, stack),
+        Storing::Compose => compose(marks, stack),
+        _ => by_height(marks, stack, height),
     }
 }
 
@@ -405,8 +426,7 @@ fn primitive(marks: &mut Marks, stack: u32, number: u32, height: Height) -> Resu
 {
     match operation_of(number) {
         Operation::Shuffle { takes, leaves } => shuffle(marks, stack, takes, leaves),
-        Operation::Curry => curry(marks, stack),
-        Operation::Compose => compose(marks, stack),
+        Operation::Storing(operation) => storing(marks, stack, number, operation, height),
         _ => by_height(marks, stack, height),
     }
 }
@@ -439,7 +459,7 @@ fn own_call(
     stack: u32,
     effect: &Effect,
 ) -> Result<Doing, Memory>
-    requires few { (effect_height effect.now).ins ≤ 65 }
+    requires few { (effect_height effect.now).ins ≤ MOST_EFFECT_NAMES }
     requires stack { IsStack marks.old stack }
     ensures grows { Grows marks.old marks.new }
     ensures there { IfOk result (λ doing. IsDoing marks.new doing) }
@@ -541,7 +561,7 @@ fn word_item(
         Sort::Prim(primitive_number) => {
             primitive(marks, stack, *primitive_number, height_of(word))
         }
-        Sort::Core(core_number) => core(subject.closed, marks, stack, *core_number),
+        Sort::Core(core_word) => core(subject.closed, marks, stack, *core_word),
         Sort::Body(_) => defined(marks, subject.own, base, stack, number, word),
         Sort::Itself | Sort::Class(_) => reference(marks, stack, number),
         Sort::Isa(_) | Sort::Getter(_) | Sort::Setter(_) | Sort::Putter(_) | Sort::Generic => {

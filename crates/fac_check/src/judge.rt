@@ -7,7 +7,7 @@ use crate::Checked;
 use crate::checker::{Verdict, word_broken};
 use crate::recursion::undeclared_words;
 use crate::refusal::Refusal;
-use fac_lang::{List, Memory};
+use fac_base::{List, Memory};
 use fac_locals::Closed;
 use std::alloc::Global;
 

@@ -9,7 +9,9 @@ mod judge;
 mod laws;
 mod recursion;
 mod refusal;
+mod searching;
 mod subject;
+mod template_effects;
 mod template_walk;
 mod walker;
 
@@ -23,4 +25,5 @@ pub use laws::{
 };
 pub use recursion::undeclared_words;
 pub use refusal::{Broken, Refusal};
+pub use template_effects::effects;
 pub use template_walk::walk_template;

@@ -7,8 +7,9 @@ ghost use Rattle.fac_check.specs.inner.UndeclaredRecursion.{item_names, phrase_n
 ghost use Rattle.fac_check.specs.inner.UndeclaredRecursion.{AddsTemplates, AddsNames, LedBy, LedByPhrase, AreEdges};
 ghost use Rattle.fac_check.specs.Judged.{AreUndeclared, StandsForWhole};
 
+use fac_base::{List, Memory};
 use fac_graph::leading_back;
-use fac_lang::{List, Memory, Phrase, Sort, What, WordDef};
+use fac_lang::{Phrase, Sort, What, WordDef};
 use fac_locals::Closed;
 use std::alloc::Global;
 

@@ -1,6 +1,6 @@
 //! Broken rules and refusals.
 use fac_abs::Rule;
-use fac_lang::Place;
+use fac_base::Place;
 
 /// A broken rule, and where.
 #[derive(Clone, Copy, Debug, PartialEq, Eq)]

@@ -2,7 +2,7 @@
 ghost use Rattle.std.specs.Prelude.{◌≡◌, option_copied};
 ghost use Rattle.fac_check.specs.inner.OwnEffects.{own_effect};
 
-use fac_lang::Effect;
+use fac_base::Effect;
 use fac_locals::Closed;
 
 /// A closed program, and which of its words is checked, or which of its templates is walked by itself.

@@ -1,6 +1,6 @@
 //! Templates whose phrases are walked by themselves.
 ghost use Rattle.std.specs.Prelude.{◌≡◌, ◌<◌, [], true, length, None, IfOk};
-ghost use Rattle.fac_lang.specs.declared.limits.TheConstants.{MOST_APPLICATIONS, MOST_ITEMS};
+ghost use Rattle.fac_base.specs.declared.limits.TheConstants.{MOST_APPLICATIONS, MOST_ITEMS};
 ghost use Rattle.fac_abs.specs.Marks.{unknowns};
 ghost use Rattle.fac_abs.specs.MarkTrees.{Naming};
 ghost use Rattle.fac_abs.specs.MarkPromises.{IsFrameOf};
@@ -12,8 +12,8 @@ ghost use Rattle.fac_check.specs.inner.Walking.{IsWalked, walked_seen};
 use crate::subject::Subject;
 use crate::walker::{Step, Walked, Walker, cells_of};
 use fac_abs::{Marks, Reached};
-use fac_lang::limits::{MOST_APPLICATIONS, MOST_ITEMS};
-use fac_lang::{Height, Memory, Place};
+use fac_base::limits::{MOST_APPLICATIONS, MOST_ITEMS};
+use fac_base::{Height, Memory, Place};
 use fac_locals::Closed;
 use std::alloc::Global;
 

@@ -3,6 +3,7 @@ ghost use Rattle.std.specs.declared.option.Option.{Option};
 ghost use Rattle.std.specs.Prelude.{◌≡◌, ◌<◌, ◌≤◌, ◌-◌, ◌+◌, [], true, suc, Some, None, length, slice_get, IfOk, MatchResult, MatchOption};
 ghost use Rattle.fac_abs.specs.MarkPromises.{IsMarkOf, IsFrameOf, IsStackOf};
 ghost use Rattle.fac_abs.specs.SeenMarks.{IsMark, IsFrame, IsStack, IsReached, Grows, mark_of, frame_of, stack_of, reached_seen};
+ghost use Rattle.fac_base.specs.declared.limits.TheConstants.{MOST_EFFECT_NAMES};
 ghost use Rattle.fac_lang.specs.Meaning.{nowhere as no_place};
 ghost use Rattle.fac_lang.specs.PhraseView.{what_item};
 ghost use Rattle.fac_abs.specs.MarkTrees.{Naming};
@@ -13,15 +14,16 @@ ghost use Rattle.fac_check.specs.inner.Alone.{TellsLiteral};
 ghost use Rattle.fac_check.specs.inner.Walking.{IsDoingOf, IsActOf, is_defined, IsWalked, IsWithin, IsBelow, AreMarks, Admits, Enters, IsItemRule, IsWalkOfCounted, walked_seen, marks_of_option};
 ghost use Rattle.fac_check.specs.inner.Walking.{IsWalkOf, IsWalkOfPhrase, IsWalkOfItem, IsWalkOfDoing, IsWalkOfOne, NamesLocal, frame_behind, literal_walk, word_walk, curried_walk, part_walk, composed_walk, mark_walk, callable_walk, fork_walk};
 ghost use Rattle.fac_check.specs.inner.Walking.{IsFirstRule, IsInputRule, IsInputsRule, IsUseRule, effect_of, called_walk, use_walk, effect_walk, start_walk, AreWithin, AreBound, AreWalkedInputs, IsWalkedInput, IsWalkedQuotation};
-ghost use Rattle.fac_lang.specs.EffectView.{inputs_tree};
-ghost use Rattle.fac_lang.specs.Effects.{effect_height};
+ghost use Rattle.fac_base.specs.EffectView.{inputs_tree};
+ghost use Rattle.fac_base.specs.Effects.{effect_height};
 ghost use Rattle.fac_rows.specs.SeenBindings.{IsBinding};
 
 use crate::doing::{Doing, Executed, count, follow, item_doing};
 use crate::refusal::Broken;
 use crate::subject::Subject;
 use fac_abs::{MarkNode, Marks, Reached, Rule};
-use fac_lang::{Effect, Input, Memory, Phrase, Place, Sort, Template, What};
+use fac_base::{Effect, Input, Memory, Place};
+use fac_lang::{Phrase, Sort, Template, What};
 use fac_locals::Closed;
 use fac_rows::{Binding, Called, par, par_rule};
 use std::alloc::Global;
@@ -805,7 +807,7 @@ impl<'a> Walker<'a> {
         binding: &mut Binding<'a>,
         step: Step,
     ) -> Result<InputsWalked, Memory>
-        requires few { length list.now ≤ 65 }
+        requires few { length list.now ≤ MOST_EFFECT_NAMES }
         requires inputs { IsStack self.old.marks inputs }
         requires binding { IsBinding self.old.marks binding.old }
         ensures subject { self.new.subject ≡ self.old.subject }
@@ -840,7 +842,7 @@ impl<'a> Walker<'a> {
     // Walks a use of a row word with this effect, by the stack of the marks of its inputs, the deepest on top. The step has the rest.
     #[cycle(walk)]
     fn walk_effect(&mut self, effect: &'a Effect, inputs: u32, step: Step) -> Result<Walked, Memory>
-        requires few { (effect_height effect.now).ins ≤ 65 }
+        requires few { (effect_height effect.now).ins ≤ MOST_EFFECT_NAMES }
         requires inputs { IsStack self.old.marks inputs }
         requires stack { IsStack self.old.marks step.stack }
         ensures subject { self.new.subject ≡ self.old.subject }

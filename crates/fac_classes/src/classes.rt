@@ -10,7 +10,8 @@ use crate::kind_table::kind_table;
 use crate::order::places_of;
 use crate::own_kinds::{FIRST_OWN, own_kinds, owners};
 use crate::slots::slots_of;
-use fac_lang::{ClassDef, Duplicate, List, Memory, Program, Text};
+use fac_base::{Duplicate, List, Memory, Text};
+use fac_lang::{ClassDef, Program};
 use std::alloc::Global;
 use std::marker::Model;
 

@@ -9,7 +9,8 @@ ghost use Rattle.fac_classes.specs.inner.Filling.{JoinsUnions};
 use crate::built_ins::lay_built_ins;
 use crate::own_marks::mark_owners;
 use crate::unions::join_unions;
-use fac_lang::{ClassDef, Memory};
+use fac_base::Memory;
+use fac_lang::ClassDef;
 use std::alloc::Global;
 
 // Marks all kinds of all classes in a blank table.

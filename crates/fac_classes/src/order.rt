@@ -6,7 +6,8 @@ ghost use Rattle.fac_classes.specs.inner.Cells.{IsTable};
 ghost use Rattle.fac_classes.specs.inner.Ordering.{cell_count, key_of, IsAscending, key_seen, HasPlaces, IsOnce};
 
 use crate::cells::is_marked;
-use fac_lang::{ClassDef, Memory, Name};
+use fac_base::{Memory, Name};
+use fac_lang::ClassDef;
 use std::alloc::Global;
 
 // How many kinds are marked for a class.

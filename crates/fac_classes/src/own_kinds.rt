@@ -4,7 +4,8 @@ ghost use Rattle.fac_lang.specs.Classes.{shape_with, is_tuple, is_single};
 ghost use Rattle.fac_classes.specs.inner.OwnKinds.{own_kinds as own_kinds_seen, owners_from};
 
 use crate::shapes::{has_own_kind, is_singleton, is_tuple_class};
-use fac_lang::{ClassDef, Memory};
+use fac_base::Memory;
+use fac_lang::ClassDef;
 use std::alloc::Global;
 
 /// The number of the first kind that a class has as its own.

@@ -4,7 +4,8 @@ ghost use Rattle.fac_lang.specs.Classes.{shape_at, slots_within};
 ghost use Rattle.fac_classes.specs.inner.Chains.{chain_within, slots_in, slots_down};
 
 use crate::shapes::parent_of;
-use fac_lang::{ClassDef, Duplicate, List, Memory, Shape, Text};
+use fac_base::{Duplicate, List, Memory, Text};
+use fac_lang::{ClassDef, Shape};
 use std::alloc::Global;
 
 // The slots of a class without those of its parents.

@@ -9,7 +9,8 @@ ghost use Rattle.fac_classes.specs.inner.Visits.{IsOrder};
 use crate::cells::join;
 use crate::shapes::members_of;
 use crate::visits::class_order;
-use fac_lang::{ClassDef, Memory};
+use fac_base::Memory;
+use fac_lang::ClassDef;
 use std::alloc::Global;
 
 // Whether the row of a member was last joined to that of this union.

@@ -6,7 +6,8 @@ ghost use Rattle.fac_classes.specs.inner.Members.{AreSound};
 ghost use Rattle.fac_classes.specs.inner.Visits.{visits_of, IsOrder, Walks, StepsTo};
 
 use crate::shapes::members_of;
-use fac_lang::{ClassDef, Memory};
+use fac_base::Memory;
+use fac_lang::ClassDef;
 use std::alloc::Global;
 
 // What is to be done with a class.

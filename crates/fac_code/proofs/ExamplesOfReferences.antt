@@ -1,6 +1,7 @@
 -- Which tables and code are those of an image, computed.
 use Rattle.std.proofs.Common.{◌≡◌, ℕ, List, [], ◌∷◌, Bool, true, false, Some, None, refl}
-use Rattle.std.specs.Prelude.{codes}
+use Rattle.std.specs.Prelude.{◌-◌, codes}
+use Rattle.fac_lang.specs.declared.core_table.CoreWord.TheVariants.{If, Execute, Cond}
 use Rattle.fac_lang.specs.Primitives.{built_count}
 use Rattle.fac_code.specs.declared.image.Instr.{Instr}
 use Rattle.fac_code.specs.declared.image.Instr.TheVariants.{Halt, Text, Array, Word, Quot, Prim, Callw, CallEffect, Callp, Jump, Branch, Ret, Generic, Next, Isa}
@@ -26,7 +27,7 @@ plain_tables arrays templates words texts = record { texts = texts; arrays = arr
 
 -- with a first instruction, a template's place, a word's action and a start; word 0 is `+`, word 1 is `if`, word 2 is the code at 3
 abbrev with_parts : Instr → ℕ → Action → ℕ → Bool
-with_parts i entry a start = is_image (plain_tables [] (template 3 0 ∷ template entry 2 ∷ []) (does (prim_action 26) ∷ does (core_action 2) ∷ does (code_action 3) ∷ does a ∷ []) (codes "a" ∷ [])) (i ∷ Callw 2 false ∷ Halt ∷ Ret ∷ []) start
+with_parts i entry a start = is_image (plain_tables [] (template 3 0 ∷ template entry 2 ∷ []) (does (prim_action 26) ∷ does (core_action If) ∷ does (code_action 3) ∷ does a ∷ []) (codes "a" ∷ [])) (i ∷ Callw 2 false ∷ Halt ∷ Ret ∷ []) start
 
 pub an_image : with_parts (Quot 0) 3 (code_action 0) 0 ≡ true
 unfolding built_count
@@ -95,23 +96,23 @@ unfolding built_count
 call_of_no_word = refl
 
 -- primitives and core words that the machine has
-a_primitive : with_parts (Prim 60) 3 (prim_action 22) 0 ≡ true
+a_primitive : with_parts (Prim (built_count - 1)) 3 (prim_action 22) 0 ≡ true
 unfolding built_count
 a_primitive = refl
 
-word_of_no_primitive : with_parts (Quot 0) 3 (prim_action 61) 0 ≡ false
+word_of_no_primitive : with_parts (Quot 0) 3 (prim_action built_count) 0 ≡ false
 unfolding built_count
 word_of_no_primitive = refl
 
-no_primitive : with_parts (Prim 61) 3 (code_action 0) 0 ≡ false
+no_primitive : with_parts (Prim built_count) 3 (code_action 0) 0 ≡ false
 unfolding built_count
 no_primitive = refl
 
-word_of_a_core_word : with_parts (Quot 0) 3 (core_action 3) 0 ≡ true
+word_of_a_core_word : with_parts (Quot 0) 3 (core_action Execute) 0 ≡ true
 unfolding built_count
 word_of_a_core_word = refl
 
-word_of_no_core_word : with_parts (Quot 0) 3 (core_action 5) 0 ≡ false
+word_of_no_core_word : with_parts (Quot 0) 3 (core_action Cond) 0 ≡ false
 unfolding built_count
 word_of_no_core_word = refl
 

@@ -1,3 +1,4 @@
 pub mod ExamplesOfReferences
 pub mod ExamplesOfNames
+pub mod InstrRowLemmas
 mod LookupLemmas

@@ -1,3 +1,5 @@
+pub mod InstrRows
+pub mod TrapTexts
 pub mod Code
 pub mod References
 pub mod Images

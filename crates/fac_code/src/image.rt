@@ -3,7 +3,8 @@ ghost use Rattle.std.specs.Prelude.{◌≡◌, true};
 ghost use Rattle.fac_code.specs.Code.{has_built_code};
 ghost use Rattle.fac_code.specs.References.{refers as all_refer};
 
-use fac_lang::{Height, List, Text};
+use fac_base::{Height, List, Text};
+use fac_lang::CoreWord;
 
 /// An instruction.
 #[derive(Clone, Copy, Debug, PartialEq, Eq)]
@@ -128,8 +129,8 @@ pub enum Instr {
 pub enum Action {
     /// The primitive of this number.
     Prim(u32),
-    /// The core word of this number: 0 is `call`, 1 is `dip`, 2 is `if`, 3 is `execute` and 4 is `boa`.
-    Core(u32),
+    /// A core word, but not `cond`.
+    Core(CoreWord),
     /// The code at this place.
     Code(u32),
     /// Pushes the word itself.

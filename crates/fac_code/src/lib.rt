@@ -2,6 +2,7 @@
 #![tactic(auto)]
 
 mod image;
+mod instr_row;
 mod lookups;
 mod making;
 mod method_numbers;
@@ -11,4 +12,5 @@ mod references;
 pub use image::{
     Action, Elem, GenericRow, Image, Instr, KindRow, MethodRow, Tables, TemplateRow, WordRow,
 };
+pub use instr_row::{INSTR_COUNT, InstrRow, Operand, Referent};
 pub use names::TrapWhy;

@@ -3,7 +3,7 @@ ghost use Rattle.fac_code.specs.Images.{IsImageWhere};
 
 use crate::references::{are_built, refers};
 use crate::{Image, Instr, Tables};
-use fac_lang::List;
+use fac_base::List;
 use std::alloc::Global;
 
 impl Image {

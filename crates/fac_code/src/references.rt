@@ -2,12 +2,15 @@
 ghost use Rattle.std.specs.Prelude.{◌≡◌, ◌&&◌, length, nat_le, nat_lt, slice_get};
 ghost use Rattle.std.specs.List.{list_all};
 ghost use Rattle.fac_code.specs.Code.{is_built_instr, has_built_code};
-ghost use Rattle.fac_code.specs.References.{is_code as does_code, names_code, names_quotation, names_constant, instr_refers, place_refers, places_refer, elem_refers, arrays_refer, action_refers, word_refers, template_refers, texts_refer, slots_refer, kind_refers, is_kind, set_refers, method_refers, generic_refers, pairs_refer, tables_refer, refers as all_refer};
+ghost use Rattle.fac_code.specs.References.{is_code as does_code, names_code, names_quotation, names_constant, number_refers, instr_refers, number_places, place_refers, places_refer, elem_refers, arrays_refer, action_refers, word_refers, template_refers, texts_refer, slots_refer, kind_refers, is_kind, set_refers, method_refers, generic_refers, pairs_refer, tables_refer, refers as all_refer};
 ghost use Rattle.fac_code.specs.inner.MethodNumbers.{AreNumbersOf};
 
 use crate::method_numbers::MethodNumbers;
-use crate::{Action, Elem, GenericRow, Instr, KindRow, MethodRow, Tables, WordRow};
-use fac_lang::{List, is_primitive};
+use crate::{
+    Action, Elem, GenericRow, Instr, KindRow, MethodRow, Operand, Referent, Tables, WordRow,
+};
+use fac_base::List;
+use fac_lang::{CoreWord, is_primitive};
 use std::alloc::Global;
 
 // Whether a word does code.
@@ -96,45 +99,54 @@ fn all_arrays_refer(tables: &Tables, arrays: &[List<Elem>]) -> bool
     true
 }
 
-// Whether what an instruction names is there, where these are the numbers of the methods.
+// Whether the number of an instruction is that of something in the tables, where these are the numbers of the methods.
+fn refers_number(tables: &Tables, numbers: &MethodNumbers, referent: Referent, number: u32) -> bool
+    requires { AreNumbersOf tables.now.generics numbers.now }
+    ensures { result ≡ number_refers tables.now referent number }
+{
+    match referent {
+        Referent::CodeWord => is_code_word(tables, number),
+        Referent::Quotation => is_quotation(tables, number),
+        Referent::Template => number < tables.templates.len(),
+        Referent::Text => number < tables.texts.len(),
+        Referent::Array => number < tables.arrays.len(),
+        Referent::Word => number < tables.words.len(),
+        Referent::Set => number < tables.sets.len(),
+        Referent::Generic => number < tables.generics.len(),
+        Referent::Method => numbers.has(tables.generics.as_slice(), number),
+        Referent::Count | Referent::Primitive | Referent::Place | Referent::Farther => true,
+    }
+}
+
+// Whether what an instruction names is in the tables, where these are the numbers of the methods.
 fn refers_instr(tables: &Tables, numbers: &MethodNumbers, instr: Instr) -> bool
     requires { AreNumbersOf tables.now.generics numbers.now }
     ensures { result ≡ instr_refers tables.now instr }
 {
-    match instr {
-        Instr::Callw { word, .. } => is_code_word(tables, word),
-        Instr::Quot(template) => is_quotation(tables, template),
-        Instr::Fry(template) => template < tables.templates.len(),
-        Instr::Text(number) | Instr::Get(number) | Instr::Set(number) | Instr::Put(number) => {
-            number < tables.texts.len()
-        }
-        Instr::Array(number) => number < tables.arrays.len(),
-        Instr::Word(number) => number < tables.words.len(),
-        Instr::Isa(set) => set < tables.sets.len(),
-        Instr::Generic { generic, .. } => generic < tables.generics.len(),
-        Instr::Next { method, .. } => numbers.has(tables.generics.as_slice(), method),
-        Instr::Halt
-        | Instr::Tick(_)
-        | Instr::Int(_)
-        | Instr::True
-        | Instr::False
-        | Instr::Prim(_)
-        | Instr::Call { .. }
-        | Instr::Dip
-        | Instr::If { .. }
-        | Instr::Execute { .. }
-        | Instr::CallEffect { .. }
-        | Instr::ExecuteEffect { .. }
-        | Instr::Callp { .. }
-        | Instr::Ret
-        | Instr::Hold
-        | Instr::Back
-        | Instr::Jump(_)
-        | Instr::Branch(_)
-        | Instr::Boa
-        | Instr::Bind
-        | Instr::Local(_)
-        | Instr::Unbind(_) => true,
+    match instr.row().operand {
+        Operand::Number(referent, number) => refers_number(tables, numbers, referent, number),
+        Operand::Nothing | Operand::Integer(_) | Operand::Height(_) => true,
+    }
+}
+
+// Whether a number of the instruction at a place is in the code where it is a place there, and behind the instruction where it is to be.
+fn places_number(size: usize, at: usize, referent: Referent, number: u32) -> bool
+    ensures { result ≡ number_places size at referent number }
+{
+    match referent {
+        Referent::Place => (number as usize) < size,
+        Referent::Farther => at < number as usize && (number as usize) < size,
+        Referent::CodeWord
+        | Referent::Quotation
+        | Referent::Template
+        | Referent::Text
+        | Referent::Array
+        | Referent::Word
+        | Referent::Set
+        | Referent::Generic
+        | Referent::Method
+        | Referent::Count
+        | Referent::Primitive => true,
     }
 }
 
@@ -142,10 +154,9 @@ fn refers_instr(tables: &Tables, numbers: &MethodNumbers, instr: Instr) -> bool
 fn refers_place(size: usize, at: usize, instr: Instr) -> bool
     ensures { result ≡ place_refers size at instr }
 {
-    match instr {
-        Instr::Callp { place, .. } => (place as usize) < size,
-        Instr::Jump(place) | Instr::Branch(place) => at < place as usize && (place as usize) < size,
-        _ => true,
+    match instr.row().operand {
+        Operand::Number(referent, number) => places_number(size, at, referent, number),
+        Operand::Nothing | Operand::Integer(_) | Operand::Height(_) => true,
     }
 }
 
@@ -155,7 +166,8 @@ fn refers_action(tables: &Tables, size: usize, action: Action) -> bool
 {
     match action {
         Action::Prim(number) => is_primitive(number),
-        Action::Core(number) => number < 5,
+        Action::Core(CoreWord::Cond) => false,
+        Action::Core(_) => true,
         Action::Code(place) => (place as usize) < size,
         Action::Itself => true,
         Action::Generic(generic) => generic < tables.generics.len(),
@@ -375,45 +387,13 @@ pub fn refers(alloc: Global, tables: &Tables, code: &[Instr], start: u32) -> boo
         && (start as usize) < code.len()
 }
 
-// Whether the machine has the primitive of an instruction, where it is one.
+// Whether the machine has the primitive of an instruction, where it does one.
 fn is_built(instr: Instr) -> bool
     ensures { result ≡ is_built_instr instr }
 {
-    match instr {
-        Instr::Prim(number) => is_primitive(number),
-        Instr::Halt
-        | Instr::Tick(_)
-        | Instr::Int(_)
-        | Instr::True
-        | Instr::False
-        | Instr::Text(_)
-        | Instr::Array(_)
-        | Instr::Word(_)
-        | Instr::Quot(_)
-        | Instr::Fry(_)
-        | Instr::Bind
-        | Instr::Local(_)
-        | Instr::Unbind(_)
-        | Instr::Callw { .. }
-        | Instr::Call { .. }
-        | Instr::Dip
-        | Instr::If { .. }
-        | Instr::Execute { .. }
-        | Instr::CallEffect { .. }
-        | Instr::ExecuteEffect { .. }
-        | Instr::Callp { .. }
-        | Instr::Ret
-        | Instr::Hold
-        | Instr::Back
-        | Instr::Jump(_)
-        | Instr::Branch(_)
-        | Instr::Boa
-        | Instr::Get(_)
-        | Instr::Set(_)
-        | Instr::Put(_)
-        | Instr::Isa(_)
-        | Instr::Generic { .. }
-        | Instr::Next { .. } => true,
+    match instr.primitive() {
+        Some(number) => is_primitive(number),
+        None => true,
     }
 }
 

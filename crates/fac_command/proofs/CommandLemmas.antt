@@ -1,11 +1,6 @@
--- The words of a command line.
-use Rattle.std.proofs.Common.{◌≡◌, ◌≤◌, ◌<◌, ◌+◌, ◌*◌, ◌^◌, ℕ, suc, List, map, take, drop, sym, ap, ◌∙◌, arith}
-use Rattle.std.specs.List.{drop-map}
+-- Numbers of so many digits.
+use Rattle.std.proofs.Common.{◌≡◌, ◌≤◌, ◌<◌, ◌+◌, ◌*◌, ◌^◌, ℕ, suc, arith}
 use Rattle.std.proofs.Math.Nat.{pow-suc, pow-le-pow_right}
-use Rattle.std.proofs.lemmas.List.{take-map}
-
-pub map_range : {A B : Type 0} (f : A → B) (n k : ℕ) (xs : List A) → map f (take n (drop k xs)) ≡ take n (drop k (map f xs))
-map_range f n k xs = sym (take-map f n (drop k xs)) ∙ ap (take n) (sym (drop-map f k xs))
 
 -- one more digit
 pub digit_more : (n k d : ℕ) → n < 10 ^ k → d < 10 → n * 10 + d < 10 ^ (k + 1)

@@ -1,23 +1,23 @@
 -- Command lines, with the commands that they ask for.
 use Rattle.std.proofs.Common.{◌≡◌, [], ◌∷◌, None, Some, refl}
 use Rattle.std.specs.Prelude.{codes}
-use Rattle.fac_command.specs.Command.{command_of, names_of}
-use Rattle.fac_command.specs.declared.command.Command.TheVariants.{Check, Run, Build, Exec, List as ListCode}
+use Rattle.fac_command.specs.Command.{command_of, check, run, run_stack, build, exec, list}
 
 -- check a b
-pub checks : command_of (codes "check" ∷ codes "a" ∷ codes "b" ∷ []) ≡ Some (Check 1 3)
+pub checks : command_of (codes "check" ∷ codes "a" ∷ codes "b" ∷ []) ≡ Some (check (codes "a" ∷ codes "b" ∷ []))
 checks = refl
 
 -- run --steps 007 a
-pub runs : command_of (codes "run" ∷ codes "--steps" ∷ codes "007" ∷ codes "a" ∷ []) ≡ Some (Run 7 3 4)
+pub runs : command_of (codes "run" ∷ codes "--steps" ∷ codes "007" ∷ codes "a" ∷ []) ≡ Some (run 7 (codes "a" ∷ []))
 runs = refl
 
--- build a b -o i: the files stand from 1 on, and the image's name at 4
-pub builds : command_of (codes "build" ∷ codes "a" ∷ codes "b" ∷ codes "-o" ∷ codes "i" ∷ []) ≡ Some (Build 1 3 4)
-builds = refl
+-- run --stack a
+pub runs_and_lists : command_of (codes "run" ∷ codes "--stack" ∷ codes "a" ∷ []) ≡ Some (run_stack 100000000 (codes "a" ∷ []))
+runs_and_lists = refl
 
-pub files_of_build : names_of (codes "build" ∷ codes "a" ∷ codes "b" ∷ codes "-o" ∷ codes "i" ∷ []) (Build 1 3 4) ≡ codes "a" ∷ codes "b" ∷ []
-files_of_build = refl
+-- build a b -o i: the files are a and b, and the image's name is i
+pub builds : command_of (codes "build" ∷ codes "a" ∷ codes "b" ∷ codes "-o" ∷ codes "i" ∷ []) ≡ Some (build (codes "a" ∷ codes "b" ∷ []) (codes "i"))
+builds = refl
 
 -- no files; no `-o`; an image whose name begins with `-`; two images
 pub no_files : command_of (codes "build" ∷ codes "-o" ∷ codes "i" ∷ []) ≡ None
@@ -33,11 +33,11 @@ pub two_names : command_of (codes "build" ∷ codes "a" ∷ codes "-o" ∷ codes
 two_names = refl
 
 -- exec i
-pub executes : command_of (codes "exec" ∷ codes "i" ∷ []) ≡ Some (Exec 100000000 1)
+pub executes : command_of (codes "exec" ∷ codes "i" ∷ []) ≡ Some (exec 100000000 (codes "i"))
 executes = refl
 
 -- exec --steps 12 i
-pub executes_within : command_of (codes "exec" ∷ codes "--steps" ∷ codes "12" ∷ codes "i" ∷ []) ≡ Some (Exec 12 3)
+pub executes_within : command_of (codes "exec" ∷ codes "--steps" ∷ codes "12" ∷ codes "i" ∷ []) ≡ Some (exec 12 (codes "i"))
 executes_within = refl
 
 -- exec a b, and exec --steps 12
@@ -48,7 +48,7 @@ pub no_image : command_of (codes "exec" ∷ codes "--steps" ∷ codes "12" ∷ [
 no_image = refl
 
 -- list i
-pub lists : command_of (codes "list" ∷ codes "i" ∷ []) ≡ Some (ListCode 1)
+pub lists : command_of (codes "list" ∷ codes "i" ∷ []) ≡ Some (list (codes "i"))
 lists = refl
 
 -- list, and other words

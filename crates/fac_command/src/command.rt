@@ -1,62 +1,41 @@
 //! The command line.
-ghost use Rattle.std.specs.Prelude.{◌≡◌, ◌≤◌, ◌+◌, ◌∷◌, IfSome, length, map, string_bytes};
-ghost use Rattle.fac_command.specs.Command.{StandAmong, build_of, check_of, command_of, exec_by, exec_of, list_of, name_at, names_of, number_behind, on_files, on_image, plain_run_of, run_by, run_of, steps_of};
-ghost use Rattle.fac_command.specs.declared.command.Command.TheVariants.{Run, RunStack, Exec};
-ghost use Rattle.fac_command.specs.Command.{is_file_name as is_name, are_files as are_names};
+ghost use Rattle.std.specs.Prelude.{◌≡◌, ◌≤◌, ◌+◌, ◌∷◌, length, map, string_bytes};
+ghost use Rattle.std.specs.Option.{option_map};
+ghost use Rattle.fac_command.specs.Command.{build_of, check_of, command_of, exec_by, exec_of, files_of, list_of, number_behind, on_files, on_image, plain_run_of, run_by, run_of, steps_of};
+ghost use Rattle.fac_command.specs.Command.{is_file_name as is_name, are_files as are_names, run as run_asked, run_stack as run_stack_asked, exec as exec_asked};
+ghost use Rattle.fac_command.specs.SeenCommands.{command_seen};
 
-use fac_lang::limits::{MOST_STEPS, MOST_STEPS_DIGITS, TICKS};
+use fac_base::limits::{MOST_STEPS, MOST_STEPS_DIGITS, TICKS};
 
-/// What the words of a command line ask for. FILES are the words from the position `first` on that stand before the position `end`. The
-/// words don't have the program's name.
+/// What the words of a command line ask for. The files and the image of a command are words of the command line.
 #[derive(Clone, Copy, Debug, PartialEq, Eq)]
-pub enum Command {
-    /// Compiles FILES, and tells how many definitions they have.
-    Check {
-        first: usize,
-        end: usize,
-    },
-    /// Compiles FILES and runs them with a budget of so many ticks.
-    Run {
-        steps: u64,
-        first: usize,
-        end: usize,
-    },
+pub enum Command<'a> {
+    /// Compiles these files, and tells how many definitions they have.
+    Check { files: &'a [String] },
+    /// Compiles these files and runs them with a budget of so many ticks.
+    Run { steps: u64, files: &'a [String] },
     /// The same, and where the run is done it then writes each value of the stack on a line, from the bottom to the top.
-    RunStack {
-        steps: u64,
-        first: usize,
-        end: usize,
-    },
-    /// Compiles FILES and saves their image under the word at the position `image`.
-    Build {
-        first: usize,
-        end: usize,
-        image: usize,
-    },
-    /// Runs the image that the word at the position `image` names, with a budget of so many ticks.
-    Exec {
-        steps: u64,
-        image: usize,
-    },
+    RunStack { steps: u64, files: &'a [String] },
+    /// Compiles these files and saves their image under this name.
+    Build { files: &'a [String], image: &'a str },
+    /// Runs the image of this name with a budget of so many ticks.
+    Exec { steps: u64, image: &'a str },
     /// Writes the code of that image as text.
-    List {
-        image: usize,
-    },
+    List { image: &'a str },
 }
 
-impl Command {
-    /// The names of the command's files.
-    pub fn names(self, words: &[String]) -> &[String]
-        requires { StandAmong (length words.now) self }
-        ensures { map string_bytes result.now ≡ names_of (map string_bytes words.now) self }
+impl<'a> Command<'a> {
+    /// The names of the command's files. Those on an image have none.
+    pub fn files(self) -> &'a [String]
+        ensures { map string_bytes result.now ≡ files_of (command_seen self.entry) }
     {
         match self {
-            Command::Check { first, end } => &words[first..end],
-            Command::Run { first, end, .. } => &words[first..end],
-            Command::RunStack { first, end, .. } => &words[first..end],
-            Command::Build { first, end, .. } => &words[first..end],
-            Command::Exec { .. } => &words[0..0],
-            Command::List { .. } => &words[0..0],
+            Command::Check { files } => files,
+            Command::Run { files, .. } => files,
+            Command::RunStack { files, .. } => files,
+            Command::Build { files, .. } => files,
+            Command::Exec { .. } => &[],
+            Command::List { .. } => &[],
         }
     }
 }
@@ -120,47 +99,35 @@ fn read_steps(word: &str) -> Option<u64>
 }
 
 // The command of what stands behind `check`.
-fn read_check(files: &[String]) -> Option<Command>
-    ensures command { result ≡ check_of (map string_bytes files.now) }
-    ensures within { IfSome result (λ command. StandAmong (1 + length files.now) command) }
+fn read_check<'a>(files: &'a [String]) -> Option<Command<'a>>
+    ensures { option_map command_seen result ≡ check_of (map string_bytes files.now) }
 {
     if are_files(files) {
-        Some(Command::Check {
-            first: 1,
-            end: 1 + files.len(),
-        })
+        Some(Command::Check { files })
     } else {
         None
     }
 }
 
-// The command that runs files with a budget, where they begin at this position.
-fn run_files(steps: u64, first: usize, files: &[String]) -> Option<Command>
-    requires { first ≤ 3 }
-    ensures command { result ≡ on_files (λ first end. Run steps first end) first (map string_bytes files.now) }
-    ensures within { IfSome result (λ command. StandAmong (first + length files.now) command) }
+// The command that runs files with a budget.
+fn run_files<'a>(steps: u64, files: &'a [String]) -> Option<Command<'a>>
+    ensures { option_map command_seen result ≡ on_files (run_asked steps) (map string_bytes files.now) }
 {
     if are_files(files) {
-        Some(Command::Run {
-            steps,
-            first,
-            end: first + files.len(),
-        })
+        Some(Command::Run { steps, files })
     } else {
         None
     }
 }
 
 // The command that runs files with the budget of every run and then writes the stack.
-fn run_stack(files: &[String]) -> Option<Command>
-    ensures command { result ≡ on_files (λ first end. RunStack TICKS first end) 2 (map string_bytes files.now) }
-    ensures within { IfSome result (λ command. StandAmong (2 + length files.now) command) }
+fn run_stack<'a>(files: &'a [String]) -> Option<Command<'a>>
+    ensures { option_map command_seen result ≡ on_files (run_stack_asked TICKS) (map string_bytes files.now) }
 {
     if are_files(files) {
         Some(Command::RunStack {
             steps: TICKS,
-            first: 2,
-            end: 2 + files.len(),
+            files,
         })
     } else {
         None
@@ -168,33 +135,30 @@ fn run_stack(files: &[String]) -> Option<Command>
 }
 
 // The command of what stands behind `run --steps`.
-fn read_run_steps(number: &str, files: &[String]) -> Option<Command>
-    ensures command { result ≡ run_by (steps_of number.now) (map string_bytes files.now) }
-    ensures within { IfSome result (λ command. StandAmong (3 + length files.now) command) }
+fn read_run_steps<'a>(number: &str, files: &'a [String]) -> Option<Command<'a>>
+    ensures { option_map command_seen result ≡ run_by (steps_of number.now) (map string_bytes files.now) }
 {
     match read_steps(number) {
         None => None,
-        Some(steps) => run_files(steps, 3, files),
+        Some(steps) => run_files(steps, files),
     }
 }
 
 // The command of what stands behind `run`, where that isn't `--stack`.
-fn read_plain_run(words: &[String]) -> Option<Command>
-    ensures command { result ≡ plain_run_of (map string_bytes words.now) }
-    ensures within { IfSome result (λ command. StandAmong (1 + length words.now) command) }
+fn read_plain_run<'a>(words: &'a [String]) -> Option<Command<'a>>
+    ensures { option_map command_seen result ≡ plain_run_of (map string_bytes words.now) }
 {
     match words {
         [option, number, files @ ..] if option.as_str() == "--steps" => {
             read_run_steps(number.as_str(), files)
         }
-        _ => run_files(TICKS, 1, words),
+        _ => run_files(TICKS, words),
     }
 }
 
 // The command of what stands behind `run`.
-fn read_run(words: &[String]) -> Option<Command>
-    ensures command { result ≡ run_of (map string_bytes words.now) }
-    ensures within { IfSome result (λ command. StandAmong (1 + length words.now) command) }
+fn read_run<'a>(words: &'a [String]) -> Option<Command<'a>>
+    ensures { option_map command_seen result ≡ run_of (map string_bytes words.now) }
 {
     match words {
         [option, files @ ..] if option.as_str() == "--stack" => run_stack(files),
@@ -203,29 +167,26 @@ fn read_run(words: &[String]) -> Option<Command>
 }
 
 // The command of what stands behind `build`.
-fn read_build(words: &[String]) -> Option<Command>
-    ensures command { result ≡ build_of (map string_bytes words.now) }
-    ensures within { IfSome result (λ command. StandAmong (1 + length words.now) command) }
+fn read_build<'a>(words: &'a [String]) -> Option<Command<'a>>
+    ensures { option_map command_seen result ≡ build_of (map string_bytes words.now) }
 {
     match words {
         [files @ .., option, name]
             if option.as_str() == "-o" && is_file_name(name.as_str()) && are_files(files) => {
             Some(Command::Build {
-                first: 1,
-                end: 1 + files.len(),
-                image: 2 + files.len(),
+                files,
+                image: name.as_str(),
             })
         }
         _ => None,
     }
 }
 
-// The command that runs the image of this name, which stands at this position.
-fn exec_image(steps: u64, image: usize, name: &str) -> Option<Command>
-    ensures command { result ≡ on_image (λ at. Exec steps at) image name.now }
-    ensures within { IfSome result (λ command. StandAmong (1 + image) command) }
+// The command that runs the image of this name with a budget.
+fn exec_image<'a>(steps: u64, image: &'a str) -> Option<Command<'a>>
+    ensures { option_map command_seen result ≡ on_image (exec_asked steps) image.now }
 {
-    if is_file_name(name) {
+    if is_file_name(image) {
         Some(Command::Exec { steps, image })
     } else {
         None
@@ -233,23 +194,21 @@ fn exec_image(steps: u64, image: usize, name: &str) -> Option<Command>
 }
 
 // The command of what stands behind `exec --steps`.
-fn read_exec_steps(number: &str, name: &str) -> Option<Command>
-    ensures command { result ≡ exec_by (steps_of number.now) name.now }
-    ensures within { IfSome result (λ command. StandAmong 4 command) }
+fn read_exec_steps<'a>(number: &str, image: &'a str) -> Option<Command<'a>>
+    ensures { option_map command_seen result ≡ exec_by (steps_of number.now) image.now }
 {
     match read_steps(number) {
         None => None,
-        Some(steps) => exec_image(steps, 3, name),
+        Some(steps) => exec_image(steps, image),
     }
 }
 
 // The command of what stands behind `exec`.
-fn read_exec(words: &[String]) -> Option<Command>
-    ensures command { result ≡ exec_of (map string_bytes words.now) }
-    ensures within { IfSome result (λ command. StandAmong (1 + length words.now) command) }
+fn read_exec<'a>(words: &'a [String]) -> Option<Command<'a>>
+    ensures { option_map command_seen result ≡ exec_of (map string_bytes words.now) }
 {
     match words {
-        [name] => exec_image(TICKS, 1, name.as_str()),
+        [name] => exec_image(TICKS, name.as_str()),
         [option, number, name] if option.as_str() == "--steps" => {
             read_exec_steps(number.as_str(), name.as_str())
         }
@@ -258,30 +217,20 @@ fn read_exec(words: &[String]) -> Option<Command>
 }
 
 // The command of what stands behind `list`.
-fn read_list(words: &[String]) -> Option<Command>
-    ensures command { result ≡ list_of (map string_bytes words.now) }
-    ensures within { IfSome result (λ command. StandAmong (1 + length words.now) command) }
+fn read_list<'a>(words: &'a [String]) -> Option<Command<'a>>
+    ensures { option_map command_seen result ≡ list_of (map string_bytes words.now) }
 {
     match words {
-        [name] if is_file_name(name.as_str()) => Some(Command::List { image: 1 }),
+        [name] if is_file_name(name.as_str()) => Some(Command::List {
+            image: name.as_str(),
+        }),
         _ => None,
     }
 }
 
-/// The word at a position.
-pub fn name_in(words: &[String], at: usize) -> &str
-    ensures { result.now ≡ name_at (map string_bytes words.now) at }
-{
-    match words.get(at) {
-        Some(word) => word.as_str(),
-        None => "",
-    }
-}
-
 /// The command that the words ask for. None exactly where they meet no form.
-pub fn read_words(words: &[String]) -> Option<Command>
-    ensures command { result ≡ command_of (map string_bytes words.now) }
-    ensures within { IfSome result (λ command. StandAmong (length words.now) command) }
+pub fn read_words<'a>(words: &'a [String]) -> Option<Command<'a>>
+    ensures { option_map command_seen result ≡ command_of (map string_bytes words.now) }
 {
     match words {
         [word, files @ ..] if word.as_str() == "check" => read_check(files),

@@ -2,8 +2,8 @@
 //! or is too large for the memory that there is, and with status 2 where no file is named.
 #![tactic(auto)]
 
+use fac_base::Memory;
 use fac_io::{Files, RealFiles, RealSink, Sink};
-use fac_lang::Memory;
 use fac_token::tokens;
 use itoa::Buffer;
 use std::alloc::Global;

@@ -1,9 +1,9 @@
 -- Laws of reading effects: which tokens are whole, go on, or are refused.
 use Rattle.std.proofs.Common.{◌≡◌, ℕ, ◌≤◌, ◌+◌, true, List, [], ◌∷◌, ◌++◌, refl, ap, sym, ◌∙◌, subst, append-nil, arith}
 use Rattle.std.specs.Prelude.{codes}
-use Rattle.fac_lang.specs.declared.phrase.Place.{Place}
-use Rattle.fac_lang.specs.declared.token.Token.{Token}
-use Rattle.fac_lang.specs.Signatures.{Signature}
+use Rattle.fac_base.specs.declared.place.Place.{Place}
+use Rattle.fac_source.specs.declared.token.Token.{Token}
+use Rattle.fac_base.specs.Signatures.{Signature}
 use Rattle.fac_effect.specs.declared.effect_reader.Side.{Side}
 use Rattle.fac_effect.specs.declared.effect_reader.Side.TheVariants.{Inputs, Outputs}
 use Rattle.fac_effect.specs.declared.effect_reader.Spot.{Spot}

@@ -1,4 +1,4 @@
-pub mod BoundRowLemmas
+pub mod ReservedLemmas
 pub mod SpellingLemmas
 pub mod EffectRuns
 pub mod EffectsReadBack

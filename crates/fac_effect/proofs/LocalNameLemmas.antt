@@ -1,8 +1,8 @@
 -- Whether the inputs of an effect may be locals, told token by token.
 use Rattle.std.proofs.Common.{◌≡◌, ℕ, ◌≤◌, ◌+◌, Bool, true, false, cond, ◌&&◌, ◌||◌, List, [], ◌∷◌, ◌++◌, refl, ap, sym, ◌∙◌, arith}
 use Rattle.std.specs.Prelude.{codes, suc}
-use Rattle.fac_lang.specs.declared.token.Token.{Token}
-use Rattle.fac_lang.specs.Signatures.{Signature, Inputs as Ins, value, quoted}
+use Rattle.fac_source.specs.declared.token.Token.{Token}
+use Rattle.fac_base.specs.Signatures.{Signature, Inputs as Ins, value, quoted}
 use Rattle.fac_effect.specs.declared.spelling.Spelling.{Spelling}
 use Rattle.fac_effect.specs.declared.spelling.Spelling.TheVariants as spelled
 use Rattle.fac_effect.specs.declared.effect_reader.Side.{Side}

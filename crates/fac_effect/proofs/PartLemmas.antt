@@ -5,17 +5,18 @@ use Rattle.std.specs.Global.{Vec}
 use Rattle.std.specs.Str.{bytes_eq, chars}
 use Rattle.std.proofs.Math.Seq.{drop-append_seam}
 use Rattle.std.proofs.lemmas.Slice.Eq.{bytes_eq-Decides}
-use Rattle.fac_lang.specs.declared.limits.TheConstants.{MOST_ELEMENTS}
-use Rattle.fac_lang.specs.declared.memory.Memory.{Memory}
-use Rattle.fac_lang.specs.declared.phrase.Place.{Place}
-use Rattle.fac_lang.specs.declared.token.Token.{Token}
-use Rattle.fac_lang.specs.declared.token.TokKind.{TokKind}
-use Rattle.fac_lang.specs.declared.token.TokKind.TheVariants.{Plain, Str}
-use Rattle.fac_lang.specs.declared.effect.Input.{Input}
-use Rattle.fac_lang.specs.declared.effect.Outs.{Outs}
-use Rattle.fac_lang.specs.declared.effect.Outs.TheVariants.{Never}
-use Rattle.fac_lang.specs.Signatures.{Signature, signature, Inputs, no_inputs, value, quoted, Leaving, never, leaves}
-use Rattle.fac_lang.specs.EffectView.{inputs_tree, outs_leaving}
+use Rattle.fac_base.specs.declared.limits.TheConstants.{MOST_ELEMENTS}
+use Rattle.fac_base.specs.declared.memory.Memory.{Memory}
+use Rattle.fac_base.specs.declared.place.Place.{Place}
+use Rattle.fac_source.specs.declared.token.Token.{Token}
+use Rattle.fac_source.specs.declared.token.TokKind.{TokKind}
+use Rattle.fac_source.specs.declared.token.TokKind.TheVariants.{Plain, Str}
+use Rattle.fac_base.specs.declared.effect.Input.{Input}
+use Rattle.fac_base.specs.declared.effect.Outs.{Outs}
+use Rattle.fac_base.specs.declared.effect.Outs.TheVariants.{Never}
+use Rattle.fac_base.specs.Signatures.{Signature, signature, Inputs, no_inputs, value, quoted, Leaving, never, leaves}
+use Rattle.fac_base.specs.EffectView.{inputs_tree, outs_leaving}
+use Rattle.fac_source.specs.declared.tree.Literal.TheVariants.{Text}
 use Rattle.fac_effect.specs.declared.spelling.Spelling.TheVariants as spelled
 use Rattle.fac_effect.specs.Spellings.{token_text, token_spelling, plain_token, spelling_of, string_spelling, is_row_name, is_described_name}
 use Rattle.fac_effect.specs.WrittenEffects.{Written, written, Entries, no_entries, plain, described, detailed, written_tokens, entries_tokens, is_row, is_colon, IsColonName, IsWritten, IsSide, AreValues, without_colon, plain_name, colon_name, row_if, row_in, values_in, output_names, leaving_in, side_inputs, inputs_of, said}
@@ -111,7 +112,7 @@ side_named (detailed name w es) h = (h.0, h.1, values_named es h.2)
 
 -- No name is of a sign's text.
 
-no_string_name : (b : Bool) → cond b spelled.String spelled.Other ≡ spelled.Name → ⊥
+no_string_name : (b : Bool) → cond b (spelled.Literal Text) spelled.Other ≡ spelled.Name → ⊥
 no_string_name true h = cc
 no_string_name false h = cc
 

@@ -1,8 +1,8 @@
 -- Whether tokens pass a test, where they are read as those of an effect.
 use Rattle.std.proofs.Common.{◌≡◌, ℕ, ◌≤◌, ◌+◌, Bool, true, false, ◌&&◌, List, [], ◌∷◌, ◌++◌, refl, ap, sym, ◌∙◌, arith}
 use Rattle.std.specs.Prelude.{codes}
-use Rattle.fac_lang.specs.declared.phrase.Place.{Place}
-use Rattle.fac_lang.specs.declared.token.Token.{Token}
+use Rattle.fac_base.specs.declared.place.Place.{Place}
+use Rattle.fac_source.specs.declared.token.Token.{Token}
 use Rattle.fac_effect.specs.declared.spelling.Spelling.{Spelling}
 use Rattle.fac_effect.specs.declared.effect_reader.Side.{Side}
 use Rattle.fac_effect.specs.declared.effect_reader.Side.TheVariants.{Inputs, Outputs}

@@ -1,8 +1,8 @@
 -- Laws of reading effects. Each is the contract of a function that does nothing.
 use Rattle.std.specs.Prelude.{◌≡◌, List, ◌++◌, true}
-use Rattle.fac_lang.specs.declared.phrase.Place.{Place}
-use Rattle.fac_lang.specs.declared.token.Token.{Token}
-use Rattle.fac_lang.specs.Signatures.{Signature}
+use Rattle.fac_base.specs.declared.place.Place.{Place}
+use Rattle.fac_source.specs.declared.token.Token.{Token}
+use Rattle.fac_base.specs.Signatures.{Signature}
 use Rattle.fac_effect.specs.declared.effect_reader.EffectReader.{EffectReader}
 use Rattle.fac_effect.specs.declared.effect_reader.EffectWhy.{EffectWhy}
 use Rattle.fac_effect.specs.WrittenEffects.{IsEffect, BeginsEffect, IsUnfinished}

@@ -1,7 +1,7 @@
 -- How far the tokens of an effect are read: what may come next, or that the effect is whole, or why it can't go on.
 use Rattle.std.specs.Prelude.{◌≡◌, Result, Ok, Err, ℕ, suc, nat_lt, Bool, true, false, ◌&&◌, List, [], ◌∷◌, if◌then◌else◌}
-use Rattle.fac_lang.specs.declared.memory.Memory.{Memory}
-use Rattle.fac_lang.specs.declared.token.Token.{Token}
+use Rattle.fac_base.specs.declared.memory.Memory.{Memory}
+use Rattle.fac_source.specs.declared.token.Token.{Token}
 use Rattle.fac_effect.specs.declared.spelling.Spelling.{Spelling}
 use Rattle.fac_effect.specs.declared.spelling.Spelling.TheVariants as spelled
 use Rattle.fac_effect.specs.declared.effect_reader.Side.{Side}

@@ -1,8 +1,8 @@
 -- What the tokens of an effect say, as a function of the tokens. They are read from the last to the first.
 use Rattle.std.specs.Prelude.{List, [], ◌∷◌, Bool, true, false, Option, Some, None}
-use Rattle.fac_lang.specs.declared.phrase.Place.{Place}
-use Rattle.fac_lang.specs.declared.token.Token.{Token}
-use Rattle.fac_lang.specs.Signatures.{Signature, signature, no_inputs, never}
+use Rattle.fac_base.specs.declared.place.Place.{Place}
+use Rattle.fac_source.specs.declared.token.Token.{Token}
+use Rattle.fac_base.specs.Signatures.{Signature, signature, no_inputs, never}
 use Rattle.fac_effect.specs.declared.spelling.Spelling.{Spelling}
 use Rattle.fac_effect.specs.declared.spelling.Spelling.TheVariants as spelled
 use Rattle.fac_effect.specs.Spellings.{token_spelling}

@@ -1,10 +1,10 @@
 -- Stack effects as they are written, with all of their tokens, and what they say.
 use Rattle.std.specs.Prelude.{◌≡◌, ◌≤◌, ◌+◌, ◌-◌, ℕ, suc, List, [], ◌∷◌, ◌++◌, length, take, Bool, true, false, Option, Some, None, codes, if◌then◌else◌}
 use Rattle.std.specs.Str.{bytes_eq}
-use Rattle.fac_lang.specs.declared.limits.TheConstants.{MOST_NAMES}
-use Rattle.fac_lang.specs.declared.phrase.Place.{Place}
-use Rattle.fac_lang.specs.declared.token.Token.{Token}
-use Rattle.fac_lang.specs.Signatures.{Signature, signature, Inputs, no_inputs, value, quoted, Leaving, never, leaves}
+use Rattle.fac_base.specs.declared.limits.TheConstants.{MOST_NAMES}
+use Rattle.fac_base.specs.declared.place.Place.{Place}
+use Rattle.fac_source.specs.declared.token.Token.{Token}
+use Rattle.fac_base.specs.Signatures.{Signature, signature, Inputs, no_inputs, value, quoted, Leaving, never, leaves}
 use Rattle.fac_effect.specs.declared.spelling.Spelling.TheVariants.{Name}
 use Rattle.fac_effect.specs.Spellings.{token_text, plain_token, token_spelling, is_row_name, is_described_name}
 

@@ -1,3 +1,3 @@
 -- What only the contracts of inner functions cite.
-pub mod BoundRows
 pub mod EffectParts
+pub mod Groups

@@ -2,20 +2,22 @@
 ghost use Rattle.std.specs.Prelude.{◌≡◌, ◌≤◌, ◌∷◌, [], true, false, length, is_some, IfOk, MatchOption};
 ghost use Rattle.std.specs.Option.{option_copied};
 ghost use Rattle.std.specs.Str.{bytes_eq};
-ghost use Rattle.fac_lang.specs.EffectView.{inputs_tree, outs_leaving};
-ghost use Rattle.fac_lang.specs.Signatures.{signature, value, no_inputs};
+ghost use Rattle.fac_base.specs.declared.limits.TheConstants.{MOST_NAMES};
+ghost use Rattle.fac_base.specs.EffectView.{inputs_tree, outs_leaving};
+ghost use Rattle.fac_base.specs.Signatures.{signature, value, no_inputs};
 ghost use Rattle.fac_effect.specs.Spellings.{token_text, is_described_name};
 ghost use Rattle.fac_effect.specs.WrittenEffects.{without_colon};
 ghost use Rattle.fac_effect.specs.EffectReading.{after, whole};
 ghost use Rattle.fac_effect.specs.SaidEffects.{effect_of};
 ghost use Rattle.fac_effect.specs.RowlessEffects.{opened_tokens, behind_opens};
-ghost use Rattle.fac_lang.specs.declared.phrase.Place.{Place};
-ghost use Rattle.fac_lang.specs.Effects.{effect_height};
+ghost use Rattle.fac_base.specs.declared.place.Place.{Place};
+ghost use Rattle.fac_base.specs.Effects.{effect_height};
 ghost use Rattle.fac_effect.specs.inner.EffectParts.{first_row, without_row, names_of, leaving_of, behind_first, is_text, first_unless, begins_with, begins_never};
 ghost use Rattle.fac_effect.specs.inner.EffectParts.{GivesDescribed, GivesEntry, GivesEntries, GivesOuts, GivesOpened, GivesEffect};
 
 use crate::spelling::{begins_with_dots, text};
-use fac_lang::{Effect, Height, Input, List, Memory, Outs, Text, Token};
+use fac_base::{Effect, Height, Input, List, Memory, Outs, Text};
+use fac_source::Token;
 use std::alloc::Global;
 
 // Whether a token is of this text.
@@ -257,7 +259,7 @@ fn effect_behind(alloc: Global, tokens: &[Token]) -> Result<Effect, Memory>
 
 // How many values an effect takes and leaves.
 fn height_of(effect: &Effect) -> Height
-    requires { (effect_height effect.now).ins ≤ 64 }
+    requires { (effect_height effect.now).ins ≤ MOST_NAMES }
     ensures { result ≡ effect_height effect.now }
 {
     Height {

@@ -5,8 +5,9 @@ ghost use Rattle.fac_effect.specs.EffectReading.{opened as opens_passed, name_st
 ghost use Rattle.fac_effect.specs.RowlessEffects.{is_no_row as names_no_row};
 
 use crate::spelling::{Spelling, begins_with_dots, ends_with_colon, text};
-use fac_lang::limits::MOST_NAMES;
-use fac_lang::{Memory, Stack, Token};
+use fac_base::limits::MOST_NAMES;
+use fac_base::{Memory, Stack};
+use fac_source::Token;
 use std::alloc::Global;
 
 /// A side of an effect.

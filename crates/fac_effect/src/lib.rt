@@ -3,20 +3,17 @@
 
 mod effect_parts;
 mod effect_reader;
-mod heights;
 mod laws;
 mod local_names;
-mod row_variables;
+pub mod reserved;
 mod spelling;
 
 pub use effect_parts::{declared_height, effect_from};
 pub use effect_reader::{EffectReader, EffectWhy, Side, Spot, Taken, is_no_row};
-pub use heights::{curried, fits, then};
 pub use laws::{
     effect_is_whole, effects_end, inputs_are_named, literals_are_integers, locals_go_on,
     read_goes_on, refused_is_none, rowless_goes_on, rowless_is_whole, whole_is_effect,
     whole_is_rowless,
 };
 pub use local_names::{is_local_name, may_stand};
-pub use row_variables::{bindable, has_rows, is_row_word};
 pub use spelling::{Spelling, classify, text};

@@ -6,7 +6,7 @@ ghost use Rattle.fac_effect.specs.LocalNames.{is_local_name as may_be_local, inp
 use crate::effect_parts::described_name;
 use crate::effect_reader::{EffectReader, Side, may_end};
 use crate::spelling::{Spelling, begins_with_dots, text};
-use fac_lang::Token;
+use fac_source::Token;
 
 /// Whether a name may be that of a local: it doesn't end in `!`.
 pub fn is_local_name(name: &str) -> bool

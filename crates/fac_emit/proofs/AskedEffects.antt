@@ -3,11 +3,13 @@ use Rattle.std.proofs.Common.{◌≡◌, ℕ, zero, suc, List, [], ◌∷◌, �
 use Rattle.std.specs.Prelude.{◌||◌, nat_eq, slice_get}
 use Rattle.std.specs.List.{list_any}
 use Rattle.std.proofs.lemmas.List.Folds.{list_any-append}
-use Rattle.fac_lang.specs.declared.phrase.Height.{Height}
+use Rattle.fac_base.specs.declared.height.Height.{Height}
 use Rattle.fac_lang.specs.declared.phrase.Template.{Template}
 use Rattle.fac_lang.specs.declared.program.Program.{Program}
 use Rattle.fac_lang.specs.declared.program.WordDef.{WordDef}
 use Rattle.fac_lang.specs.declared.program.Sort.{Sort}
+use Rattle.fac_lang.specs.declared.core_table.CoreWord.{CoreWord}
+use Rattle.fac_lang.specs.declared.core_table.CoreWord.TheVariants.{Call as c_call, Dip as c_dip, If as c_if, Execute as c_execute, Boa as c_boa, Cond as c_cond}
 use Rattle.fac_lang.specs.declared.program.Sort.TheVariants.{Core as core, Body as body, Method as method}
 use Rattle.fac_lang.specs.Phrases.{int, yes, no, str, wrd, Phrase, end, then, Item, lit, lit_arr, word, made}
 use Rattle.fac_code.specs.declared.image.Image.{Image}
@@ -15,14 +17,8 @@ use Rattle.fac_code.specs.declared.image.Instr.{Instr}
 use Rattle.fac_code.specs.declared.image.Instr.TheVariants.{CallEffect, Ret}
 use Rattle.fac_emit.specs.Heights.{asks, phrase_asks, sort_asks, template_asks, word_asks, asks_effects}
 use Rattle.fac_emit.specs.ProgramCode.{core_instr, sort_instr, word_instr, made_instr, item_instr, phrase_code, templates_code, last_instr, sort_code, code_from, program_code}
-use Rattle.fac_emit.specs.Stands.{making}
-
--- an instruction of an image's code tests a callable
-pub record TestsCallables (M : Image) : Type 0 where
-  pub place : ℕ
-  pub height : Height
-  pub tail : Bool
-  pub there : slice_get M.code place ≡ Some (CallEffect height tail)
+use Rattle.fac_carry.specs.Stands.{making}
+use Rattle.fac_carry.specs.TestedCalls.{TestsCallables}
 
 abbrev tests : Instr → Bool
 tests (CallEffect h t) = true
@@ -32,12 +28,13 @@ last_tests : (is_top : Bool) → tests (last_instr is_top) ≡ false
 last_tests true = refl
 last_tests false = refl
 
-core_tests : (k : ℕ) → tests (core_instr k) ≡ false
-core_tests zero = refl
-core_tests (suc zero) = refl
-core_tests (suc (suc zero)) = refl
-core_tests (suc (suc (suc zero))) = refl
-core_tests (suc (suc (suc (suc k)))) = refl
+core_tests : (c : CoreWord) → tests (core_instr c) ≡ false
+core_tests c_call = refl
+core_tests c_dip = refl
+core_tests c_if = refl
+core_tests c_execute = refl
+core_tests c_boa = refl
+core_tests c_cond = refl
 
 made_tests : (q : ℕ) (o : Option Template) → tests (made_instr q o) ≡ false
 made_tests q None = refl

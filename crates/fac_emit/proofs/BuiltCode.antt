@@ -7,6 +7,8 @@ use Rattle.fac_lang.specs.declared.phrase.Template.{Template}
 use Rattle.fac_lang.specs.declared.program.Program.{Program}
 use Rattle.fac_lang.specs.declared.program.WordDef.{WordDef}
 use Rattle.fac_lang.specs.declared.program.Sort.{Sort}
+use Rattle.fac_lang.specs.declared.core_table.CoreWord.{CoreWord}
+use Rattle.fac_lang.specs.declared.core_table.CoreWord.TheVariants.{Call as c_call, Dip as c_dip, If as c_if, Execute as c_execute, Boa as c_boa, Cond as c_cond}
 use Rattle.fac_lang.specs.declared.program.Sort.TheVariants.{Prim as prim, Core as core, Body as body, Method as method}
 use Rattle.fac_lang.specs.Phrases.{int, yes, no, str, wrd, Phrase, end, then, Item, lit, lit_arr, word, made}
 use Rattle.fac_lang.proofs.SourcePrograms.{IsSourceProgram, IsSourceSort, AreSourceWords}
@@ -17,7 +19,7 @@ use Rattle.fac_code.specs.declared.image.Instr.TheVariants.{Ret, Callp, Jump, Br
 use Rattle.fac_code.specs.Code.{is_built_instr, has_built_code}
 use Rattle.fac_code.specs.References.{place_refers, places_refer}
 use Rattle.fac_emit.specs.ProgramCode.{core_instr, sort_instr, word_instr, made_instr, item_instr, phrase_code, templates_code, last_instr, sort_code, code_from, program_code}
-use Rattle.fac_emit.specs.Stands.{making}
+use Rattle.fac_carry.specs.Stands.{making}
 use Rattle.fac_emit.proofs.Closings.{Alike, a_same, a_body, a_past, a_method, AlikeWords, alike_words}
 
 -- a word that isn't a primitive that isn't built
@@ -77,12 +79,13 @@ last_plain : (is_top : Bool) → is_plain (last_instr is_top) ≡ true
 last_plain true = refl
 last_plain false = refl
 
-core_plain : (k : ℕ) → is_plain (core_instr k) ≡ true
-core_plain zero = refl
-core_plain (suc zero) = refl
-core_plain (suc (suc zero)) = refl
-core_plain (suc (suc (suc zero))) = refl
-core_plain (suc (suc (suc (suc k)))) = refl
+core_plain : (c : CoreWord) → is_plain (core_instr c) ≡ true
+core_plain c_call = refl
+core_plain c_dip = refl
+core_plain c_if = refl
+core_plain c_execute = refl
+core_plain c_boa = refl
+core_plain c_cond = refl
 
 -- the instruction of a quotation or fry
 made_plain : (q : ℕ) (o : Option Template) → is_plain (made_instr q o) ≡ true

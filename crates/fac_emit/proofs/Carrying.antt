@@ -1,34 +1,26 @@
 -- The image of plain code carries its program.
-use Rattle.std.proofs.Common.{◌≢◌, ℕ, List, Option}
-use Rattle.fac_lang.specs.declared.phrase.Height.{Height}
+use Rattle.std.proofs.Common.{ℕ, List, Option}
+use Rattle.fac_base.specs.declared.height.Height.{Height}
 use Rattle.fac_lang.specs.declared.phrase.Template.{Template}
 use Rattle.fac_lang.specs.declared.program.Program.{Program}
 use Rattle.fac_lang.specs.Phrases.{Callable}
 use Rattle.fac_lang.proofs.SourcePrograms.{source_of_whole}
 use Rattle.fac_lang.specs.Whole.{IsWhole}
-use Rattle.fac_lang.specs.Eval.{Result, Done, Failed, Spent, Stuck}
 use Rattle.fac_lang.specs.Meaning.{word_phrase}
-use Rattle.fac_lang.specs.RunningLaws.{IsNotStuck}
 use Rattle.fac_locals.specs.Closed.{Closes}
 use Rattle.fac_code.specs.declared.image.Image.{Image}
-use Rattle.fac_emit.specs.MachineView.{template_phrases, values_view, world_view}
-use Rattle.fac_emit.specs.Carries.{Carries, top_run}
+use Rattle.fac_carry.specs.MachineView.{template_phrases}
+use Rattle.fac_carry.specs.Carries.{Carries}
 use Rattle.fac_emit.specs.Heights.{HasHeights}
 use Rattle.fac_emit.specs.ProgramCode.{IsPlain}
-use Rattle.fac_emit.proofs.Following.{Setting}
-use Rattle.fac_emit.proofs.Simulation.{carried}
-use Rattle.fac_emit.proofs.PlainIsCode.{plain_code_is_code}
+use Rattle.fac_carry.specs.Setting.{Setting}
+use Rattle.fac_carry.proofs.CodeRuns.{code_runs}
+use Rattle.fac_carry.proofs.PlainIsCode.{plain_code_is_code}
 use Rattle.fac_generic.specs.Methods.{MethodLaws}
 use Rattle.fac_emit.proofs.PlainStands.{plain_code}
 use Rattle.fac_emit.proofs.NamedImages.{word_fully_named, image_named}
 use Rattle.fac_emit.proofs.TestedHeights.{words_tested, literals_tested}
 use Rattle.fac_emit.proofs.MadeArrays.{arrays_made}
-
-not_stuck : (r : Result) → IsNotStuck r → r ≢ Stuck
-not_stuck (Done st m) h e = cc
-not_stuck (Failed x st m) h e = cc
-not_stuck (Spent st i) h e = cc
-not_stuck Stuck h e = absurd h
 
 pub carries :
     (P C : Program) (templates : List Template) (heights : List (Option Height)) (M : Image) (callable_height : Callable → Option Height) (count : ℕ) →
@@ -42,7 +34,6 @@ carries P C templates heights M callable_height count whole laws closes is_plain
           let phrase = word_phrase P P.top in
           let T = template_phrases P in
           let code = plain_code_is_code P M (plain_code P C templates heights M b whole laws closes is_plain) in
-          let going = λ (m : ℕ). not_stuck (top_run P callable_height (values_view T stack) (world_view T w) m) (never m) in
           let setting : Setting = record {
             program = P;
             callable_height = callable_height;
@@ -54,7 +45,7 @@ carries P C templates heights M callable_height count whole laws closes is_plain
             curried = effects.curried;
             composed = effects.composed;
           } in
-          carried setting code.called M.start phrase code.phrase stack w (record { cells = tt; held = tt; values = values; objects = objects }) going n;
+          code_runs setting code.called phrase M.start code.phrase stack w values objects never n;
       same_first = λ input. (made input).same;
       first_whole = λ input. (made input).whole;
       same_names = named;

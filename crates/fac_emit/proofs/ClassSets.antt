@@ -9,7 +9,7 @@ use Rattle.fac_lang.specs.declared.program.Shape.{Shape}
 use Rattle.fac_lang.specs.declared.program.Shape.TheVariants.{Kind as built_in, Tuple as tuple_class, Union as union, Single as single}
 use Rattle.fac_lang.specs.Classes.{has_own, own_kind, class_with, shape_at, descends_if, is_single, is_tuple, shape_with, own_count, any, shape_has, has_kind_within, has_kind}
 use Rattle.fac_classes.specs.ClassKinds.{kind_total, kinds_below, kinds_of}
-use Rattle.fac_vm.specs.Machine.{set_has}
+use Rattle.fac_machine.specs.Machine.{set_has}
 use Rattle.fac_emit.specs.ProgramTables.{sets_from}
 
 never_true : {A : Type 0} → false ≡ true → A

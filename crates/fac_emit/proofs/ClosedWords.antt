@@ -8,12 +8,13 @@ use Rattle.fac_lang.specs.declared.phrase.Template.{Template}
 use Rattle.fac_lang.specs.declared.program.Program.{Program}
 use Rattle.fac_lang.specs.declared.program.WordDef.{WordDef}
 use Rattle.fac_lang.specs.declared.program.Sort.{Sort}
-use Rattle.fac_lang.specs.declared.program.Sort.TheVariants.{Prim as prim_sort, Core as core_sort, Body as body, Past as past, Isa as isa, Method as method}
+use Rattle.fac_lang.specs.declared.program.Sort.TheVariants.{Prim as prim_sort, Body as body, Past as past, Isa as isa, Method as method}
 use Rattle.fac_lang.specs.Phrases.{Phrase, end, then}
 use Rattle.fac_lang.specs.Substitution.{of_method}
 use Rattle.fac_lang.proofs.SourcePrograms.{IsSourceProgram, IsSourceSort, AreSourceWords}
 use Rattle.fac_lang.specs.Whole.{sort_fits}
-use Rattle.fac_lang.specs.CoreWords.{is_built_core}
+use Rattle.fac_lang.specs.declared.core_table.CoreWord.{CoreWord}
+use Rattle.fac_lang.specs.declared.core_table.CoreWord.TheVariants.{Call as c_call, Dip as c_dip, If as c_if, Execute as c_execute, Boa as c_boa, Cond as c_cond}
 use Rattle.fac_lang.specs.Primitives.{is_built_primitive}
 use Rattle.fac_locals.specs.Literals.{first_of_word}
 use Rattle.fac_locals.specs.Closed.{ClosesSort}
@@ -24,7 +25,7 @@ use Rattle.fac_emit.specs.ProgramCode.{core_instr, item_instr, phrase_code, last
 use Rattle.fac_emit.proofs.BuiltCode.{and_true}
 use Rattle.fac_emit.proofs.Closings.{Closing, closing}
 use Rattle.fac_emit.proofs.NamedArrays.{NamesArrays, SortNames}
-use Rattle.fac_emit.proofs.RunningPhrases.{RunsAs}
+use Rattle.fac_locals.proofs.RunningPhrases.{RunsAs}
 
 -- a place from which something stands is in the list
 within : {A : Type 0} (xs : List A) (at : ℕ) (y : A) (ys : List A) → drop at xs ≡ y ∷ ys → at < length xs
@@ -64,28 +65,27 @@ begins_within code C templates last t at more e =
 never_true : {A : Type 0} → false ≡ true → A
 never_true h = absurd (true≢false (sym h))
 
-pub core_refers : (T : Tables) (k : ℕ) → instr_refers T (core_instr k) ≡ true
-core_refers T zero = refl
-core_refers T (suc zero) = refl
-core_refers T (suc (suc zero)) = refl
-core_refers T (suc (suc (suc zero))) = refl
-core_refers T (suc (suc (suc (suc k)))) = refl
+pub core_refers : (T : Tables) (c : CoreWord) → instr_refers T (core_instr c) ≡ true
+core_refers T c_call = refl
+core_refers T c_dip = refl
+core_refers T c_if = refl
+core_refers T c_execute = refl
+core_refers T c_boa = refl
+core_refers T c_cond = refl
 
 pub last_refers : (T : Tables) (is_top : Bool) → instr_refers T (last_instr is_top) ≡ true
 last_refers T true = refl
 last_refers T false = refl
 
 module _ (P : Program) where
-  -- a primitive and a core word are built, and no word is an earlier top-level phrase
+  -- a primitive is built, and no word is an earlier top-level phrase
   abbrev pub Doable : Sort → Type 0
   Doable (prim_sort k) = is_built_primitive k ≡ true
-  Doable (core_sort k) = is_built_core k ≡ true
   Doable (past t) = ⊥
   Doable _ = Unit {0}
 
   sort_doable : (d : WordDef) (s : Sort) → IsSourceSort P.top d s → Doable s
   sort_doable d (prim_sort k) h = h.is_built
-  sort_doable d (core_sort k) h = h.is_built
   sort_doable d (past t) h = absurd h
   sort_doable d _ h = tt
 
@@ -110,7 +110,6 @@ module _ (P : Program) where
   -- what a word of the closed program is, with the number w
   abbrev pub ClosedAs : ℕ → Sort → Type 0
   ClosedAs w (prim_sort k) = is_built_primitive k ≡ true
-  ClosedAs w (core_sort k) = is_built_core k ≡ true
   ClosedAs w (body c) = RunsIn w c
   ClosedAs w (past c) = ⊥
   ClosedAs w (method n g c) = RunsIn w c
@@ -119,7 +118,6 @@ module _ (P : Program) where
 
   pub closed_as : (w : ℕ) (s c : Sort) → ClosesSort P w s c → Doable s → RunsAs P w s → w < length P.words → SortNames P w s → sort_fits P s ≡ true → ClosedAs w c
   closed_as w (prim_sort k) c h d r lt n f = rw h d
-  closed_as w (core_sort k) c h d r lt n f = rw h d
   closed_as w (body t) c h d r lt n f = rw h.1 (record { phrase = t; closes = closing P [] (first_of_word w) t h.0 h.2 r; below = lt; names = n })
   closed_as w (past t) c h d r lt n f = absurd d
   closed_as w (method k g t) c h d r lt n f = rw h.1 (record { phrase = of_method w t; closes = closing P [] (first_of_word w) (of_method w t) h.0 h.2 r; below = lt; names = n })

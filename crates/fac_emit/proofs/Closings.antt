@@ -1,20 +1,20 @@
 -- What a closed program has of its program.
 use Rattle.std.proofs.Common.{◌≡◌, ◌<◌, ℕ, zero, suc, ◌+◌, List, [], ◌∷◌, ◌++◌, length, drop, Some, ap, arith}
 use Rattle.std.specs.Prelude.{ℤ, slice_get}
-use Rattle.fac_lang.specs.declared.phrase.Height.{Height}
-use Rattle.fac_lang.specs.declared.phrase.Place.{Place}
+use Rattle.fac_base.specs.declared.height.Height.{Height}
+use Rattle.fac_base.specs.declared.place.Place.{Place}
 use Rattle.fac_lang.specs.declared.program.Program.{Program}
 use Rattle.fac_lang.specs.declared.program.WordDef.{WordDef}
 use Rattle.fac_lang.specs.declared.program.Sort.{Sort}
 use Rattle.fac_lang.specs.declared.program.Sort.TheVariants.{Prim as prim, Core as core, Body as body, Past as past, Itself as itself, Class as class, Isa as isa, Getter as getter, Setter as setter, Putter as putter, Generic as generic, Method as method}
-use Rattle.fac_lang.specs.Phrases.{int, yes, no, str, wrd, Literal, Phrase, end, then, lit, lit_arr, quot, word, bind, local, fry, hole, call_eff, exec_eff, next_method, made, next_after}
+use Rattle.fac_lang.specs.Phrases.{int, yes, no, str, wrd, Literal, Phrase, end, then, Item, lit, lit_arr, quot, word, bind, local, fry, hole, call_eff, exec_eff, next_method, made, next_after}
 use Rattle.fac_lang.specs.Meaning.{sort_of}
-use Rattle.fac_captures.specs.declared.cell.Cell.{Cell}
-use Rattle.fac_captures.specs.declared.cell.Cell.TheVariants.{Local, Hole}
-use Rattle.fac_captures.specs.Cells.{cell_number}
+use Rattle.fac_locals.specs.declared.cell.Cell.{Cell}
+use Rattle.fac_locals.specs.declared.cell.Cell.TheVariants.{Local, Hole}
+use Rattle.fac_locals.specs.Cells.{cell_number}
 use Rattle.fac_locals.specs.Literals.{behind}
 use Rattle.fac_locals.specs.Closed.{IsMadeBy, ClosesPhrase, ClosesSort, CloseWords}
-use Rattle.fac_emit.proofs.RunningPhrases.{IsMethod, IsRun}
+use Rattle.fac_locals.proofs.RunningPhrases.{IsMethod, IsRun, IsRunItem}
 
 -- lists behind a part of them
 behind_none : {A : Type 0} (xs ys : List A) → [] ≡ xs ++ ys → [] ≡ ys
@@ -79,8 +79,16 @@ module _ (P : Program) where
   closing cells at (then (made k) p t) c h r = absurd h.3
   closing cells at (then _ p t) c h r = absurd r.0
 
-  -- each item of it is as it runs
-  pub closed_runs : (cells : List Cell) (at : Literal) (t c : Phrase) → Closing cells at t c → IsRun P c
+  -- A closed phrase has the items of one as it runs, and templates in place of its quotations and fries.
+  abbrev pub IsClosedItem : Item → Type 0
+  IsClosedItem (made k) = Unit {0}
+  IsClosedItem i = IsRunItem P i
+
+  abbrev pub AreClosedItems : Phrase → Type 0
+  AreClosedItems end = Unit {0}
+  AreClosedItems (then i p t) = IsClosedItem i × AreClosedItems t
+
+  pub closed_runs : (cells : List Cell) (at : Literal) (t c : Phrase) → Closing cells at t c → AreClosedItems c
   closed_runs cells at t c c_end = tt
   closed_runs cells at t c (c_int z h) = (tt, closed_runs _ _ _ _ h)
   closed_runs cells at t c (c_true h) = (tt, closed_runs _ _ _ _ h)

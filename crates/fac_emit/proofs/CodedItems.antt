@@ -9,8 +9,8 @@ use Rattle.fac_lang.specs.declared.program.Lit.TheVariants.{Int as l_int, True a
 use Rattle.fac_lang.specs.declared.program.Program.{Program}
 use Rattle.fac_lang.specs.declared.program.WordDef.{WordDef}
 use Rattle.fac_lang.specs.Phrases.{Literal}
-use Rattle.fac_lang.specs.Signatures.{Signature, signature, Inputs, no_inputs, value, quoted}
-use Rattle.fac_lang.specs.Effects.{inputs_count, effect_height}
+use Rattle.fac_base.specs.Signatures.{Signature, signature, Inputs, no_inputs, value, quoted}
+use Rattle.fac_base.specs.Effects.{inputs_count, effect_height}
 use Rattle.fac_lang.specs.Whole.{IsWhole, name_count, inputs_name_count}
 use Rattle.fac_lang.specs.Meaning.{array_method}
 use Rattle.fac_locals.specs.Literals.{behind, first_in_array, element_item}

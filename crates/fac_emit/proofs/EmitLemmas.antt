@@ -1,7 +1,7 @@
 -- Steps of the loops that emit code and rows.
 use Rattle.std.proofs.Common.{◌≡◌, ◌<◌, ℕ, suc, ◌+◌, List, [], ◌∷◌, ◌++◌, length, drop, get_or, Option, ap, sym, subst, ◌∙◌, append_assoc, length-append, add-one, drop-cons}
 use Rattle.std.specs.Prelude.{nat_eq, slice_get, map}
-use Rattle.fac_lang.specs.declared.phrase.Height.{Height}
+use Rattle.fac_base.specs.declared.height.Height.{Height}
 use Rattle.fac_lang.specs.declared.phrase.Template.{Template}
 use Rattle.fac_lang.specs.declared.program.Program.{Program}
 use Rattle.fac_lang.specs.declared.program.WordDef.{WordDef}

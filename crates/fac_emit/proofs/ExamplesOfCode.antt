@@ -1,10 +1,10 @@
 -- Plain code, computed: that of a small program, what the machine does with it, and its code as a case of the relation.
 use Rattle.std.proofs.Common.{◌≡◌, ℕ, zero, suc, List, [], ◌∷◌, ◌++◌, length, map, true, false, refl, Option, Some, None, arith}
 use Rattle.std.specs.Prelude.{pos, codes}
-use Rattle.fac_lang.specs.Signatures.{signature, Inputs, no_inputs, value, never, leaves}
+use Rattle.fac_base.specs.Signatures.{signature, Inputs, no_inputs, value, never, leaves}
 use Rattle.fac_lang.specs.declared.error_name.ErrorName.{ErrorName}
 use Rattle.fac_lang.specs.declared.error_name.ErrorName.TheVariants.{WrongValues}
-use Rattle.fac_lang.specs.declared.phrase.Height.{Height}
+use Rattle.fac_base.specs.declared.height.Height.{Height}
 use Rattle.fac_lang.specs.declared.phrase.Template.{Template}
 use Rattle.fac_lang.specs.declared.program.Lit.TheVariants.{Int as l_int, True as l_yes, Str as l_str, Arr as l_arr, Wref as l_word, Made as l_made}
 use Rattle.fac_lang.specs.declared.program.Program.{Program}
@@ -13,13 +13,14 @@ use Rattle.fac_lang.specs.declared.program.Shape.{Shape}
 use Rattle.fac_lang.specs.declared.program.Shape.TheVariants.{Kind as built_in, Tuple as tuple_class}
 use Rattle.fac_lang.specs.declared.program.WordDef.{WordDef}
 use Rattle.fac_lang.specs.declared.program.Sort.{Sort}
+use Rattle.fac_lang.specs.declared.core_table.CoreWord.TheVariants.{Call as w_call, Dip as w_dip, Execute as w_execute, Boa as w_boa, Cond as w_cond}
 use Rattle.fac_lang.specs.declared.program.Sort.TheVariants.{Prim as prim, Core as core, Body as body, Itself as itself, Class as class, Isa as isa, Getter as getter, Generic as generic, Method as method}
 use Rattle.fac_lang.specs.Phrases.{int, str, wrd, Phrase, end, then, Item, lit, lit_arr, quot, word, bind, local, fry, hole, call_eff, exec_eff, next_method, held}
 use Rattle.fac_lang.specs.Substitution.{put_holes}
 use Rattle.fac_lang.specs.Primitives.{built_count, prim_numbered, prim_fn}
 use Rattle.fac_code.specs.Code.{has_built_code}
 use Rattle.fac_code.specs.References.{refers}
-use Rattle.fac_lang.specs.Meaning.{nowhere, core_numbered}
+use Rattle.fac_lang.specs.Meaning.{nowhere}
 use Rattle.fac_locals.proofs.ClosedForms.{made_words, made_templates}
 use Rattle.fac_code.specs.declared.image.Instr.TheVariants.{Halt, Int, Text, Array, Word, Quot, Fry, Bind, Local, Prim, Callw, Call, Dip, Execute, CallEffect, ExecuteEffect, Ret, Boa, Generic, Next}
 use Rattle.fac_code.specs.declared.image.Elem.TheVariants as elem
@@ -29,13 +30,13 @@ use Rattle.fac_code.specs.declared.image.TemplateRow.{TemplateRow}
 use Rattle.fac_code.specs.declared.image.WordRow.{WordRow}
 use Rattle.fac_code.specs.declared.image.Image.{Image}
 use Rattle.fac_store.specs.MachineValues.{MValue, m_plain}
-use Rattle.fac_vm.specs.Machine.{End, done, failed, steps, first_world, starting}
+use Rattle.fac_machine.specs.Machine.{End, done, failed, steps, first_world, starting}
 use Rattle.fac_emit.specs.ProgramTexts.{text_levels, program_texts}
 use Rattle.fac_emit.specs.ProgramTables.{program_kinds, program_sets, program_pairs}
 use Rattle.fac_emit.specs.ProgramCode.{core_action, program_code, program_templates, program_words, program_generics, program_arrays, program_tables}
-use Rattle.fac_emit.specs.MachineView.{template_phrases, value_view, values_view}
-use Rattle.fac_emit.specs.Symbols.{here, off, cells, k_phrase, k_cur, k_com, do_phrase, top_is, needs_none, needs_more, all_none, all_more}
-use Rattle.fac_emit.specs.Expanded.{Code, c_last, c_make, c_end, c_off, c_int, c_prim, c_bind, c_fry, c_word, c_call, c_dip}
+use Rattle.fac_carry.specs.MachineView.{template_phrases, value_view, values_view}
+use Rattle.fac_carry.specs.Symbols.{here, off, cells, k_phrase, k_cur, k_com, do_phrase, top_is, needs_none, needs_more, all_none, all_more}
+use Rattle.fac_carry.specs.Expanded.{Code, c_last, c_make, c_end, c_off, c_int, c_prim, c_bind, c_fry, c_word, c_call, c_dip}
 
 abbrev items : List Item → Phrase
 items [] = end
@@ -50,7 +51,7 @@ named s = record { name = record { vocab = []; name = [] }; sort = s; effect = s
 -- : w [ 2 ] [ [ 3 ] call + ] compose ;   1 w [ 4 ] dip call
 abbrev source : List WordDef
 source =
-    named (prim 26) ∷ named (core 0) ∷ named (core 1) ∷ named (prim 17) ∷ named (body (items (quot (items (number 2 ∷ [])) ∷ quot (items (quot (items (number 3 ∷ [])) ∷ word 1 ∷ word 0 ∷ [])) ∷ word 3 ∷ []))) ∷ named
+    named (prim 26) ∷ named (core w_call) ∷ named (core w_dip) ∷ named (prim 17) ∷ named (body (items (quot (items (number 2 ∷ [])) ∷ quot (items (quot (items (number 3 ∷ [])) ∷ word 1 ∷ word 0 ∷ [])) ∷ word 3 ∷ []))) ∷ named
     (body (items (number 1 ∷ word 4 ∷ quot (items (number 4 ∷ [])) ∷ word 2 ∷ word 1 ∷ []))) ∷ []
 
 abbrev closed : Program
@@ -83,7 +84,7 @@ plain_row a = record { vocab = 0; name = 0; action = a; height = Some (record { 
 abbrev bare_row : Action → WordRow
 bare_row a = record { vocab = 0; name = 0; action = a; height = None }
 
-pub word_rows_are : program_words closed templates ≡ plain_row (action.Prim 26) ∷ bare_row (action.Core 0) ∷ bare_row (action.Core 1) ∷ plain_row (action.Prim 17) ∷ plain_row (action.Code 10) ∷ bare_row (action.Code 14) ∷ []
+pub word_rows_are : program_words closed templates ≡ plain_row (action.Prim 26) ∷ bare_row (action.Core w_call) ∷ bare_row (action.Core w_dip) ∷ plain_row (action.Prim 17) ∷ plain_row (action.Code 10) ∷ bare_row (action.Code 14) ∷ []
 unfolding program_texts text_levels
 word_rows_are = refl
 
@@ -127,13 +128,13 @@ word_code =
 
 -- 1 w [ 4 ] dip call, from its place: behind a call nothing of the stack is known
 pub phrase_code : Code opened image (template_phrases opened) [] (Some Halt) [] 0 [] (do_phrase (items (number 1 ∷ word 4 ∷ quot (items (number 4 ∷ [])) ∷ word 2 ∷ word 1 ∷ [])) ∷ []) 14
-unfolding template_phrases core_numbered program_texts text_levels
+unfolding template_phrases program_texts text_levels
 phrase_code =
     c_int (pos 1) refl
     (c_word 4 10 (record { below = omega arith; runs = tt; row = plain_row (action.Code 10); there = refl; does = refl }) (all_more all_none) refl
     (c_off (c_make 3 (quotation_row 8 (Some (from 0 1))) [] refl refl refl refl
-    (c_dip 2 1 refl refl (all_more all_none) refl
-    (c_call 1 0 refl refl all_none refl
+    (c_dip 2 refl (all_more all_none) refl
+    (c_call 1 refl all_none refl
     (c_end (c_last all_none refl)))))))
 
 -- A local in a quotation and in a fry: 1 :> x [ x 2 + ] call   5 '[ _ x + ] call   where x is local 7
@@ -141,7 +142,7 @@ abbrev capturing : Phrase
 capturing = items (number 1 ∷ bind 7 ∷ quot (items (local 7 ∷ number 2 ∷ word 0 ∷ [])) ∷ word 1 ∷ number 5 ∷ fry (items (hole 0 ∷ local 7 ∷ word 0 ∷ [])) 1 ∷ word 1 ∷ [])
 
 abbrev capturing_source : List WordDef
-capturing_source = named (prim 26) ∷ named (core 0) ∷ named (body capturing) ∷ []
+capturing_source = named (prim 26) ∷ named (core w_call) ∷ named (body capturing) ∷ []
 
 abbrev capturing_closed : Program
 capturing_closed = record { words = made_words capturing_source []; arrays = []; classes = []; top = 2 }
@@ -199,15 +200,15 @@ fried v (u ∷ w ∷ us) n = absurd (omega (arith, n))
 
 -- its code from its place: behind the binding it stands for the rest whatever value was bound
 pub capturing_stands : Code capturing_opened capturing_image (template_phrases capturing_opened) [] (Some Halt) [] 0 [] (do_phrase capturing ∷ []) 8
-unfolding template_phrases core_numbered
+unfolding template_phrases
 capturing_stands =
     c_int (pos 1) refl
     (c_bind (needs_more top_is needs_none) refl (λ v whole.
     c_off (c_make 0 (record { entry = 0; cells = 0 ∷ []; holes = 0; height = None }) (v ∷ []) refl refl refl refl
-    (c_call 1 0 refl refl (all_more all_none) refl
+    (c_call 1 refl (all_more all_none) refl
     (c_int (pos 5) refl
     (c_fry 1 (record { entry = 4; cells = 0 ∷ []; holes = 1; height = None }) (v ∷ []) _ refl refl refl (fried v) (needs_more top_is needs_none)
-    (c_call 1 0 refl refl (all_more all_none) refl
+    (c_call 1 refl (all_more all_none) refl
     (c_end (c_last all_none refl)))))))))
 
 -- Strings and words as values, where word 0 is a symbol: `"a" red \ red "a"`. The texts are the words' vocabularies and names, and the string, each once.
@@ -270,7 +271,7 @@ boxed_texts = refl
 -- Text 1 is the name of the class, and text 2 that of its slot.
 abbrev figures : List WordDef
 figures =
-    named (core 4) ∷ named (prim 0) ∷ named (prim 26) ∷ named (class 1) ∷ named (isa 1) ∷ named (getter (codes "x")) ∷ named generic ∷ named (method 0 6 (items (word 1 ∷ number 1 ∷ []))) ∷ named
+    named (core w_boa) ∷ named (prim 0) ∷ named (prim 26) ∷ named (class 1) ∷ named (isa 1) ∷ named (getter (codes "x")) ∷ named generic ∷ named (method 0 6 (items (word 1 ∷ number 1 ∷ []))) ∷ named
     (method 1 6 (items (next_method ∷ number 7 ∷ word 2 ∷ []))) ∷ named (body (items (number 5 ∷ lit (wrd 3) ∷ word 0 ∷ word 6 ∷ []))) ∷ []
 
 abbrev class_named : List ℕ → Shape → ClassDef
@@ -283,7 +284,7 @@ figure_code : program_code figure [] ≡ Prim 0 ∷ Int (pos 1) ∷ Ret ∷ Next
 figure_code = refl
 
 figure_rows :
-    program_words figure [] ≡ bare_row (action.Core 4) ∷ plain_row (action.Prim 0) ∷ plain_row (action.Prim 26) ∷ plain_row action.Itself ∷ plain_row (action.Isa 1) ∷ plain_row (action.Get 2) ∷ plain_row (action.Generic 0) ∷ plain_row (action.Code 0) ∷ plain_row (action.Code 3) ∷ bare_row (action.Code 7) ∷ []
+    program_words figure [] ≡ bare_row (action.Core w_boa) ∷ plain_row (action.Prim 0) ∷ plain_row (action.Prim 26) ∷ plain_row action.Itself ∷ plain_row (action.Isa 1) ∷ plain_row (action.Get 2) ∷ plain_row (action.Generic 0) ∷ plain_row (action.Code 0) ∷ plain_row (action.Code 3) ∷ bare_row (action.Code 7) ∷ []
 unfolding program_texts text_levels
 figure_rows = refl
 
@@ -335,7 +336,7 @@ unfolding prim_fn prim_numbered
 figure_ends = refl
 
 -- `cond` as a word
-cond_acts : core_action 9 ≡ action.Itself
+cond_acts : core_action w_cond ≡ action.Itself
 cond_acts = refl
 
 -- Calls that are tested, and words that are executed, one of them a primitive:
@@ -350,7 +351,7 @@ declared ins s = record (named s) { effect = signature None (taking ins) (leaves
 
 abbrev tested_source : List WordDef
 tested_source =
-    declared 2 (prim 26) ∷ named (core 3) ∷ declared 1 (body (items (number 1 ∷ word 0 ∷ []))) ∷ named
+    declared 2 (prim 26) ∷ named (core w_execute) ∷ declared 1 (body (items (number 1 ∷ word 0 ∷ []))) ∷ named
     (body (items (number 3 ∷ quot (items (number 1 ∷ word 0 ∷ [])) ∷ call_eff (from 1 1) ∷ lit (wrd 2) ∷ exec_eff (from 1 1) ∷ number 4 ∷ lit (wrd 0) ∷ exec_eff (from 2 1) ∷ lit (wrd 2) ∷ word 1 ∷ []))) ∷ []
 
 abbrev tested : Program
@@ -366,7 +367,7 @@ tested_code : program_code tested tested_templates ≡
     Int (pos 1) ∷ Prim 26 ∷ Ret ∷ Int (pos 1) ∷ Prim 26 ∷ Ret ∷ Int (pos 3) ∷ Quot 0 ∷ CallEffect (from 1 1) false ∷ Word 2 ∷ ExecuteEffect (from 1 1) false ∷ Int (pos 4) ∷ Word 0 ∷ ExecuteEffect (from 2 1) false ∷ Word 2 ∷ Execute false ∷ Halt ∷ []
 tested_code = refl
 
-tested_rows : program_words tested tested_templates ≡ record (bare_row (action.Prim 26)) { height = Some (from 2 1) } ∷ bare_row (action.Core 3) ∷ record (bare_row (action.Code 3)) { height = Some (from 1 1) } ∷ bare_row (action.Code 6) ∷ []
+tested_rows : program_words tested tested_templates ≡ record (bare_row (action.Prim 26)) { height = Some (from 2 1) } ∷ bare_row (action.Core w_execute) ∷ record (bare_row (action.Code 3)) { height = Some (from 1 1) } ∷ bare_row (action.Code 6) ∷ []
 unfolding program_texts text_levels
 tested_rows = refl
 
@@ -398,7 +399,7 @@ tested_image hs =
 
 -- a word that is executed takes a tick of its own
 tested_ends : ended (steps (tested_image tested_heights) 60 (starting (tested_image tested_heights) [] (first_world (tested_image tested_heights) [])) 20) ≡ Some (m_plain (int (pos 10)) ∷ [], 1)
-unfolding prim_fn prim_numbered core_numbered
+unfolding prim_fn prim_numbered
 tested_ends = refl
 
 -- the name and the word of an error, with the ticks left

@@ -10,14 +10,15 @@ use Rattle.fac_lang.specs.declared.program.WordDef.{WordDef}
 use Rattle.fac_lang.specs.declared.program.Sort.{Sort}
 use Rattle.fac_lang.specs.declared.program.Sort.TheVariants.{Prim as prim, Core as core, Getter as getter, Setter as setter, Putter as putter}
 use Rattle.fac_lang.specs.Whole.{no_two, same_word}
-use Rattle.fac_code.specs.Code.{is_core_action}
+use Rattle.fac_lang.specs.declared.core_table.CoreWord.{CoreWord}
+use Rattle.fac_lang.specs.declared.core_table.CoreWord.TheVariants.{Cond}
 use Rattle.fac_code.specs.declared.image.Action.{Action}
 use Rattle.fac_code.specs.declared.image.Action.TheVariants as action
 use Rattle.fac_code.specs.declared.image.WordRow.{WordRow}
-use Rattle.fac_vm.specs.Machine.{word_with, same_action}
-use Rattle.fac_emit.specs.Accessors.{Accessor, getting, setting, putting, accessor_sort, accessor_action}
+use Rattle.fac_machine.specs.Machine.{word_with, same_action}
+use Rattle.fac_carry.specs.Accessors.{Accessor, getting, setting, putting, accessor_sort, accessor_action}
 use Rattle.fac_emit.specs.ProgramTexts.{sort_texts, program_texts, text_number}
-use Rattle.fac_emit.specs.ProgramCode.{sort_action}
+use Rattle.fac_emit.specs.ProgramCode.{sort_action, core_action}
 use Rattle.fac_emit.proofs.Closings.{Alike, a_same, a_body, a_past, a_method}
 use Rattle.fac_emit.proofs.TextLemmas.{IsAmong, AreAmong, text_there, word_named}
 
@@ -121,11 +122,11 @@ module _ (C : Program) (templates : List Template) where
 
   prim_other : (v at k : ℕ) (s : Sort) → same_sort s (prim k) ≡ false → same_action (action.Prim k) (sort_action C templates v at s) ≡ false
   prim_other v at k (prim j) h = other_number j k h
-  prim_other v at k (core j) h = core_other (is_core_action j)
+  prim_other v at k (core j) h = core_other j
     where
-      core_other : (b : Bool) → same_action (action.Prim k) (elim b [ true ↦ action.Core j | false ↦ action.Itself ]) ≡ false
-      core_other true = refl
-      core_other false = refl
+      core_other : (c : CoreWord) → same_action (action.Prim k) (core_action c) ≡ false
+      core_other Cond = refl
+      core_other _ = refl
   prim_other v at k _ h = refl
 
   -- slots with one number have one name
@@ -145,16 +146,16 @@ module _ (C : Program) (templates : List Template) where
       same_number : (j k : ℕ) → nat_eq j k ≡ true → j ≡ k
       same_number j k h = grind arith
 
-  core_row : (x : Accessor) (u : List ℕ) (b : Bool) (j : ℕ) → same_action (accessor_action x (text_number C templates u)) (elim b [ true ↦ action.Core j | false ↦ action.Itself ]) ≡ false
-  core_row getting u true j = refl
-  core_row getting u false j = refl
-  core_row setting u true j = refl
-  core_row setting u false j = refl
-  core_row putting u true j = refl
-  core_row putting u false j = refl
+  core_row : (x : Accessor) (u : List ℕ) (c : CoreWord) → same_action (accessor_action x (text_number C templates u)) (core_action c) ≡ false
+  core_row getting u Cond = refl
+  core_row getting u _ = refl
+  core_row setting u Cond = refl
+  core_row setting u _ = refl
+  core_row putting u Cond = refl
+  core_row putting u _ = refl
 
   accessor_other : (x : Accessor) (u : List ℕ) (v at : ℕ) (s : Sort) → IsAmong (program_texts C templates) u → Named s → same_sort s (accessor_sort x u) ≡ false → same_action (accessor_action x (text_number C templates u)) (sort_action C templates v at s) ≡ false
-  accessor_other x u v at (core j) hu hy h = core_row x u (is_core_action j) j
+  accessor_other x u v at (core j) hu hy h = core_row x u j
   accessor_other getting u v at (getter y) hu hy h = slot_other u y hu hy h
   accessor_other getting u v at _ hu hy h = refl
   accessor_other setting u v at (setter y) hu hy h = slot_other u y hu hy h

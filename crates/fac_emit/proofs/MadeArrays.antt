@@ -3,7 +3,7 @@ use Rattle.std.proofs.Common.{◌≡◌, ℕ, suc, List, [], ◌∷◌, ◌++◌
 use Rattle.std.proofs.lemmas.Bool.{ltb-true}
 use Rattle.std.proofs.lemmas.List.{length-map}
 use Rattle.std.specs.Prelude.{map}
-use Rattle.fac_lang.specs.declared.phrase.Height.{Height}
+use Rattle.fac_base.specs.declared.height.Height.{Height}
 use Rattle.fac_lang.specs.declared.phrase.Template.{Template}
 use Rattle.fac_lang.specs.declared.program.Program.{Program}
 use Rattle.fac_lang.specs.declared.program.Lit.{Lit}
@@ -19,17 +19,17 @@ use Rattle.fac_locals.proofs.OpeningLaws.{programs_open}
 use Rattle.fac_code.specs.declared.image.Elem.{Elem}
 use Rattle.fac_code.specs.declared.image.Image.{Image}
 use Rattle.fac_store.specs.MachineValues.{MValue, m_fun, m_lit, none_kept}
-use Rattle.fac_vm.specs.Machine.{element_value, with_arrays, first_world}
-use Rattle.fac_emit.specs.MachineView.{Templates, template_phrases, value_view, values_view, object_view, world_view}
-use Rattle.fac_emit.specs.WholeValues.{Whole, AllWhole, WholeObjects}
+use Rattle.fac_machine.specs.Machine.{element_value, with_arrays, first_world}
+use Rattle.fac_carry.specs.MachineView.{Templates, template_phrases, value_view, values_view, object_view, world_view}
+use Rattle.fac_carry.specs.WholeValues.{Whole, AllWhole, WholeObjects}
 use Rattle.fac_emit.specs.ProgramTexts.{own_elements_texts, arrays_texts, program_texts}
 use Rattle.fac_emit.specs.ProgramCode.{elem_of, elems_of, IsPlain}
-use Rattle.fac_emit.proofs.KeptPrimitives.{object_added}
+use Rattle.fac_carry.proofs.KeptPrimitives.{object_added}
 use Rattle.fac_emit.proofs.LiteralWords.{is_listed_in_array}
 use Rattle.fac_emit.proofs.Placed.{listed_row}
 use Rattle.fac_emit.proofs.PlacedWords.{text_in}
 use Rattle.fac_emit.proofs.TopPhrases.{no_top}
-use Rattle.fac_emit.proofs.SamePrimitives.{map_more}
+use Rattle.fac_carry.proofs.SamePrimitives.{map_more}
 use Rattle.fac_emit.proofs.TextLemmas.{AreAmong, both_among, first_element, all_arrays_named}
 
 pub has_first : (xs : List ℕ) (x : ℕ) → (i : ℕ) × (is : List ℕ) × (xs ++ x ∷ [] ≡ i ∷ is)

@@ -3,10 +3,10 @@ use Rattle.std.proofs.Common.{◌≡◌, ◌<◌, ◌≤◌, ℕ, zero, suc, ◌
 use Rattle.std.proofs.lemmas.Bool.{lt-ltb, ne_eqb, cases_lt}
 use Rattle.std.proofs.lemmas.List.{length-map}
 use Rattle.std.specs.Prelude.{nat_eq, nat_lt, slice_get}
-use Rattle.fac_lang.specs.declared.phrase.Height.{Height}
+use Rattle.fac_base.specs.declared.height.Height.{Height}
 use Rattle.fac_lang.specs.declared.phrase.Template.{Template}
 use Rattle.fac_lang.specs.declared.program.ClassDef.{ClassDef}
-use Rattle.fac_lang.specs.declared.program.Name.{Name}
+use Rattle.fac_base.specs.declared.name.Name.{Name}
 use Rattle.fac_lang.specs.declared.program.Program.{Program}
 use Rattle.fac_lang.specs.declared.program.WordDef.{WordDef}
 use Rattle.fac_lang.specs.declared.program.Shape.{Shape}
@@ -25,7 +25,7 @@ use Rattle.fac_code.specs.declared.image.Tables.{Tables}
 use Rattle.fac_code.specs.declared.image.WordRow.{WordRow}
 use Rattle.fac_code.specs.Images.{tables_of}
 use Rattle.fac_code.specs.ImageNames.{kind_beside, text_of, kind_row, row_slots, own_kind_of, with_count, single_kind, image_names}
-use Rattle.fac_emit.specs.Carries.{image_full_name, full_name_of}
+use Rattle.fac_carry.specs.Carries.{image_full_name, full_name_of}
 use Rattle.fac_emit.specs.ProgramTexts.{program_texts, text_number}
 use Rattle.fac_emit.specs.ProgramTables.{slot_numbers, kind_row_of, kinds_from, sort_kind, pairs_from, program_pairs}
 use Rattle.fac_emit.specs.ProgramCode.{word_code, words_from, IsPlain}

@@ -18,12 +18,12 @@ use Rattle.fac_locals.proofs.Lookups.{word_closed}
 use Rattle.fac_generic.specs.Methods.{methods_in_order}
 use Rattle.fac_code.specs.declared.image.GenericRow.{GenericRow}
 use Rattle.fac_code.specs.declared.image.MethodRow.{MethodRow}
-use Rattle.fac_vm.specs.Machine.{first_of, place_in, place_from}
+use Rattle.fac_machine.specs.Machine.{first_of, place_in, place_from}
 use Rattle.fac_emit.specs.ProgramTables.{method_row, generics_from}
 use Rattle.fac_emit.proofs.FirstWords.{any_there}
 use Rattle.fac_generic.specs.Methods.{MethodLaws}
 use Rattle.fac_emit.proofs.PlacedWords.{word_there}
-use Rattle.fac_emit.proofs.RunningPhrases.{IsMethod}
+use Rattle.fac_locals.proofs.RunningPhrases.{IsMethod}
 use Rattle.fac_emit.proofs.TableNumbers.{order_same}
 
 never_true : {A : Type 0} → false ≡ true → A

@@ -1,12 +1,12 @@
 -- Where the code of templates and words stands in plain code, and their rows.
 use Rattle.std.proofs.Common.{◌≡◌, ◌<◌, ℕ, zero, suc, ◌+◌, List, [], ◌∷◌, ◌++◌, length, drop, Option, Some, None, refl, ap, sym, subst, ◌∙◌, arith, append_assoc}
 use Rattle.std.specs.Prelude.{slice_get}
-use Rattle.fac_lang.specs.declared.phrase.Height.{Height}
+use Rattle.fac_base.specs.declared.height.Height.{Height}
 use Rattle.fac_lang.specs.declared.phrase.Template.{Template}
 use Rattle.fac_lang.specs.declared.program.Program.{Program}
 use Rattle.fac_lang.specs.declared.program.WordDef.{WordDef}
 use Rattle.fac_locals.specs.Literals.{Quoted, literals, literal_or, literal_numbered}
-use Rattle.fac_captures.specs.Cells.{captured, hole_count}
+use Rattle.fac_locals.specs.Cells.{captured, hole_count}
 use Rattle.fac_locals.specs.Closed.{Closes, ClosesLiteral}
 use Rattle.fac_locals.proofs.Lookups.{template_closed, template_closed_none, templates_count}
 use Rattle.fac_code.specs.declared.image.Instr.{Instr}
@@ -15,7 +15,7 @@ use Rattle.fac_code.specs.declared.image.TemplateRow.{TemplateRow}
 use Rattle.fac_code.specs.declared.image.WordRow.{WordRow}
 use Rattle.fac_store.specs.CallableHeights.{height_there}
 use Rattle.fac_emit.specs.ProgramCode.{made_instr, phrase_code, templates_code, row_at, template_rows, word_row, word_code, code_from, words_from, program_code, program_templates, program_words}
-use Rattle.fac_emit.specs.Stands.{making}
+use Rattle.fac_carry.specs.Stands.{making}
 use Rattle.fac_emit.proofs.LiteralWords.{in_a_word, is_listed}
 use Rattle.fac_emit.proofs.Closings.{drop_behind, get_at}
 

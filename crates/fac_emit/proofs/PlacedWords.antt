@@ -2,7 +2,7 @@
 use Rattle.std.proofs.Common.{◌≡◌, ◌<◌, ℕ, zero, suc, ◌+◌, List, [], ◌∷◌, ◌++◌, length, drop, map, Bool, true, false, Option, Some, None, refl, ap, sym, subst, ◌∙◌, arith, length-append}
 use Rattle.std.specs.Prelude.{nat_eq, take, slice_get}
 use Rattle.std.specs.Option.{option_map}
-use Rattle.fac_lang.specs.declared.phrase.Height.{Height}
+use Rattle.fac_base.specs.declared.height.Height.{Height}
 use Rattle.fac_lang.specs.declared.phrase.Template.{Template}
 use Rattle.fac_lang.specs.declared.program.Program.{Program}
 use Rattle.fac_lang.specs.declared.program.WordDef.{WordDef}
@@ -23,16 +23,16 @@ use Rattle.fac_code.specs.declared.image.Image.{Image}
 use Rattle.fac_code.specs.declared.image.MethodRow.{MethodRow}
 use Rattle.fac_code.specs.declared.image.WordRow.{WordRow}
 use Rattle.fac_generic.specs.Methods.{methods_in_order, first_with}
-use Rattle.fac_vm.specs.Machine.{set_has, method_for, method_after}
+use Rattle.fac_machine.specs.Machine.{set_has, method_for, method_after}
 use Rattle.fac_emit.specs.ProgramTexts.{own_texts, sort_texts, program_texts, text_number}
 use Rattle.fac_emit.specs.ProgramTables.{generics_among, generic_number, method_row, generics_from}
 use Rattle.fac_emit.specs.ProgramCode.{phrase_code, last_instr, sort_action, sort_code, word_row, word_code, program_words, code_place, program_generics, IsPlain}
-use Rattle.fac_emit.specs.Stands.{RunsPhrase, HasCode, SameMethod}
+use Rattle.fac_carry.specs.Stands.{RunsPhrase, HasCode, SameMethod}
 use Rattle.fac_emit.proofs.ClassSets.{set_same}
 use Rattle.fac_emit.proofs.Closings.{Alike, a_same, a_body, a_past, a_method, alike, Closing, closing}
 use Rattle.fac_generic.specs.Methods.{MethodLaws}
 use Rattle.fac_emit.proofs.Placed.{words_placed}
-use Rattle.fac_emit.proofs.RunningPhrases.{RunsAs}
+use Rattle.fac_locals.proofs.RunningPhrases.{RunsAs}
 use Rattle.fac_emit.proofs.TableNumbers.{order_same, sets_same}
 use Rattle.fac_emit.proofs.TextLemmas.{IsAmong, AreAmong, text_there, body_among}
 
@@ -52,11 +52,6 @@ pub found_below : {A : Type 0} (xs : List A) (k : ℕ) (x : A) → slice_get xs 
 found_below [] k x e = absurd (cc)
 found_below (y ∷ xs) zero x e = omega arith
 found_below (y ∷ xs) (suc k) x e = let later = found_below xs k x e in omega (arith, later)
-
-pub element_at : {A : Type 0} (xs : List A) (k : ℕ) → k < length xs → (x : A) × (slice_get xs k ≡ Some x)
-element_at [] k lt = absurd (omega (arith, lt))
-element_at (x ∷ xs) zero lt = (x, refl)
-element_at (x ∷ xs) (suc k) lt = element_at xs k (omega (arith, lt))
 
 get_dropped : {A : Type 0} (xs : List A) (i j : ℕ) → slice_get (drop i xs) j ≡ slice_get xs (i + j)
 get_dropped xs zero j = let n : 0 + j ≡ j = omega arith in rw n refl

@@ -1,8 +1,8 @@
 -- The plain code of a closed program stands for the phrases of its program.
-use Rattle.std.proofs.Common.{◌≡◌, ◌<◌, ℕ, zero, suc, ◌+◌, List, [], ◌∷◌, ◌++◌, length, drop, map, Bool, true, false, Option, Some, refl, ap, sym, subst, ◌∙◌, arith}
+use Rattle.std.proofs.Common.{◌≡◌, ◌<◌, ℕ, ◌+◌, List, [], ◌∷◌, ◌++◌, length, drop, map, Bool, true, false, Option, Some, refl, ap, sym, subst, ◌∙◌, arith}
 use Rattle.std.proofs.lemmas.Bool.{ne_eqb}
 use Rattle.std.specs.Prelude.{nat_eq, slice_get}
-use Rattle.fac_lang.specs.declared.phrase.Height.{Height}
+use Rattle.fac_base.specs.declared.height.Height.{Height}
 use Rattle.fac_lang.specs.declared.phrase.Template.{Template}
 use Rattle.fac_lang.specs.declared.program.Program.{Program}
 use Rattle.fac_lang.specs.declared.program.WordDef.{WordDef}
@@ -12,18 +12,18 @@ use Rattle.fac_lang.specs.Phrases.{int, yes, no, str, wrd, Literal, Phrase, Item
 use Rattle.fac_lang.specs.Substitution.{put_local, put_holes}
 use Rattle.fac_lang.proofs.SourcePrograms.{IsSourceProgram, IsSourceSort}
 use Rattle.fac_lang.specs.Whole.{IsWhole}
-use Rattle.fac_lang.specs.CoreWords.{is_built_core}
+use Rattle.fac_lang.specs.declared.core_table.CoreWord.{CoreWord}
+use Rattle.fac_lang.specs.declared.core_table.CoreWord.TheVariants.{Call as c_call, Dip as c_dip, If as c_if, Execute as c_execute, Boa as c_boa, Cond as c_cond}
 use Rattle.fac_lang.specs.Classes.{next}
-use Rattle.fac_lang.specs.Meaning.{sort_of, sort_phrase, word_phrase, generic_of, sort_act, core_numbered}
+use Rattle.fac_lang.specs.Meaning.{sort_of, sort_phrase, word_phrase, generic_of, sort_act}
 use Rattle.fac_lang.proofs.FormsLemmas.{word_below, sort_at, top_word}
-use Rattle.fac_captures.specs.Cells.{inner_cells}
+use Rattle.fac_locals.specs.Cells.{inner_cells}
 use Rattle.fac_locals.specs.Literals.{Quoted, quoted_phrase, behind, first_of_word, first_of_literal, literal_numbered}
 use Rattle.fac_locals.specs.Closed.{Closes, ClosesSort}
 use Rattle.fac_locals.specs.Frames.{ArePut, items_at, template_phrase, IsPlain as IsPlainItem, OpensItem, o_plain, o_local, o_quotation, o_fry, Opens, o_end, o_item, o_bind}
 use Rattle.fac_locals.specs.OpenedPrograms.{OpensSort, OpensProgram}
 use Rattle.fac_locals.proofs.OpeningLaws.{programs_open}
 use Rattle.fac_locals.proofs.Lookups.{word_closed, template_closed}
-use Rattle.fac_code.specs.Code.{is_core_action}
 use Rattle.fac_code.specs.declared.image.Instr.{Instr}
 use Rattle.fac_code.specs.declared.image.Instr.TheVariants.{Halt, Quot, Bind, Local, Callw, Ret, Boa}
 use Rattle.fac_code.specs.declared.image.Action.TheVariants as action
@@ -33,22 +33,23 @@ use Rattle.fac_code.specs.declared.image.TemplateRow.{TemplateRow}
 use Rattle.fac_code.specs.declared.image.WordRow.{WordRow}
 use Rattle.fac_generic.specs.Methods.{methods_in_order}
 use Rattle.fac_store.specs.MachineValues.{MValue, kept_list, cells_at}
-use Rattle.fac_emit.specs.Accessors.{Accessor, getting, setting, putting, accessor_sort, accessor_instr, accessor_action}
-use Rattle.fac_emit.specs.MachineView.{Templates, template_phrases, value_view, values_view}
-use Rattle.fac_vm.specs.Machine.{method_after, method_place}
+use Rattle.fac_carry.specs.Accessors.{Accessor, getting, setting, putting, accessor_sort, accessor_instr, accessor_action}
+use Rattle.fac_carry.specs.MachineView.{Templates, template_phrases, value_view, values_view}
+use Rattle.fac_machine.specs.Machine.{method_after, method_place}
 use Rattle.fac_emit.specs.ProgramTexts.{own_texts, own_item_texts, program_texts, text_number}
 use Rattle.fac_emit.specs.ProgramTables.{generic_number, method_row}
 use Rattle.fac_emit.specs.ProgramCode.{core_instr, core_action, sort_instr, made_instr, item_instr, phrase_code, last_instr, sort_action, sort_code, word_row, code_place, program_words, program_generics, IsPlain}
-use Rattle.fac_emit.specs.Stands.{RunsPhrase, making, SameMethod, l_word, l_call, l_if, l_execute, l_call_effect, l_execute_effect, l_generic, l_next, Acting, a_itself, a_prim, a_accessor, a_isa, a_core, a_stuck, a_code, a_generic, HasAction, Translates, t_int, t_true, t_false, t_text, t_array, t_reference, t_symbol, t_held, t_quot, t_fry, t_prim, t_accessor, t_isa, t_dip, t_boa, t_stuck, t_calling, Stands, s_end, s_item, s_bind, Coded, PlainCode}
-use Rattle.fac_emit.proofs.Closings.{alike, closing, closed_runs}
-use Rattle.fac_emit.proofs.HeldFrames.{helds, helds_put, helds_count, helds_more, held_at, captured_values, kept_list_view}
+use Rattle.fac_carry.specs.Stands.{RunsPhrase, making, SameMethod, l_word, l_call, l_if, l_execute, l_call_effect, l_execute_effect, l_generic, l_next, Acting, a_itself, a_prim, a_accessor, a_isa, a_core, a_stuck, a_code, a_generic, HasAction, Translates, t_int, t_true, t_false, t_text, t_array, t_reference, t_symbol, t_held, t_quot, t_fry, t_prim, t_accessor, t_isa, t_dip, t_boa, t_stuck, t_calling, Stands, s_end, s_item, s_bind, Coded, PlainCode}
+use Rattle.fac_emit.proofs.Closings.{alike, closing, closed_runs, IsClosedItem, AreClosedItems}
+use Rattle.fac_carry.proofs.HeldFrames.{helds, helds_put, helds_count, helds_more, held_at, captured_values, kept_list_view}
 use Rattle.fac_emit.proofs.FirstWords.{Named, named_alike, accessor_slot, word_slot, DoAsSorts, first_prim, first_accessor}
 use Rattle.fac_generic.specs.Methods.{MethodLaws}
 use Rattle.fac_emit.proofs.NextMethods.{method_found}
 use Rattle.fac_emit.proofs.Placed.{Rows, code_at, row_of, template_at, all_rows}
-use Rattle.fac_emit.proofs.PlacedWords.{found_below, element_at, Ran, ran, text_in, WordPut, word_put, word_does, place_by, has_code, one_place, in_set, picked_same, next_same, generic_row}
+use Rattle.fac_emit.proofs.PlacedWords.{found_below, Ran, ran, text_in, WordPut, word_put, word_does, place_by, has_code, one_place, in_set, picked_same, next_same, generic_row}
+use Rattle.fac_carry.proofs.ElementLemmas.{element_at}
 use Rattle.fac_emit.proofs.TopPhrases.{no_top, before_top}
-use Rattle.fac_emit.proofs.RunningPhrases.{IsMethod, IsRun, IsRunItem, word_runs, literal_runs}
+use Rattle.fac_locals.proofs.RunningPhrases.{IsMethod, word_runs, literal_runs}
 use Rattle.fac_emit.proofs.TableNumbers.{order_same}
 use Rattle.fac_emit.proofs.TextLemmas.{AreAmong, both_among, word_named, template_named}
 
@@ -75,14 +76,13 @@ module _ (P C : Program) (templates : List Template) (heights : List (Option Hei
   abbrev Does : List MValue → ℕ → Instr → Type 0
   Does F w x = Translates P M (template_phrases P) F (word w) x
 
-  core_does : (F : List MValue) (w k : ℕ) → is_built_core k ≡ true → sort_of P w ≡ Some (core_sort k) → Does F w (core_instr k)
-  unfolding core_numbered
-  core_does F w zero h e = t_calling (l_call w 0 e refl)
-  core_does F w (suc zero) h e = t_dip w 1 e refl
-  core_does F w (suc (suc zero)) h e = t_calling (l_if w 2 e refl)
-  core_does F w (suc (suc (suc zero))) h e = t_calling (l_execute w 3 e refl)
-  core_does F w (suc (suc (suc (suc zero)))) h e = t_boa w 4 e refl
-  core_does F w (suc (suc (suc (suc (suc k))))) h e = t_stuck Boa (λ fits callable_height st. ap (λ (o : Option Sort). sort_act P w o st) e)
+  core_does : (F : List MValue) (w : ℕ) (c : CoreWord) → sort_of P w ≡ Some (core_sort c) → Does F w (core_instr c)
+  core_does F w c_call e = t_calling (l_call w e)
+  core_does F w c_dip e = t_dip w e
+  core_does F w c_if e = t_calling (l_if w e)
+  core_does F w c_execute e = t_calling (l_execute w e)
+  core_does F w c_boa e = t_boa w e
+  core_does F w c_cond e = t_stuck Boa (λ fits callable_height st. ap (λ (o : Option Sort). sort_act P w o st) e)
 
   slot_of : (x : Accessor) (w : ℕ) (s : List ℕ) (d : WordDef) → slice_get P.words w ≡ Some d → d.sort ≡ accessor_sort x s → slice_get M.texts (text_number C templates s) ≡ Some s
   slot_of x w s d at is = text_in P C templates heights M b closes is_plain s (accessor_slot C templates x s (subst (Named C templates) is (slots w d at)))
@@ -95,7 +95,7 @@ module _ (P C : Program) (templates : List Template) (heights : List (Option Hei
 
   sort_does : (F : List MValue) (w : ℕ) (d c : WordDef) (s : Sort) → w < P.top → (e : slice_get P.words w ≡ Some d) → slice_get C.words w ≡ Some c → d.sort ≡ s → ClosesSort P w s c.sort → IsSourceSort P.top d s → Does F w (sort_instr C templates w c.sort)
   sort_does F w d c (prim_sort k) lt e at is h built = rw h (t_prim w k (sort_at P w d e ∙ ap Some is) built.is_built (first_prim C templates P M.words whole.words_differ does present w k d e is))
-  sort_does F w d c (core_sort k) lt e at is h built = rw h (core_does F w k built.is_built (sort_at P w d e ∙ ap Some is))
+  sort_does F w d c (core_sort k) lt e at is h built = rw h (core_does F w k (sort_at P w d e ∙ ap Some is))
   sort_does F w d c (body t) lt e at is h built = rw h.1 (phrase_does F w d lt e (subst (λ (s : Sort). RunsPhrase (Some s)) (sym is) tt))
   sort_does F w d c (method n g t) lt e at is h built = rw h.1 (phrase_does F w d lt e (subst (λ (s : Sort). RunsPhrase (Some s)) (sym is) tt))
   sort_does F w d c itself lt e at is h built = let p = put w d e in rw h (t_symbol w (word_row C templates p.place w p.closed) (rw (sort_at P w d e ∙ ap Some is) tt) (no_top P b w lt) p.row)
@@ -122,20 +122,13 @@ module _ (P C : Program) (templates : List Template) (heights : List (Option Hei
   accessor_acts : (x : Accessor) (w : ℕ) (s : List ℕ) (d : WordDef) → slice_get P.words w ≡ Some d → d.sort ≡ accessor_sort x s → Acting P M w (accessor_action x (text_number C templates s))
   accessor_acts x w s d at is = a_accessor x (text_number C templates s) s (sort_at P w d at ∙ ap Some is) (slot_of x w s d at is) (first_accessor C templates P M.words whole.words_differ does present slots x s w d at is)
 
-  no_core : (k : ℕ) → core_action (suc (suc (suc (suc (suc k))))) ≡ action.Itself
-  no_core k = ap (λ (q : Bool). elim q [ true ↦ action.Core (suc (suc (suc (suc (suc k))))) | false ↦ action.Itself ]) (above k)
-    where
-      above : (k : ℕ) → is_core_action (suc (suc (suc (suc (suc k))))) ≡ false
-      above k = grind arith
-
-  core_acts : (w k : ℕ) → sort_of P w ≡ Some (core_sort k) → Acting P M w (core_action k)
-  unfolding core_numbered
-  core_acts w zero e = a_core 0 e
-  core_acts w (suc zero) e = a_core 1 e
-  core_acts w (suc (suc zero)) e = a_core 2 e
-  core_acts w (suc (suc (suc zero))) e = a_core 3 e
-  core_acts w (suc (suc (suc (suc zero)))) e = a_core 4 e
-  core_acts w (suc (suc (suc (suc (suc k))))) e = rw (no_core k) (a_stuck action.Itself (λ fits callable_height st. ap (λ (o : Option Sort). sort_act P w o st) e))
+  core_acts : (w : ℕ) (c : CoreWord) → sort_of P w ≡ Some (core_sort c) → Acting P M w (core_action c)
+  core_acts w c_call e = a_core c_call e
+  core_acts w c_dip e = a_core c_dip e
+  core_acts w c_if e = a_core c_if e
+  core_acts w c_execute e = a_core c_execute e
+  core_acts w c_boa e = a_core c_boa e
+  core_acts w c_cond e = a_stuck action.Itself (λ fits callable_height st. ap (λ (o : Option Sort). sort_act P w o st) e)
 
   phrase_acts : (w : ℕ) (d : WordDef) → w < P.top → (e : slice_get P.words w ≡ Some d) → RunsPhrase (Some d.sort) → Acting P M w (action.Code (put w d e).place)
   phrase_acts w d lt e runs = let p = put w d e in a_code p.place (has_code P C templates heights M b closes is_plain w d p e lt runs)
@@ -210,7 +203,7 @@ module _ (P C : Program) (templates : List Template) (heights : List (Option Hei
       λ us n. puts (helds T us) (helds_put T us) (helds_count T us ∙ n ∙ holes) ∙ ap (λ (js : List Item). template_phrase P q (js ++ helds T us)) kept.2 ∙ ap (template_phrase P q) (sym (helds_more T kept.0 us)) ∙ sym (template_held q (kept.0 ++ us)) in
       rw (ap (made_instr q) et) (subst (λ (n : ℕ). Translates P M T F (fry u n) (making q n)) holes (t_fry q found.row kept.0 u found.there cells put))
 
-  plain_does : (F : List MValue) (i : Item) → IsPlainItem P i → IsRunItem P i → AreAmong (program_texts C templates) (own_item_texts i) → Translates P M T F i (item_instr C templates i)
+  plain_does : (F : List MValue) (i : Item) → IsPlainItem P i → IsClosedItem P i → AreAmong (program_texts C templates) (own_item_texts i) → Translates P M T F i (item_instr C templates i)
   plain_does F (lit (int z)) h r n = t_int z
   plain_does F (lit yes) h r n = t_true
   plain_does F (lit no) h r n = t_false
@@ -229,7 +222,7 @@ module _ (P C : Program) (templates : List Template) (heights : List (Option Hei
   local_does F k i e = let found = held_at T F k i e in subst (λ (j : Item). Translates P M T F j (Local k)) (sym found.2) (t_held k found.0 found.1)
 
   -- an item of a closed phrase under a frame
-  item_does : (F : List MValue) (at : Literal) (j i : Item) → OpensItem P templates (helds T F) at j i → IsRunItem P j → AreAmong (program_texts C templates) (own_item_texts j) → Translates P M T F i (item_instr C templates j)
+  item_does : (F : List MValue) (at : Literal) (j i : Item) → OpensItem P templates (helds T F) at j i → IsClosedItem P j → AreAmong (program_texts C templates) (own_item_texts j) → Translates P M T F i (item_instr C templates j)
   item_does F at j i (o_plain x h) r n = plain_does F x h r n
   item_does F at j i (o_local k x e put) r n = local_does F k x e
   item_does F at j i (o_quotation k t is et eh where_at ei) r n = quotation_does F k t is et eh ei
@@ -237,7 +230,7 @@ module _ (P C : Program) (templates : List Template) (heights : List (Option Hei
 
   -- The code of a closed phrase stands for the phrase that it opens to under a frame, whatever comes behind.
   phrase_stands :
-      (last : Instr) (F : List MValue) (frame : List Item) (pc : ℕ) (at : Literal) (c t : Phrase) (more : List Instr) → frame ≡ helds T F → Opens P templates frame at c t → IsRun P c → AreAmong (program_texts C templates) (own_texts c) →
+      (last : Instr) (F : List MValue) (frame : List Item) (pc : ℕ) (at : Literal) (c t : Phrase) (more : List Instr) → frame ≡ helds T F → Opens P templates frame at c t → AreClosedItems P c → AreAmong (program_texts C templates) (own_texts c) →
       drop pc M.code ≡ phrase_code C templates last c ++ more → Stands P M T last F pc t
   phrase_stands last F frame pc at c t more is o_end r n e = s_end (code_at M.code pc last more e).0
   phrase_stands last F frame pc at c t more is (o_item {j = j} {i = i} {c = d} h later) r n e =

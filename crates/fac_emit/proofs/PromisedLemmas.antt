@@ -1,13 +1,14 @@
 -- What a word is tested by.
 use Rattle.std.proofs.Common.{◌≡◌, ℕ, Bool, true, false, Option, Some, None, refl, sym}
 use Rattle.std.specs.Prelude.{◌||◌, nat_eq}
-use Rattle.fac_lang.specs.declared.phrase.Height.{Height}
+use Rattle.fac_base.specs.declared.height.Height.{Height}
 use Rattle.fac_lang.specs.declared.program.Program.{Program}
 use Rattle.fac_lang.specs.declared.program.WordDef.{WordDef}
 use Rattle.fac_lang.specs.declared.program.Sort.{Sort}
 use Rattle.fac_lang.specs.declared.program.Sort.TheVariants.{Prim as prim, Core as core, Body as body, Past as past, Itself as itself, Class as class, Isa as isa, Getter as getter, Setter as setter, Putter as putter, Generic as generic, Method as method}
-use Rattle.fac_lang.specs.Signatures.{Signature}
-use Rattle.fac_lang.specs.Effects.{effect_height, word_height}
+use Rattle.fac_base.specs.Signatures.{Signature}
+use Rattle.fac_base.specs.Effects.{effect_height}
+use Rattle.fac_lang.specs.WordHeights.{word_height}
 use Rattle.fac_lang.specs.Meaning.{is_past}
 use Rattle.fac_emit.specs.Heights.{tested_height}
 use Rattle.fac_emit.specs.inner.Promised.{declared_height, promised_height, height_where}

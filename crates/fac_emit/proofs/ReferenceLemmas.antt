@@ -1,24 +1,26 @@
 -- Each number in plain code and its tables names something.
-use Rattle.std.proofs.Common.{◌≡◌, ◌<◌, ℕ, zero, suc, ◌+◌, List, [], ◌∷◌, ◌++◌, length, map, drop, Bool, true, false, ◌&&◌, Option, Some, None, refl, ap, sym, subst, ◌∙◌, arith}
+use Rattle.std.proofs.Common.{◌≡◌, ◌<◌, ℕ, zero, suc, ◌+◌, List, [], ◌∷◌, ◌++◌, length, map, drop, Bool, true, ◌&&◌, Option, Some, None, refl, ap, sym, subst, ◌∙◌, arith}
 use Rattle.std.proofs.lemmas.Bool.{lt-ltb, ltb-true}
 use Rattle.std.proofs.lemmas.List.{length-map, append-nil}
 use Rattle.std.proofs.lemmas.List.Folds.{list_all-append}
 use Rattle.std.specs.Prelude.{nat_eq, nat_lt, slice_get}
 use Rattle.std.specs.List.{list_all}
-use Rattle.fac_lang.specs.declared.phrase.Height.{Height}
+use Rattle.fac_base.specs.declared.height.Height.{Height}
 use Rattle.fac_lang.specs.declared.phrase.Template.{Template}
 use Rattle.fac_lang.specs.declared.program.Lit.{Lit}
 use Rattle.fac_lang.specs.declared.program.Lit.TheVariants.{Int as l_int, True as l_yes, False as l_no, Str as l_str, Arr as l_arr, Wref as l_word, Quot as l_quot, Made as l_made}
 use Rattle.fac_lang.specs.declared.program.Program.{Program}
 use Rattle.fac_lang.specs.declared.program.WordDef.{WordDef}
 use Rattle.fac_lang.specs.declared.program.Sort.{Sort}
+use Rattle.fac_lang.specs.declared.core_table.CoreWord.{CoreWord}
+use Rattle.fac_lang.specs.declared.core_table.CoreWord.TheVariants.{Call as c_call, Dip as c_dip, If as c_if, Execute as c_execute, Boa as c_boa, Cond as c_cond}
 use Rattle.fac_lang.specs.declared.program.Sort.TheVariants.{Prim as prim_sort, Core as core_sort, Body as body, Past as past, Itself as itself, Class as class, Isa as isa, Getter as getter, Setter as setter, Putter as putter, Generic as generic, Method as method}
 use Rattle.fac_lang.specs.Phrases.{Literal, Phrase, quot, fry}
 use Rattle.fac_lang.proofs.SourcePrograms.{IsSourceProgram, IsSourceElement, AreSourceElements, AreSourceArrays}
 use Rattle.fac_lang.specs.Meaning.{sort_of, generic_of, array_method}
 use Rattle.fac_lang.specs.Whole.{IsWhole, sort_fits, names_earlier, each_numbered, arrays_in, arrays_named}
-use Rattle.fac_captures.specs.declared.cell.Cell.{Cell}
-use Rattle.fac_captures.specs.Cells.{inner_cells, hole_count}
+use Rattle.fac_locals.specs.declared.cell.Cell.{Cell}
+use Rattle.fac_locals.specs.Cells.{inner_cells, hole_count}
 use Rattle.fac_locals.specs.Literals.{Quoted, quoted_phrase, behind, first_of_word, first_of_literal, first_in_array, element_item, literal_numbered}
 use Rattle.fac_locals.specs.Closed.{IsMadeBy, Closes, ClosesElement, CloseElements, CloseArrays}
 use Rattle.fac_locals.proofs.Lookups.{word_open, word_closed, template_closed}
@@ -32,13 +34,12 @@ use Rattle.fac_code.specs.declared.image.MethodRow.{MethodRow}
 use Rattle.fac_code.specs.declared.image.Tables.{Tables}
 use Rattle.fac_code.specs.declared.image.TemplateRow.{TemplateRow}
 use Rattle.fac_code.specs.declared.image.WordRow.{WordRow}
-use Rattle.fac_code.specs.Code.{is_core_action}
 use Rattle.fac_code.specs.References.{is_code, names_code, has_method, names_method, names_constant, elem_refers, arrays_refer, instr_refers, places_refer, pairs_refer, action_refers, word_refers, template_refers, kind_refers, set_refers, method_refers, generic_refers, tables_refer, refers}
 use Rattle.fac_generic.specs.Methods.{methods_in_order}
 use Rattle.fac_emit.specs.ProgramTexts.{own_texts, own_elements_texts, sort_texts, arrays_texts, program_texts, text_number}
 use Rattle.fac_emit.specs.ProgramTables.{generic_number, method_row, generics_from}
 use Rattle.fac_emit.specs.ProgramCode.{core_action, sort_instr, word_instr, made_instr, phrase_code, templates_code, last_instr, sort_action, word_row, sort_code, word_code, code_from, words_from, program_code, program_tables, elem_of, elems_of}
-use Rattle.fac_emit.specs.Stands.{RunsPhrase, making}
+use Rattle.fac_carry.specs.Stands.{RunsPhrase, making}
 use Rattle.fac_emit.proofs.BuiltCode.{and_true, code_plain, places_of}
 use Rattle.fac_emit.proofs.FirstWords.{any_there}
 use Rattle.fac_emit.proofs.Closings.{alike, drop_behind, Closing, c_end, c_int, c_true, c_false, c_text, c_array, c_ref, c_word, c_quot, c_fry, c_bind, c_local, c_hole, c_call_effect, c_execute_effect, c_outside, c_next, closing}
@@ -49,7 +50,7 @@ use Rattle.fac_emit.proofs.NextMethods.{all_at, method_fits, generic_there, list
 use Rattle.fac_emit.proofs.Placed.{Rows, behind_templates, words_placed, literal_of, all_rows, listed_row, literal_row, literal_instr}
 use Rattle.fac_emit.proofs.PlacedWords.{action_alike, does_code, places, row_of, generic_at, word_there}
 use Rattle.fac_emit.proofs.LiteralWords.{is_listed_in_array}
-use Rattle.fac_emit.proofs.RunningPhrases.{IsMethod, word_runs, literal_runs}
+use Rattle.fac_locals.proofs.RunningPhrases.{IsMethod, word_runs, literal_runs}
 use Rattle.fac_emit.proofs.TextLemmas.{AreAmong, both_among, first_element, text_below, word_named, template_named, all_arrays_named, body_among}
 use Rattle.fac_emit.proofs.TableNumbers.{order_same}
 use Rattle.fac_emit.proofs.TableReferences.{sets_many, kinds_refer, sets_refer, pairs_refer_so}
@@ -191,12 +192,13 @@ module _ (P C : Program) (templates : List Template) (heights : List (Option Hei
       both_pass (instr_refers T) (word_code C templates w d) (code_from C templates (suc w) ds) (word_code_refers w (nat_eq w C.top) d.sort first.1 (word_named C templates w d first.0).1.1) (words_refer (suc w) ds (rest_closed w d ds h))
 
   -- rows of words
-  core_within : (k : ℕ) → action_refers T (length code) (core_action k) ≡ true
-  core_within k = by (is_core_action k) refl
-    where
-      by : (q : Bool) → is_core_action k ≡ q → action_refers T (length code) (elim q [ true ↦ action.Core k | false ↦ action.Itself ]) ≡ true
-      by true e = e
-      by false e = refl
+  core_within : (c : CoreWord) → action_refers T (length code) (core_action c) ≡ true
+  core_within c_call = refl
+  core_within c_dip = refl
+  core_within c_if = refl
+  core_within c_execute = refl
+  core_within c_boa = refl
+  core_within c_cond = refl
 
   action_within : (at w : ℕ) (is_top : Bool) (c : WordDef) (s : Sort) (more : List Instr) → slice_get C.words w ≡ Some c → c.sort ≡ s → ClosedAs P w s → Named (sort_texts C templates s) → drop at code ≡ sort_code C templates is_top s ++ more → action_refers T (length code) (sort_action C templates w at s) ≡ true
   action_within at w is_top c (prim_sort k) more e is h n there = h

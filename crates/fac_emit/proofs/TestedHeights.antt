@@ -1,16 +1,17 @@
 -- The effects in the rows of an image are those by which the meaning tests calls.
 use Rattle.std.proofs.Common.{◌≡◌, ℕ, ◌+◌, List, length, Bool, true, false, Option, Some, None, refl, ap, sym, ◌∙◌, arith}
 use Rattle.std.specs.Prelude.{◌||◌, ◌&&◌, not, nat_eq, slice_get}
-use Rattle.fac_lang.specs.declared.phrase.Height.{Height}
+use Rattle.fac_base.specs.declared.height.Height.{Height}
 use Rattle.fac_lang.specs.declared.phrase.Template.{Template}
 use Rattle.fac_lang.specs.declared.program.Program.{Program}
 use Rattle.fac_lang.specs.declared.program.WordDef.{WordDef}
 use Rattle.fac_lang.specs.declared.program.Sort.{Sort}
 use Rattle.fac_lang.specs.declared.program.Sort.TheVariants.{Core as core}
 use Rattle.fac_lang.specs.Phrases.{Value, Callable, of_phrase}
-use Rattle.fac_lang.specs.Signatures.{Signature}
-use Rattle.fac_lang.specs.Effects.{effect_height, word_height}
-use Rattle.fac_lang.specs.HeightArithmetic.{fits}
+use Rattle.fac_base.specs.Signatures.{Signature}
+use Rattle.fac_base.specs.Effects.{effect_height}
+use Rattle.fac_lang.specs.WordHeights.{word_height}
+use Rattle.fac_base.specs.HeightArithmetic.{fits}
 use Rattle.fac_lang.proofs.SourcePrograms.{IsSourceProgram}
 use Rattle.fac_lang.specs.Meaning.{is_past, is_top_phrase, word_fits}
 use Rattle.fac_lang.proofs.FormsLemmas.{sort_at}
@@ -20,11 +21,13 @@ use Rattle.fac_code.specs.declared.image.Image.{Image}
 use Rattle.fac_code.specs.declared.image.TemplateRow.{TemplateRow}
 use Rattle.fac_code.specs.declared.image.WordRow.{WordRow}
 use Rattle.fac_store.specs.CallableHeights.{height_there}
-use Rattle.fac_vm.specs.Machine.{fits_in, row_height}
+use Rattle.fac_machine.specs.Machine.{fits_in, row_height}
 use Rattle.fac_emit.specs.Heights.{HasHeights}
-use Rattle.fac_emit.specs.MachineView.{template_phrases}
+use Rattle.fac_carry.specs.MachineView.{template_phrases}
 use Rattle.fac_emit.specs.ProgramCode.{IsPlain}
-use Rattle.fac_emit.proofs.AskedEffects.{TestsCallables, code_asks}
+use Rattle.fac_carry.proofs.FittingHeights.{fits_so}
+use Rattle.fac_emit.proofs.AskedEffects.{code_asks}
+use Rattle.fac_carry.specs.TestedCalls.{TestsCallables}
 use Rattle.fac_emit.proofs.Closings.{Alike, a_same, a_body, a_past, a_method, alike}
 use Rattle.fac_emit.proofs.NamedImages.{no_rows}
 use Rattle.fac_emit.proofs.Placed.{Rows, template_at, all_rows, row_height_is}
@@ -45,11 +48,6 @@ promised_alike inline e s c (a_same t) = refl
 promised_alike inline e s c (a_body t u) = refl
 promised_alike inline e s c (a_past t u) = refl
 promised_alike inline e s c (a_method n g t u) = refl
-
--- one effect, where it is there
-pub fits_so : (h : Height) (o : Option Height) → fits_in h o ≡ elim o [ Some k ↦ fits k h | None ↦ false ]
-fits_so h None = refl
-fits_so h (Some k) = refl
 
 none_fits : (b : Bool) → false ≡ (b && false)
 none_fits true = refl

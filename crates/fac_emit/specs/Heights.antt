@@ -1,15 +1,15 @@
 -- The effects by which calls are tested.
 use Rattle.std.specs.Prelude.{◌≡◌, ◌+◌, ◌||◌, ℕ, List, map, length, nat_eq, Bool, true, false, Option, Some, None, slice_get}
 use Rattle.std.specs.List.{list_any}
-use Rattle.fac_lang.specs.declared.phrase.Height.{Height}
+use Rattle.fac_base.specs.declared.height.Height.{Height}
 use Rattle.fac_lang.specs.declared.phrase.Template.{Template}
 use Rattle.fac_lang.specs.declared.program.Program.{Program}
 use Rattle.fac_lang.specs.declared.program.WordDef.{WordDef}
 use Rattle.fac_lang.specs.declared.program.Sort.{Sort}
 use Rattle.fac_lang.specs.declared.program.Sort.TheVariants.{Body as body, Method as method}
 use Rattle.fac_lang.specs.Phrases.{Phrase, end, then, Item, call_eff, held, Value, Callable, of_phrase, cur, both}
-use Rattle.fac_lang.specs.Effects.{word_height}
-use Rattle.fac_lang.specs.HeightArithmetic.{curried_height, composed_height}
+use Rattle.fac_lang.specs.WordHeights.{word_height}
+use Rattle.fac_base.specs.HeightArithmetic.{curried_height, composed_height}
 use Rattle.fac_lang.specs.Meaning.{is_past}
 use Rattle.fac_locals.specs.Frames.{template_phrase}
 use Rattle.fac_store.specs.CallableHeights.{height_there}

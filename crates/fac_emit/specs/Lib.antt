@@ -1,14 +1,7 @@
-pub mod MachineView
-pub mod Carries
-pub mod WholeValues
+pub mod CarriedPrograms
 pub mod Heights
-pub mod Accessors
-pub mod Stands
-pub mod Symbols
-pub mod Expanded
 pub mod ProgramTexts
 pub mod ProgramTables
 pub mod ProgramCode
 pub mod Numbered
-pub mod PrintedForms
 pub mod inner

@@ -1,16 +1,17 @@
 -- The plain code of a closed program. That of a phrase is an instruction for each item and one behind them. First stands the code of the templates, by
 -- their numbers, and behind it that of the words, by theirs. So the code of a word ends where that of the next one begins.
-use Rattle.std.specs.Prelude.{◌≡◌, ℕ, zero, suc, ◌+◌, List, [], ◌∷◌, ◌++◌, length, map, nat_eq, Bool, true, false, Option, Some, None, slice_get}
-use Rattle.fac_lang.specs.declared.phrase.Height.{Height}
+use Rattle.std.specs.Prelude.{◌≡◌, ℕ, suc, ◌+◌, List, [], ◌∷◌, ◌++◌, length, map, nat_eq, Bool, true, false, Option, Some, None, slice_get}
+use Rattle.fac_base.specs.declared.height.Height.{Height}
 use Rattle.fac_lang.specs.declared.phrase.Template.{Template}
 use Rattle.fac_lang.specs.declared.program.Lit.{Lit}
 use Rattle.fac_lang.specs.declared.program.Lit.TheVariants.{Int as l_int, True as l_yes, False as l_no, Str as l_str, Arr as l_arr, Wref as l_word, Quot as l_quot, Made as l_made}
 use Rattle.fac_lang.specs.declared.program.Program.{Program}
 use Rattle.fac_lang.specs.declared.program.WordDef.{WordDef}
 use Rattle.fac_lang.specs.declared.program.Sort.{Sort}
+use Rattle.fac_lang.specs.declared.core_table.CoreWord.{CoreWord}
+use Rattle.fac_lang.specs.declared.core_table.CoreWord.TheVariants.{Call as c_call, Dip as c_dip, If as c_if, Execute as c_execute, Boa as c_boa, Cond as c_cond}
 use Rattle.fac_lang.specs.declared.program.Sort.TheVariants.{Prim as prim_sort, Core as core_sort, Body as body, Itself as itself, Class as class, Isa as isa, Getter as getter, Setter as setter, Putter as putter, Generic as generic, Method as method}
 use Rattle.fac_lang.specs.Phrases.{int, yes, no, str, wrd, Phrase, end, then, Item, lit, lit_arr, word, bind, local, call_eff, exec_eff, made, next_after}
-use Rattle.fac_code.specs.Code.{is_core_action}
 use Rattle.fac_code.specs.declared.image.Elem.{Elem}
 use Rattle.fac_code.specs.declared.image.Elem.TheVariants as elem
 use Rattle.fac_code.specs.declared.image.Instr.{Instr}
@@ -23,7 +24,7 @@ use Rattle.fac_code.specs.declared.image.WordRow.{WordRow}
 use Rattle.fac_code.specs.declared.image.GenericRow.{GenericRow}
 use Rattle.fac_code.specs.declared.image.Image.{Image}
 use Rattle.fac_store.specs.CallableHeights.{height_there}
-use Rattle.fac_emit.specs.Stands.{making}
+use Rattle.fac_carry.specs.Stands.{making}
 use Rattle.fac_emit.specs.Heights.{tested_height}
 use Rattle.fac_emit.specs.ProgramTexts.{program_texts, text_number}
 use Rattle.fac_emit.specs.ProgramTables.{program_kinds, program_sets, program_pairs, generic_number, generics_from}
@@ -32,17 +33,19 @@ use Rattle.fac_emit.specs.ProgramTables.{program_kinds, program_sets, program_pa
 abbrev pub stuck_instr : Instr
 stuck_instr = Boa
 
--- The core words `call`, `dip`, `if`, `execute` and `boa`, from 0 on. That of `cond` stands nowhere but in a phrase that nothing can do.
-abbrev pub core_instr : ℕ → Instr
-core_instr zero = Call false
-core_instr (suc zero) = Dip
-core_instr (suc (suc zero)) = If false
-core_instr (suc (suc (suc zero))) = Execute false
-core_instr (suc (suc (suc (suc k)))) = Boa
+-- The core words. `cond` stands nowhere but in a phrase that nothing can do.
+abbrev pub core_instr : CoreWord → Instr
+core_instr c_call = Call false
+core_instr c_dip = Dip
+core_instr c_if = If false
+core_instr c_execute = Execute false
+core_instr c_boa = Boa
+core_instr c_cond = stuck_instr
 
 -- What they do as words. No run does `cond`, and its action is any.
-abbrev pub core_action : ℕ → Action
-core_action k = elim (is_core_action k) [ true ↦ action.Core k | false ↦ action.Itself ]
+abbrev pub core_action : CoreWord → Action
+core_action c_cond = action.Itself
+core_action c = action.Core c
 
 -- the instruction of a quotation or fry that is made by this template
 abbrev pub made_instr : ℕ → Option Template → Instr

@@ -6,8 +6,9 @@ ghost use Rattle.fac_emit.specs.ProgramCode.{elem_of, elems_of, program_arrays};
 ghost use Rattle.fac_emit.specs.inner.Coded.{array_is_coded, element_is_coded};
 
 use crate::texts::Texts;
+use fac_base::{List, Memory};
 use fac_code::Elem;
-use fac_lang::{List, Lit, Memory};
+use fac_lang::Lit;
 use fac_locals::Closed;
 use std::alloc::Global;
 

@@ -1,16 +1,17 @@
 //! The compiler: the code of the templates and the words is linked to an image.
 ghost use Rattle.std.specs.Prelude.{◌≡◌, ℕ, true, nat_eq, nat_le, Some, IfOk, OnOk};
 ghost use Rattle.std.specs.List.{list_all};
+ghost use Rattle.fac_base.specs.declared.limits.TheConstants.{MOST_EFFECT_NAMES};
 ghost use Rattle.fac_lang.specs.declared.program.Program.{Program as Source};
 ghost use Rattle.fac_lang.specs.Whole.{IsWhole};
-ghost use Rattle.fac_lang.specs.Effects.{effect_height};
+ghost use Rattle.fac_base.specs.Effects.{effect_height};
 ghost use Rattle.fac_lang.specs.Meaning.{sort_of};
 ghost use Rattle.fac_locals.specs.Closed.{Closes};
 ghost use Rattle.fac_classes.specs.ClassKinds.{CanBeBuilt};
 ghost use Rattle.fac_generic.specs.Methods.{HasMethods, MethodLaws};
-ghost use Rattle.fac_emit.specs.Carries.{CarriesEach};
+ghost use Rattle.fac_emit.specs.CarriedPrograms.{CarriesEach};
 ghost use Rattle.fac_emit.specs.Numbered.{IsNumbering};
-ghost use Rattle.fac_emit.specs.Stands.{PlainCode};
+ghost use Rattle.fac_carry.specs.Stands.{PlainCode};
 ghost use Rattle.fac_emit.specs.ProgramCode.{core_action, word_row, program_words, program_generics, IsPlain};
 ghost use Rattle.fac_emit.specs.inner.Coded.{has_few_inputs, array_is_coded};
 ghost use Rattle.fac_emit.specs.inner.NumberedWords.{numbered_action};
@@ -23,21 +24,21 @@ use crate::emitter::{add_templates, add_word};
 use crate::numbers::{Numbering, number_of, numbering_of};
 use crate::rows::place_of;
 use crate::tables::{kinds_of, pairs_of, sets_of};
+use fac_base::{Effect, Height, List, Memory, Text};
 use fac_classes::Classes;
 use fac_code::{Action, Elem, GenericRow, Image, Instr, KindRow, TemplateRow, WordRow};
 use fac_generic::{methods_are_lawful, tables as method_tables};
-use fac_lang::{Effect, Height, List, Memory, Sort, Text, WordDef};
+use fac_lang::{CoreWord, Sort, WordDef};
 use fac_locals::Closed;
 use std::alloc::Global;
 
-// What the core word with this number does.
-fn action_of_core(core: u32) -> Action
+// What a core word does. No run does `cond`.
+fn action_of_core(core: CoreWord) -> Action
     ensures { result ≡ core_action core }
 {
-    if core < 5 {
-        Action::Core(core)
-    } else {
-        Action::Itself
+    match core {
+        CoreWord::Cond => Action::Itself,
+        _ => Action::Core(core),
     }
 }
 
@@ -61,7 +62,7 @@ fn action_of(number: u32, place: u32, sort: &Sort) -> Action
 
 // How many values an effect takes and leaves.
 fn height(effect: &Effect) -> Height
-    requires { nat_le (effect_height effect.now).ins 65 ≡ true }
+    requires { nat_le (effect_height effect.now).ins MOST_EFFECT_NAMES ≡ true }
     ensures { result ≡ effect_height effect.now }
 {
     Height {
@@ -72,7 +73,7 @@ fn height(effect: &Effect) -> Height
 
 // What a word declares by its effect, where it isn't inline.
 fn declared(inline: bool, effect: &Effect) -> Option<Height>
-    requires { nat_le (effect_height effect.now).ins 65 ≡ true }
+    requires { nat_le (effect_height effect.now).ins MOST_EFFECT_NAMES ≡ true }
     ensures { result ≡ declared_height inline effect.now }
 {
     if inline { None } else { Some(height(effect)) }

@@ -6,9 +6,10 @@ ghost use Rattle.fac_emit.specs.ProgramCode.{code_place};
 ghost use Rattle.fac_emit.specs.inner.Dispatch.{class_in, generic_rows};
 
 use crate::rows::place_of;
+use fac_base::{List, Memory};
 use fac_code::{GenericRow, MethodRow, WordRow};
 use fac_generic::Tables;
-use fac_lang::{List, Memory, Program, Sort};
+use fac_lang::{Program, Sort};
 use std::alloc::Global;
 
 // The class of a method.

@@ -2,28 +2,29 @@
 ghost use Rattle.std.specs.Prelude.{◌≡◌, ◌++◌, ◌∷◌, [], slice_get, OnOk};
 ghost use Rattle.fac_lang.specs.PhraseView.{what_item};
 ghost use Rattle.fac_store.specs.CallableHeights.{height_there};
-ghost use Rattle.fac_emit.specs.Stands.{making};
+ghost use Rattle.fac_carry.specs.Stands.{making};
 ghost use Rattle.fac_emit.specs.ProgramCode.{core_instr, word_instr, made_instr, item_instr, phrase_code, last_instr, sort_code};
 ghost use Rattle.fac_emit.specs.Numbered.{IsNumbering};
 ghost use Rattle.fac_emit.specs.inner.AddedTemplates.{AddsTemplate, AddsTemplates};
 ghost use Rattle.fac_emit.specs.inner.NumberedWords.{numbered_instr};
 
 use crate::numbers::{Numbering, number_of};
+use fac_base::{Duplicate, Height, List, Memory};
 use fac_code::{Instr, TemplateRow};
-use fac_lang::{Duplicate, Height, List, Memory, Phrase, Sort, Template, What};
+use fac_lang::{CoreWord, Phrase, Sort, Template, What};
 use fac_locals::Closed;
 use std::alloc::Global;
 
-// The instruction of the core word with this number.
-fn instr_of_core(number: u32) -> Instr
-    ensures { result ≡ core_instr number }
+// The instruction of a core word. `cond` stands nowhere but in a phrase that nothing can do.
+fn instr_of_core(core: CoreWord) -> Instr
+    ensures { result ≡ core_instr core }
 {
-    match number {
-        0 => Instr::Call { tail: false },
-        1 => Instr::Dip,
-        2 => Instr::If { tail: false },
-        3 => Instr::Execute { tail: false },
-        _ => Instr::Boa,
+    match core {
+        CoreWord::Call => Instr::Call { tail: false },
+        CoreWord::Dip => Instr::Dip,
+        CoreWord::If => Instr::If { tail: false },
+        CoreWord::Execute => Instr::Execute { tail: false },
+        CoreWord::Boa | CoreWord::Cond => Instr::Boa,
     }
 }
 

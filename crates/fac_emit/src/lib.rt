@@ -6,7 +6,6 @@ mod asked;
 mod compiler;
 mod dispatch;
 mod emitter;
-mod laws;
 mod numbers;
 mod rows;
 mod sequence;
@@ -15,4 +14,3 @@ mod texts;
 
 pub use asked::asks_effects;
 pub use compiler::compile;
-pub use laws::printed_forms_are_equal;

@@ -8,7 +8,8 @@ ghost use Rattle.fac_emit.specs.inner.NumberedWords.{number_at};
 
 use crate::sequence::texts_of;
 use crate::texts::Texts;
-use fac_lang::{List, Memory, Sort, Text};
+use fac_base::{List, Memory, Text};
+use fac_lang::Sort;
 use fac_locals::Closed;
 use std::alloc::Global;
 

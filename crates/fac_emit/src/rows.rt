@@ -2,8 +2,8 @@
 ghost use Rattle.std.specs.Prelude.{◌≡◌};
 ghost use Rattle.fac_emit.specs.ProgramCode.{code_place};
 
+use fac_base::List;
 use fac_code::{Action, WordRow};
-use fac_lang::List;
 
 /// The place of a word's code.
 pub fn place_of(rows: &List<WordRow>, word: u32) -> u32

@@ -4,10 +4,9 @@ ghost use Rattle.fac_lang.specs.PhraseView.{what_item};
 ghost use Rattle.fac_emit.specs.ProgramTexts.{with_texts, item_texts, phrase_texts, element_texts, elements_texts, template_texts, array_texts, body_texts, own_slots, class_texts, classes_texts, found_class_texts, sort_texts, word_texts, words_texts, templates_texts, arrays_texts, program_texts, no_texts, own_texts, own_elements_texts};
 
 use crate::texts::Texts;
-use fac_lang::limits::MOST_LEVELS;
-use fac_lang::{
-    ClassDef, List, Lit, Memory, Name, Phrase, Program, Shape, Sort, Text, What, WordDef,
-};
+use fac_base::limits::MOST_LEVELS;
+use fac_base::{List, Memory, Name, Text};
+use fac_lang::{ClassDef, Lit, Phrase, Program, Shape, Sort, What, WordDef};
 use fac_locals::Closed;
 use std::alloc::Global;
 

@@ -6,9 +6,10 @@ ghost use Rattle.fac_emit.specs.ProgramTables.{slot_numbers, program_kinds, sets
 ghost use Rattle.fac_emit.specs.inner.OwnRows.{own_rows, own_pairs};
 
 use crate::texts::Texts;
+use fac_base::{List, Memory, Text};
 use fac_classes::Classes;
 use fac_code::KindRow;
-use fac_lang::{ClassDef, List, Memory, Shape, Sort, Text};
+use fac_lang::{ClassDef, Shape, Sort};
 use fac_locals::Closed;
 use std::alloc::Global;
 

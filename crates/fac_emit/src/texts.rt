@@ -4,7 +4,7 @@ ghost use Rattle.std.specs.List.{list_any, position_or_len};
 ghost use Rattle.std.specs.Str.{bytes_eq};
 ghost use Rattle.fac_emit.specs.ProgramTexts.{with_text};
 
-use fac_lang::{List, Memory, Text};
+use fac_base::{List, Memory, Text};
 use indexmap::IndexSet;
 use std::alloc::Global;
 use std::marker::Model;

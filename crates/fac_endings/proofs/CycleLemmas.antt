@@ -5,7 +5,7 @@ use Rattle.std.specs.List.{list_any}
 use Rattle.std.proofs.lemmas.List.{length-map}
 use Rattle.std.proofs.lemmas.Option.{slice_get_past}
 use Rattle.fac_lang.specs.Whole.{parts_of, reaches}
-use Rattle.fac_lang.specs.declared.memory.Memory.{Memory}
+use Rattle.fac_base.specs.declared.memory.Memory.{Memory}
 use Rattle.fac_lang.specs.Classes.{shape_at}
 use Rattle.fac_lang.specs.declared.program.ClassDef.{ClassDef}
 use Rattle.fac_lang.specs.declared.program.Shape.{Shape}

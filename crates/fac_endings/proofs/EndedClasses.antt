@@ -14,13 +14,13 @@ use Rattle.fac_lang.specs.declared.program.Shape.{Shape}
 use Rattle.fac_lang.specs.declared.program.Shape.TheVariants.{Kind as built_in, Tuple as tuple_class, Union as union, Single as single}
 use Rattle.fac_lang.specs.declared.program.Sort.{Sort}
 use Rattle.fac_lang.specs.declared.program.Sort.TheVariants.{Body as body, Past as past, Itself as itself, Class as class, Isa as isa, Method as method}
-use Rattle.fac_refusal.specs.declared.refusal.NameFault.{NameFault}
-use Rattle.fac_refusal.specs.declared.refusal.NameKind.{NameKind}
-use Rattle.fac_refusal.specs.declared.refusal.NameKind.TheVariants.{Twice, BadParent, Cycle}
-use Rattle.fac_refusal.specs.declared.tok.Ref.{Ref}
-use Rattle.fac_refusal.specs.declared.tok.Tok.{Tok}
-use Rattle.fac_refusal.specs.Refusals.{fault, fault_if}
-use Rattle.fac_refusal.specs.Toks.{is_among, texts_of}
+use Rattle.fac_source.specs.declared.refusal.NameFault.{NameFault}
+use Rattle.fac_source.specs.declared.refusal.NameKind.{NameKind}
+use Rattle.fac_source.specs.declared.refusal.NameKind.TheVariants.{Twice, BadParent, Cycle}
+use Rattle.fac_source.specs.declared.tok.Ref.{Ref}
+use Rattle.fac_source.specs.declared.tok.Tok.{Tok}
+use Rattle.fac_source.specs.Refusals.{fault, fault_if}
+use Rattle.fac_source.specs.Toks.{is_among, texts_of}
 use Rattle.fac_endings.specs.declared.draft.Draft.{Draft}
 use Rattle.fac_endings.specs.declared.draft.Late.{Late}
 use Rattle.fac_endings.specs.declared.draft.Late.TheVariants.{Settled as settled, Deferred as deferred, Maker as maker, Method as method_of}

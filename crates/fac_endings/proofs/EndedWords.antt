@@ -6,16 +6,16 @@ use Rattle.std.specs.Option.{option_map}
 use Rattle.fac_lang.specs.Classes.{slots_within}
 use Rattle.fac_lang.specs.Phrases.{Phrase}
 use Rattle.fac_lang.specs.PrimitiveWords.{plain_inputs}
-use Rattle.fac_lang.specs.Signatures.{Signature}
+use Rattle.fac_base.specs.Signatures.{Signature}
 use Rattle.fac_lang.specs.Whole.{inputs_name_count, name_count, same_method}
 use Rattle.fac_lang.specs.declared.program.ClassDef.{ClassDef}
 use Rattle.fac_lang.specs.declared.program.Sort.{Sort}
 use Rattle.fac_lang.specs.declared.program.Sort.TheVariants.{Body as body, Generic as generic, Method as method}
 use Rattle.fac_lang.specs.declared.program.WordDef.{WordDef}
-use Rattle.fac_refusal.specs.declared.refusal.NameKind.TheVariants.{NotClass, NotGeneric, Twice}
-use Rattle.fac_refusal.specs.declared.tok.Ref.{Ref}
-use Rattle.fac_refusal.specs.Refusals.{fault_if}
-use Rattle.fac_refusal.specs.Toks.{number}
+use Rattle.fac_source.specs.declared.refusal.NameKind.TheVariants.{NotClass, NotGeneric, Twice}
+use Rattle.fac_source.specs.declared.tok.Ref.{Ref}
+use Rattle.fac_source.specs.Refusals.{fault_if}
+use Rattle.fac_source.specs.Toks.{number}
 use Rattle.fac_endings.specs.declared.draft.Draft.{Draft}
 use Rattle.fac_endings.specs.declared.draft.Late.{Late}
 use Rattle.fac_endings.specs.declared.draft.Late.TheVariants.{Settled as settled, Deferred as deferred, Maker as maker, Method as method_of}

@@ -7,13 +7,13 @@ use Rattle.std.proofs.lemmas.List.Sums.{fold-append}
 use Rattle.fac_lang.specs.Whole.{reaches, same_method}
 use Rattle.fac_lang.specs.declared.program.ClassDef.{ClassDef}
 use Rattle.fac_lang.specs.declared.program.WordDef.{WordDef}
-use Rattle.fac_refusal.specs.declared.refusal.NameFault.{NameFault}
-use Rattle.fac_refusal.specs.declared.refusal.NameKind.{NameKind}
-use Rattle.fac_refusal.specs.declared.refusal.NameKind.TheVariants.{Twice, BadParent, Cycle}
-use Rattle.fac_refusal.specs.declared.tok.Ref.{Ref}
-use Rattle.fac_refusal.specs.declared.tok.Tok.{Tok}
-use Rattle.fac_refusal.specs.Refusals.{fault, fault_if, rank, sooner}
-use Rattle.fac_refusal.specs.Toks.{is_among, texts_of}
+use Rattle.fac_source.specs.declared.refusal.NameFault.{NameFault}
+use Rattle.fac_source.specs.declared.refusal.NameKind.{NameKind}
+use Rattle.fac_source.specs.declared.refusal.NameKind.TheVariants.{Twice, BadParent, Cycle}
+use Rattle.fac_source.specs.declared.tok.Ref.{Ref}
+use Rattle.fac_source.specs.declared.tok.Tok.{Tok}
+use Rattle.fac_source.specs.Refusals.{fault, fault_if, rank, sooner}
+use Rattle.fac_source.specs.Toks.{is_among, texts_of}
 use Rattle.fac_endings.specs.declared.draft.Draft.{Draft}
 use Rattle.fac_endings.specs.declared.draft.NewClass.{NewClass}
 use Rattle.fac_endings.specs.ClassTable.{class_at, inherited, is_tuple_class}

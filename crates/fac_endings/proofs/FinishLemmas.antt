@@ -3,7 +3,7 @@ use Rattle.std.proofs.Common.{◌≡◌, ◌<◌, ◌+◌, ◌⊎◌, inl, inr, 
 use Rattle.std.proofs.lemmas.Option.{slice_get_past}
 use Rattle.fac_lang.specs.Classes.{shape_at, parent_in, slots_within}
 use Rattle.std.specs.Prelude.{IfOk}
-use Rattle.fac_lang.specs.declared.memory.Memory.{Memory}
+use Rattle.fac_base.specs.declared.memory.Memory.{Memory}
 use Rattle.fac_lang.specs.declared.program.ClassDef.{ClassDef}
 use Rattle.fac_lang.specs.declared.program.Shape.{Shape}
 use Rattle.fac_lang.specs.declared.program.Shape.TheVariants.{Tuple as tuple_class}

@@ -4,19 +4,19 @@ use Rattle.std.specs.Prelude.{◌&&◌, ◌||◌, if◌then◌else◌}
 use Rattle.std.specs.List.{list_any}
 use Rattle.std.proofs.lemmas.List.Folds.{list_any-append}
 use Rattle.indexmap.specs.IndexSet.{insert_key}
-use Rattle.fac_lang.specs.Signatures.{Signature}
+use Rattle.fac_base.specs.Signatures.{Signature}
 use Rattle.fac_lang.specs.Whole.{same_method}
 use Rattle.fac_lang.specs.declared.program.ClassDef.{ClassDef}
 use Rattle.fac_lang.specs.declared.program.Sort.{Sort}
 use Rattle.fac_lang.specs.declared.program.Sort.TheVariants.{Body as body, Method as method}
 use Rattle.fac_lang.specs.declared.program.WordDef.{WordDef}
-use Rattle.fac_refusal.specs.declared.tok.Ref.{Ref}
+use Rattle.fac_source.specs.declared.tok.Ref.{Ref}
 use Rattle.fac_endings.specs.declared.draft.Draft.{Draft}
 use Rattle.fac_endings.specs.declared.draft.Late.{Late}
 use Rattle.fac_endings.specs.declared.draft.Late.TheVariants.{Settled as settled, Deferred as deferred, Maker as maker, Method as method_of}
 use Rattle.fac_endings.specs.declared.methods.MethodKey.{MethodKey}
 use Rattle.fac_endings.specs.ClassTable.{class_at, word_at}
-use Rattle.fac_refusal.specs.Toks.{number}
+use Rattle.fac_source.specs.Toks.{number}
 use Rattle.fac_endings.specs.FinishedWords.{as_method, effect_of_word, finished, finished_by, with_maker}
 use Rattle.fac_endings.specs.inner.MethodKeys.{is_kept, key_by, key_late, same_as, same_key}
 

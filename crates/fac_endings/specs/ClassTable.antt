@@ -5,14 +5,14 @@ use Rattle.std.specs.Option.{option_map}
 use Rattle.fac_lang.specs.Classes.{shape_at, is_tuple, parent_in}
 use Rattle.fac_lang.specs.Whole.{joined}
 use Rattle.fac_lang.specs.declared.program.ClassDef.{ClassDef}
-use Rattle.fac_lang.specs.declared.program.Name.{Name}
+use Rattle.fac_base.specs.declared.name.Name.{Name}
 use Rattle.fac_lang.specs.declared.program.Shape.{Shape}
 use Rattle.fac_lang.specs.declared.program.Shape.TheVariants.{Tuple as tuple_class, Union as union, Single as single}
 use Rattle.fac_lang.specs.declared.program.Sort.{Sort}
 use Rattle.fac_lang.specs.declared.program.Sort.TheVariants.{Class as class}
 use Rattle.fac_lang.specs.declared.program.WordDef.{WordDef}
-use Rattle.fac_refusal.specs.declared.tok.Ref.{Ref}
-use Rattle.fac_refusal.specs.Toks.{texts_of}
+use Rattle.fac_source.specs.declared.tok.Ref.{Ref}
+use Rattle.fac_source.specs.Toks.{texts_of}
 use Rattle.fac_endings.specs.declared.draft.Draft.{Draft}
 use Rattle.fac_endings.specs.declared.draft.Named.{Named}
 use Rattle.fac_endings.specs.declared.draft.Named.TheVariants.{Tuple as a_tuple, Union as a_union, Single as a_single}

@@ -5,10 +5,10 @@ use Rattle.fac_lang.specs.Phrases.{Phrase}
 use Rattle.fac_lang.specs.declared.program.ClassDef.{ClassDef}
 use Rattle.fac_lang.specs.declared.program.Lit.{Lit}
 use Rattle.fac_lang.specs.declared.program.Program.{Program}
-use Rattle.fac_refusal.specs.declared.refusal.NameFault.{NameFault}
-use Rattle.fac_refusal.specs.declared.refusal.ResolveFault.{ResolveFault}
-use Rattle.fac_refusal.specs.declared.refusal.ResolveFault.TheVariants.{Name, Memory}
-use Rattle.fac_refusal.specs.Refusals.{sooner}
+use Rattle.fac_source.specs.declared.refusal.NameFault.{NameFault}
+use Rattle.fac_source.specs.declared.refusal.ResolveFault.{ResolveFault}
+use Rattle.fac_source.specs.declared.refusal.ResolveFault.TheVariants.{Name, Memory}
+use Rattle.fac_source.specs.Refusals.{sooner}
 use Rattle.fac_endings.specs.declared.draft.Draft.{Draft}
 use Rattle.fac_endings.specs.declared.draft.NewClass.{NewClass}
 use Rattle.fac_endings.specs.declared.gathered.Gathered.{Gathered}

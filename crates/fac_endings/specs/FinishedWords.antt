@@ -1,14 +1,14 @@
 -- Words as they are at the end of the program.
 use Rattle.std.specs.Prelude.{ℕ, [], ◌∷◌, List, length, Option, Some, None}
 use Rattle.fac_lang.specs.Classes.{slots_within}
-use Rattle.fac_lang.specs.Signatures.{Signature}
+use Rattle.fac_base.specs.Signatures.{Signature}
 use Rattle.fac_lang.specs.Whole.{plain_effect}
 use Rattle.fac_lang.specs.declared.program.ClassDef.{ClassDef}
 use Rattle.fac_lang.specs.declared.program.Sort.{Sort}
 use Rattle.fac_lang.specs.declared.program.Sort.TheVariants.{Body as body, Method as method}
 use Rattle.fac_lang.specs.declared.program.WordDef.{WordDef}
-use Rattle.fac_refusal.specs.declared.tok.Ref.{Ref}
-use Rattle.fac_refusal.specs.Toks.{number}
+use Rattle.fac_source.specs.declared.tok.Ref.{Ref}
+use Rattle.fac_source.specs.Toks.{number}
 use Rattle.fac_endings.specs.declared.draft.Draft.{Draft}
 use Rattle.fac_endings.specs.declared.draft.Late.{Late}
 use Rattle.fac_endings.specs.declared.draft.Late.TheVariants.{Settled as settled, Deferred as deferred, Maker as maker, Method as method_of}

@@ -1,17 +1,18 @@
 -- What the end of a program shows to be refused.
 use Rattle.std.specs.Prelude.{ℕ, suc, ◌+◌, nat_lt, List, [], ◌∷◌, ◌++◌, length, Option, Some, None, Bool, true, false, ◌&&◌, not, if◌then◌else◌}
 use Rattle.std.specs.List.{list_any}
+use Rattle.fac_base.specs.declared.limits.TheConstants.{MOST_SLOTS}
 use Rattle.fac_lang.specs.Whole.{reaches, same_method}
 use Rattle.fac_lang.specs.declared.program.ClassDef.{ClassDef}
 use Rattle.fac_lang.specs.declared.program.Sort.{Sort}
 use Rattle.fac_lang.specs.declared.program.Sort.TheVariants.{Generic as generic}
 use Rattle.fac_lang.specs.declared.program.WordDef.{WordDef}
-use Rattle.fac_refusal.specs.declared.refusal.NameFault.{NameFault}
-use Rattle.fac_refusal.specs.declared.refusal.NameKind.TheVariants.{Twice, NotClass, NotGeneric, BadParent, Cycle, Undefined}
-use Rattle.fac_refusal.specs.declared.tok.Ref.{Ref}
-use Rattle.fac_refusal.specs.declared.tok.Tok.{Tok}
-use Rattle.fac_refusal.specs.Refusals.{fault, fault_if}
-use Rattle.fac_refusal.specs.Toks.{is_among}
+use Rattle.fac_source.specs.declared.refusal.NameFault.{NameFault}
+use Rattle.fac_source.specs.declared.refusal.NameKind.TheVariants.{Twice, NotClass, NotGeneric, BadParent, Cycle, Undefined}
+use Rattle.fac_source.specs.declared.tok.Ref.{Ref}
+use Rattle.fac_source.specs.declared.tok.Tok.{Tok}
+use Rattle.fac_source.specs.Refusals.{fault, fault_if}
+use Rattle.fac_source.specs.Toks.{is_among}
 use Rattle.fac_endings.specs.declared.draft.Draft.{Draft}
 use Rattle.fac_endings.specs.declared.draft.Late.{Late}
 use Rattle.fac_endings.specs.declared.draft.Late.TheVariants.{Settled as settled, Deferred as deferred, Maker as maker, Method as method_of}
@@ -41,7 +42,7 @@ members_faults ds (r ∷ rs) = not_a_class ds r ++ members_faults ds rs
 
 -- A tuple class with its parents has at most so many slots.
 abbrev pub most_slots : ℕ
-most_slots = 64
+most_slots = MOST_SLOTS
 
 abbrev pub too_many : List ClassDef → ℕ → List Tok → Bool
 too_many cs c slots = nat_lt most_slots (length slots + length (inherited cs c))

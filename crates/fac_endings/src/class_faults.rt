@@ -1,7 +1,7 @@
 //! What the end shows to be refused of classes.
 ghost use Rattle.std.specs.Prelude.{◌≡◌, ◌<◌, ◌^◌, ◌+◌, ◌++◌, fold, length, not, Some, OnOk};
-ghost use Rattle.fac_refusal.specs.Refusals.{fault_if, sooner};
-ghost use Rattle.fac_refusal.specs.declared.refusal.NameKind.TheVariants.{BadParent, Cycle};
+ghost use Rattle.fac_source.specs.Refusals.{fault_if, sooner};
+ghost use Rattle.fac_source.specs.declared.refusal.NameKind.TheVariants.{BadParent, Cycle};
 ghost use Rattle.fac_endings.specs.ClassTable.{class_at, is_tuple_class};
 ghost use Rattle.fac_endings.specs.LastRefusals.{class_faults, members_faults, named_faults, not_a_class, slot_faults, tuple_faults};
 ghost use Rattle.fac_endings.specs.inner.Chains.{slots_of};
@@ -13,8 +13,9 @@ use crate::draft::{Draft, Named, NewClass, Table};
 use crate::lookup::{class_at, is_tuple_class};
 use crate::parents::bearers_of;
 use crate::slot_faults::refuse_slots;
-use fac_lang::{ClassDef, Memory, Place};
-use fac_refusal::{NameFault, NameKind, Ref, Tok, refuse, refuse_if};
+use fac_base::{Memory, Place};
+use fac_lang::ClassDef;
+use fac_source::{NameFault, NameKind, Ref, Tok, refuse, refuse_if};
 use std::alloc::Global;
 
 // Whether a place stands behind the first refusal.

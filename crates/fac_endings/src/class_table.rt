@@ -1,13 +1,14 @@
 //! Classes as they are at the end of the program.
 ghost use Rattle.std.specs.Prelude.{◌≡◌, ◌++◌, ◌∷◌, [], map, IfOk, OnOk};
-ghost use Rattle.fac_refusal.specs.Toks.{texts_of};
+ghost use Rattle.fac_source.specs.Toks.{texts_of};
 ghost use Rattle.fac_endings.specs.ClassTable.{class_of, classes_at, classes_of, name_of, parent_at, shape_named};
 ghost use Rattle.std.specs.Prelude.{slice_get};
 
 use crate::draft::{Draft, Named, NewClass};
 use crate::lookup::class_at;
-use fac_lang::{ClassDef, Duplicate, List, Memory, Name, Shape, Text};
-use fac_refusal::{Ref, Tok};
+use fac_base::{Duplicate, List, Memory, Name, Text};
+use fac_lang::{ClassDef, Shape};
+use fac_source::{Ref, Tok};
 use std::alloc::Global;
 
 // The classes of names, where their words are those of classes.

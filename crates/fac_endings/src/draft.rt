@@ -1,6 +1,7 @@
 //! Words and classes as forms tell them: what is only known at the end of the program is kept open.
-use fac_lang::{Boxed, ClassDef, List, WordDef};
-use fac_refusal::{Ref, Tok};
+use fac_base::{Boxed, List};
+use fac_lang::{ClassDef, WordDef};
+use fac_source::{Ref, Tok};
 
 /// What of a word is settled at the end of the program.
 #[derive(Drop)]

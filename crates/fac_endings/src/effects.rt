@@ -4,7 +4,7 @@ ghost use Rattle.fac_lang.specs.Whole.{plain_effect};
 ghost use Rattle.fac_endings.specs.Words.{no_effect};
 ghost use Rattle.fac_endings.specs.inner.PlainEffects.{plain_input};
 
-use fac_lang::{Effect, Input, List, Memory, Outs, Text};
+use fac_base::{Effect, Input, List, Memory, Outs, Text};
 use std::alloc::Global;
 
 /// The effect of a word that takes and leaves nothing.

@@ -1,7 +1,7 @@
 //! The program of all forms, or its first refusal.
 ghost use Rattle.std.specs.Prelude.{◌≡◌, ◌<◌, ◌^◌, ◌+◌, ◌++◌, ◌∷◌, [], codes, fold, length, map, IfOk, OnOk};
 ghost use Rattle.fac_lang.specs.PhraseView.{items_phrase};
-ghost use Rattle.fac_refusal.specs.Refusals.{sooner};
+ghost use Rattle.fac_source.specs.Refusals.{sooner};
 ghost use Rattle.fac_endings.specs.Words.{top_word};
 ghost use Rattle.fac_endings.specs.ClassTable.{classes_of};
 ghost use Rattle.fac_endings.specs.Endings.{Ends, first_fault};
@@ -17,10 +17,9 @@ use crate::finishing::finished_words;
 use crate::gathered::Gathered;
 use crate::graph::cycles_of;
 use crate::word_faults::refuse_words;
-use fac_lang::{
-    ClassDef, Item, List, Lit, Memory, Name, Phrase, Place, Program, Sort, Text, WordDef,
-};
-use fac_refusal::{NameFault, ResolveFault};
+use fac_base::{List, Memory, Name, Place, Text};
+use fac_lang::{ClassDef, Item, Lit, Phrase, Program, Sort, WordDef};
+use fac_source::{NameFault, ResolveFault};
 use std::alloc::Global;
 
 // Refuses what the end shows, where the first of these new classes has this number.

@@ -3,15 +3,16 @@ ghost use Rattle.std.specs.Prelude.{◌≡◌, ◌++◌, ◌∷◌, [], length, 
 ghost use Rattle.fac_lang.specs.Classes.{slots_within};
 ghost use Rattle.fac_lang.specs.Whole.{plain_effect};
 ghost use Rattle.fac_endings.specs.ClassTable.{class_at, word_at};
-ghost use Rattle.fac_refusal.specs.Toks.{number};
+ghost use Rattle.fac_source.specs.Toks.{number};
 ghost use Rattle.fac_endings.specs.FinishedWords.{as_method, effect_of_word, finished, with_maker};
 ghost use Rattle.fac_endings.specs.inner.Finishes.{AreFinishes, AreSlots, FinishesBy, finished_with, line, slots_listed, with_finish};
 
 use crate::draft::{Draft, Late, Table};
 use crate::effects::{no_effect, one_output};
 use crate::lookup::{class_at, number_of, parent_of, slots_at, word_at};
-use fac_lang::{Boxed, ClassDef, Duplicate, Effect, List, Memory, Queue, Sort, Text, WordDef};
-use fac_refusal::Ref;
+use fac_base::{Boxed, Duplicate, Effect, List, Memory, Queue, Text};
+use fac_lang::{ClassDef, Sort, WordDef};
+use fac_source::Ref;
 use std::alloc::Global;
 
 // A class and its parents, from it on; at most as many as there are classes.

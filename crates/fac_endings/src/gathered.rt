@@ -1,7 +1,8 @@
 //! What the forms of all files come to.
 use crate::draft::{Draft, NewClass};
-use fac_lang::{ClassDef, Item, List, Lit};
-use fac_refusal::NameFault;
+use fac_base::List;
+use fac_lang::{ClassDef, Item, Lit};
+use fac_source::NameFault;
 
 /// Words, classes and phrases, as all forms told them.
 #[derive(Drop)]

@@ -4,8 +4,9 @@ ghost use Rattle.fac_lang.specs.Whole.{parts_of};
 ghost use Rattle.fac_graph.specs.Laws.{class_edges};
 ghost use Rattle.fac_endings.specs.inner.Cycles.{AreCycles};
 
+use fac_base::{Duplicate, List, Memory};
 use fac_graph::{cycles_of_classes, leading_back};
-use fac_lang::{ClassDef, Duplicate, List, Memory, Shape};
+use fac_lang::{ClassDef, Shape};
 use std::alloc::Global;
 
 // The list of one number.

@@ -3,12 +3,13 @@ ghost use Rattle.std.specs.Prelude.{◌≡◌, Some, slice_get};
 ghost use Rattle.std.specs.Option.{option_copied};
 ghost use Rattle.fac_lang.specs.Classes.{is_tuple, parent_in, shape_at};
 ghost use Rattle.fac_endings.specs.ClassTable.{class_at, class_of_sort, is_tuple_class, slots_at, slots_in, word_at};
-ghost use Rattle.fac_refusal.specs.Toks.{number};
+ghost use Rattle.fac_source.specs.Toks.{number};
 ghost use Rattle.fac_endings.specs.LastRefusals.{is_generic_sort, is_generic_word};
 
 use crate::draft::Draft;
-use fac_lang::{ClassDef, Shape, Sort, Text, WordDef};
-use fac_refusal::Ref;
+use fac_base::Text;
+use fac_lang::{ClassDef, Shape, Sort, WordDef};
+use fac_source::Ref;
 
 /// The number of a name's word, or 0 where there is none.
 pub fn number_of(name: &Ref) -> u32

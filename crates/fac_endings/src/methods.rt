@@ -3,7 +3,7 @@ ghost use Rattle.std.specs.Prelude.{◌≡◌, ◌||◌, OnOk};
 ghost use Rattle.std.specs.List.{list_any};
 ghost use Rattle.fac_endings.specs.inner.MethodKeys.{same_key};
 
-use fac_lang::Memory;
+use fac_base::Memory;
 use indexmap::IndexSet;
 
 /// A method by its class and its generic.

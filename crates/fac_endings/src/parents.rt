@@ -5,8 +5,9 @@ ghost use Rattle.fac_endings.specs.LastRefusals.{most_slots};
 ghost use Rattle.fac_endings.specs.inner.Chains.{Bears, Climbs, Meets, met_with, next_in, slots_of};
 
 use crate::lookup::{parent_of, slots_at};
-use fac_lang::limits::MOST_SLOTS;
-use fac_lang::{ClassDef, Memory};
+use fac_base::Memory;
+use fac_base::limits::MOST_SLOTS;
+use fac_lang::ClassDef;
 use std::alloc::Global;
 
 // Whether a class is there and wasn't met. From now on it is met.

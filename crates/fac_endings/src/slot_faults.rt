@@ -1,14 +1,15 @@
 //! Slots that repeat one of their list or of a parent.
 ghost use Rattle.std.specs.Prelude.{◌≡◌, ◌||◌, fold, OnOk};
-ghost use Rattle.fac_refusal.specs.Refusals.{fault_if, sooner};
-ghost use Rattle.fac_refusal.specs.Toks.{is_among, texts_of};
-ghost use Rattle.fac_refusal.specs.declared.refusal.NameKind.TheVariants.{Twice};
+ghost use Rattle.fac_source.specs.Refusals.{fault_if, sooner};
+ghost use Rattle.fac_source.specs.Toks.{is_among, texts_of};
+ghost use Rattle.fac_source.specs.declared.refusal.NameKind.TheVariants.{Twice};
 ghost use Rattle.fac_endings.specs.LastRefusals.{slot_faults};
 ghost use Rattle.fac_endings.specs.inner.Chains.{slots_of};
 
 use crate::lookup::slots_at;
-use fac_lang::{ClassDef, Memory, Text};
-use fac_refusal::{NameFault, NameKind, Tok, refuse_if};
+use fac_base::{Memory, Text};
+use fac_lang::ClassDef;
+use fac_source::{NameFault, NameKind, Tok, refuse_if};
 use std::alloc::Global;
 
 // Whether a text is one of these.

@@ -1,7 +1,7 @@
 //! What the end shows to be refused of words.
 ghost use Rattle.std.specs.Prelude.{◌≡◌, ◌||◌, ◌&&◌, ◌++◌, [], fold, not, OnOk};
-ghost use Rattle.fac_refusal.specs.Refusals.{fault_if, sooner};
-ghost use Rattle.fac_refusal.specs.declared.refusal.NameKind.TheVariants.{NotGeneric, Twice};
+ghost use Rattle.fac_source.specs.Refusals.{fault_if, sooner};
+ghost use Rattle.fac_source.specs.declared.refusal.NameKind.TheVariants.{NotGeneric, Twice};
 ghost use Rattle.fac_endings.specs.ClassTable.{word_at};
 ghost use Rattle.fac_endings.specs.LastRefusals.{is_generic_word, late_faults, method_faults, words_faults};
 ghost use Rattle.fac_endings.specs.inner.MethodKeys.{is_kept, key_by, key_late, same_as};
@@ -12,8 +12,9 @@ use crate::class_faults::refuse_no_class;
 use crate::draft::{Draft, Late, Table};
 use crate::lookup::{class_at, is_generic_word, is_tuple_class, number_of};
 use crate::methods::{MethodKey, add, is_known};
-use fac_lang::{Memory, Sort};
-use fac_refusal::{NameFault, NameKind, Ref, refuse_if, refuse_name};
+use fac_base::Memory;
+use fac_lang::Sort;
+use fac_source::{NameFault, NameKind, Ref, refuse_if, refuse_name};
 use indexmap::IndexSet;
 use std::alloc::Global;
 

@@ -4,8 +4,9 @@ ghost use Rattle.fac_generic.specs.Methods.{HasMethods};
 
 use crate::method_tables::Tables;
 use crate::rows::rows_of;
+use fac_base::Memory;
 use fac_classes::Classes;
-use fac_lang::{Memory, Program};
+use fac_lang::Program;
 use std::alloc::Global;
 
 /// The tables of a program whose classes were built. Want of memory is the one error. The time is near linear in the number of words: a method is put

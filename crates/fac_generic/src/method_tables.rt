@@ -6,8 +6,9 @@ ghost use Rattle.fac_generic.specs.Methods.{methods_in_order};
 ghost use Rattle.fac_generic.specs.inner.Rows.{AreTables};
 
 use crate::rows::{behind, first_of, method_of, place_among};
+use fac_base::List;
 use fac_classes::Classes;
-use fac_lang::{List, Program};
+use fac_lang::Program;
 use std::marker::Model;
 
 /// The methods of the generics of a program. Contracts see the program.
@@ -24,7 +25,7 @@ impl<'a> Model for Tables<'a> {
     ghost use Rattle.fac_generic.specs.inner.Rows.{AreTables};
     ghost use Rattle.std.specs.Coded.{codes};
     ghost use Rattle.fac_lang.specs.PhraseCodes.{coded_phrase};
-    ghost use Rattle.fac_lang.specs.Signatures.{coded_signature};
+    ghost use Rattle.fac_base.specs.Signatures.{coded_signature};
 
     ghost Value = { Program };
 

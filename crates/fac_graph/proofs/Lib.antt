@@ -4,3 +4,6 @@ pub mod PathLemmas
 pub mod ComponentLemmas
 pub mod SearchSteps
 pub mod ExamplesOfPaths
+pub mod SlotLemmas
+pub mod ClimbLemmas
+pub mod ExamplesOfSlots

@@ -1,3 +1,4 @@
 pub mod Paths
 pub mod Laws
+pub mod Slots
 pub mod inner

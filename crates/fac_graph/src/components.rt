@@ -4,7 +4,7 @@ ghost use Rattle.fac_graph.specs.Paths.{AreLeadingBack, one_of, successors};
 ghost use Rattle.fac_graph.specs.inner.Components.{Opens, Joins, Closes, IsExplored, IsIdle, IsOver, Steps, Follows, MayFollow, Visits, all_done, all_finished, are_below, behind_place, comes_back, is_done, last_of, standing_or_done};
 ghost use Rattle.fac_graph.specs.declared.components.Standing.TheVariants.{Unseen, Done};
 
-use fac_lang::{List, Memory};
+use fac_base::{List, Memory};
 use std::alloc::Global;
 
 // How far a search has come with a node.

@@ -1,13 +1,14 @@
 //! An image and runs of it, as the lines of a case tell them.
 //!
-//! A line that doesn't begin with `@` has instructions of the code, with a comma between two, and an empty one ends the case. The others are
+//! A line that doesn't begin with `@` has instructions of the code, as listings have them, with a comma between two. A primitive may be told
+//! by its name. An empty line ends the case. The others are
 //!
 //!     @about TEXT             what the cases from here on show
 //!     @array E, E ..          a literal array of these elements: an integer, a truth value, or a text, an array, a word or a template
 //!     @template N M K ..      a template whose code begins at the place N, with M holes and these cells
 //!     @template-height I O    how many values the last template takes and leaves, with `*` where it never returns
 //!     @word prim NAME         a word that does this primitive, by its name or its number
-//!     @word core N            a word that does this core word
+//!     @word core NAME         a word that does this core word
 //!     @word code N            a word with the code at this place
 //!     @word symbol NAME       a word that pushes itself
 //!     @word get N             a word that does this accessor of the slot whose name is text N; also with set and put
@@ -34,9 +35,9 @@ use crate::instructions::instr;
 use crate::told_rows::Rows;
 use crate::told_runs::told;
 use crate::told_tables::tables;
+use fac_base::{Bytes, List, Memory, Text};
 use fac_code::{Image, Instr};
 use fac_io::{MemSink, MemSource};
-use fac_lang::{Bytes, List, Memory, Text};
 use fac_lines::Lines;
 use fac_vm::Machine;
 use std::alloc::Global;

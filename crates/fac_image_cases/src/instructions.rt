@@ -1,6 +1,9 @@
 //! Instructions, elements of literal arrays and what words do, as texts tell them.
-use fac_code::{Action, Elem, Instr, MethodRow};
-use fac_lang::{Height, primitives};
+ghost use Rattle.std.specs.Prelude.{◌<◌, IfSome};
+
+use fac_base::Height;
+use fac_code::{Action, Elem, INSTR_COUNT, Instr, MethodRow, Operand, Referent};
+use fac_lang::{CoreWord, core_words, primitives};
 
 // The number of the primitive with this name.
 fn numbered(name: &str) -> Option<u32> {
@@ -20,79 +23,83 @@ fn primitive(text: &str) -> Option<u32> {
     }
 }
 
-// The instruction of a word that has no operand.
-fn plain(name: &str) -> Option<Instr> {
-    match name {
-        "halt" => Some(Instr::Halt),
-        "true" => Some(Instr::True),
-        "false" => Some(Instr::False),
-        "call" => Some(Instr::Call { tail: false }),
-        "tail-call" => Some(Instr::Call { tail: true }),
-        "dip" => Some(Instr::Dip),
-        "if" => Some(Instr::If { tail: false }),
-        "tail-if" => Some(Instr::If { tail: true }),
-        "execute" => Some(Instr::Execute { tail: false }),
-        "tail-execute" => Some(Instr::Execute { tail: true }),
-        "ret" => Some(Instr::Ret),
-        "hold" => Some(Instr::Hold),
-        "back" => Some(Instr::Back),
-        "boa" => Some(Instr::Boa),
-        "bind" => Some(Instr::Bind),
+// The core word with this name.
+fn core(name: &str) -> Option<CoreWord> {
+    for row in core_words() {
+        if row.word.name == name {
+            return Some(row.core);
+        }
+    }
+    None
+}
+
+// The code of the instruction with this name in listings.
+fn code_of(name: &str) -> Option<u32>
+    ensures { IfSome result (λ code. code < INSTR_COUNT) }
+{
+    for code in 0..INSTR_COUNT {
+        if Instr::of(code, Operand::Nothing, false).row().name == name {
+            return Some(code);
+        }
+    }
+    None
+}
+
+// The text up to a space, and the text behind that.
+fn part(text: &str) -> (&str, &str) {
+    text.split_once(' ').unwrap_or((text, ""))
+}
+
+// The number of such a thing. A primitive may be told by its name.
+fn number(referent: Referent, text: &str) -> Option<u32> {
+    match referent {
+        Referent::Primitive => primitive(text),
+        _ => text.parse::<u32>().ok(),
+    }
+}
+
+// A height as listings have it, where the number of values that are left is one more than they are, and 0 where that never comes.
+fn listed_height(ins: &str, left: &str) -> Option<Height> {
+    Some(Height {
+        ins: ins.parse::<u32>().ok()?,
+        outs: left.parse::<u32>().ok()?.checked_sub(1),
+    })
+}
+
+// What an instruction is given, of the kind of another operand, and the text behind it.
+fn operand(like: Operand, text: &str) -> Option<(Operand, &str)> {
+    let (told, behind) = part(text);
+    match like {
+        Operand::Nothing => Some((Operand::Nothing, text)),
+        Operand::Integer(_) => Some((Operand::Integer(told.parse::<i128>().ok()?), behind)),
+        Operand::Height(_) => {
+            let (left, behind) = part(behind);
+            Some((Operand::Height(listed_height(told, left)?), behind))
+        }
+        Operand::Number(referent, _) => Some((
+            Operand::Number(referent, number(referent, told)?),
+            behind,
+        )),
+    }
+}
+
+// Whether an instruction is a tail call, where it may be one.
+fn tail(like: Option<bool>, text: &str) -> Option<bool> {
+    match (like, text) {
+        (None, "") => Some(false),
+        (Some(_), "0") => Some(false),
+        (Some(_), "1") => Some(true),
         _ => None,
     }
 }
 
-// The instruction of a word and the number behind it.
-fn with_number(name: &str, number: u32) -> Option<Instr> {
-    match name {
-        "tick" => Some(Instr::Tick(number)),
-        "jump" => Some(Instr::Jump(number)),
-        "branch" => Some(Instr::Branch(number)),
-        "callp" => Some(Instr::Callp {
-            place: number,
-            tail: false,
-        }),
-        "tail-callp" => Some(Instr::Callp {
-            place: number,
-            tail: true,
-        }),
-        "next" => Some(Instr::Next {
-            method: number,
-            tail: false,
-        }),
-        "tail-next" => Some(Instr::Next {
-            method: number,
-            tail: true,
-        }),
-        "text" => Some(Instr::Text(number)),
-        "array" => Some(Instr::Array(number)),
-        "word" => Some(Instr::Word(number)),
-        "quot" => Some(Instr::Quot(number)),
-        "fry" => Some(Instr::Fry(number)),
-        "local" => Some(Instr::Local(number)),
-        "unbind" => Some(Instr::Unbind(number)),
-        "get" => Some(Instr::Get(number)),
-        "set" => Some(Instr::Set(number)),
-        "put" => Some(Instr::Put(number)),
-        "isa" => Some(Instr::Isa(number)),
-        "generic" => Some(Instr::Generic {
-            generic: number,
-            tail: false,
-        }),
-        "tail-generic" => Some(Instr::Generic {
-            generic: number,
-            tail: true,
-        }),
-        "callw" => Some(Instr::Callw {
-            word: number,
-            tail: false,
-        }),
-        "tail-callw" => Some(Instr::Callw {
-            word: number,
-            tail: true,
-        }),
-        _ => None,
-    }
+/// The instruction that a text tells as a listing does.
+pub fn instr(text: &str) -> Option<Instr> {
+    let (name, given) = part(text);
+    let code = code_of(name)?;
+    let like = Instr::of(code, Operand::Nothing, false).row();
+    let (operand, behind) = operand(like.operand, given)?;
+    Some(Instr::of(code, operand, tail(like.tail, behind)?))
 }
 
 // How many values are left, or a `*` where that never comes.
@@ -110,36 +117,6 @@ pub fn height(text: &str) -> Option<Height> {
         ins: ins.parse::<u32>().ok()?,
         outs: outs(left)?,
     })
-}
-
-// A tested call.
-fn call_effect(text: &str, tail: bool) -> Option<Instr> {
-    Some(Instr::CallEffect {
-        height: height(text)?,
-        tail,
-    })
-}
-
-// A tested word.
-fn execute_effect(text: &str, tail: bool) -> Option<Instr> {
-    Some(Instr::ExecuteEffect {
-        height: height(text)?,
-        tail,
-    })
-}
-
-/// The instruction that a text tells.
-pub fn instr(text: &str) -> Option<Instr> {
-    match text.split_once(' ') {
-        None => plain(text),
-        Some(("int", number)) => Some(Instr::Int(number.parse::<i128>().ok()?)),
-        Some(("prim", name)) => Some(Instr::Prim(primitive(name)?)),
-        Some(("call-effect", told)) => call_effect(told, false),
-        Some(("tail-call-effect", told)) => call_effect(told, true),
-        Some(("execute-effect", told)) => execute_effect(told, false),
-        Some(("tail-execute-effect", told)) => execute_effect(told, true),
-        Some((name, number)) => with_number(name, number.parse::<u32>().ok()?),
-    }
 }
 
 // The element of a word and the number behind it.
@@ -170,7 +147,7 @@ pub fn elem(text: &str) -> Option<Elem> {
 fn does(told: &str, behind: &str) -> Option<Action> {
     match told {
         "prim" => Some(Action::Prim(primitive(behind)?)),
-        "core" => Some(Action::Core(behind.parse::<u32>().ok()?)),
+        "core" => Some(Action::Core(core(behind)?)),
         "code" => Some(Action::Code(behind.parse::<u32>().ok()?)),
         "symbol" => Some(Action::Itself),
         "get" => Some(Action::Get(behind.parse::<u32>().ok()?)),

@@ -1,7 +1,7 @@
 //! The rows of an image's tables, as the lines of a case tell them.
 use crate::instructions::{action, class, elem, height, method};
+use fac_base::{Height, List, Memory, Text};
 use fac_code::{Action, Elem, MethodRow, WordRow};
-use fac_lang::{Height, List, Memory, Text};
 use std::alloc::Global;
 
 /// A kind, with the numbers of its name and of its slots' names.

@@ -1,7 +1,7 @@
 //! The tables of an image, made of rows.
 use crate::told_rows::{Generic, Kind, Rows};
+use fac_base::{Duplicate, Height, List, Memory, Text};
 use fac_code::{Elem, GenericRow, KindRow, Tables, TemplateRow, WordRow};
-use fac_lang::{Duplicate, Height, List, Memory, Text};
 use std::alloc::Global;
 
 // Literal arrays of these elements.

@@ -4,7 +4,7 @@ ghost use Rattle.fac_io.specs.Names.{Held};
 ghost use Rattle.fac_io.specs.Told.{Stays};
 ghost use Rattle.fac_io.specs.Files.{LoadAnswers, LoadAsks, LoadCounts, SaveLeaves, SaveAsks, SaveCounts};
 
-use fac_lang::{Bytes, Memory, Text};
+use fac_base::{Bytes, Memory, Text};
 use std::alloc::Global;
 use thiserror::Error;
 

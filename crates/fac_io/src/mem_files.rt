@@ -8,7 +8,7 @@ ghost use Rattle.fac_io.specs.Files.{LoadAnswers, LoadAsks, LoadCounts, SaveLeav
 ghost use Rattle.fac_io.specs.inner.Loading.{AnswersBytes};
 
 use crate::{Asked, Files, LoadFault, SaveFault};
-use fac_lang::{Bytes, List, Memory, Text};
+use fac_base::{Bytes, List, Memory, Text};
 use std::alloc::Global;
 use std::marker::Model;
 

@@ -5,7 +5,7 @@ ghost use Rattle.fac_io.specs.Told.{Grows, GrowsByPrefix, Took, sink_tells};
 ghost use Rattle.fac_io.specs.Mem.{listed_take, one_size, part_of};
 
 use crate::{Failed, Sink};
-use fac_lang::{List, Memory};
+use fac_base::{List, Memory};
 use std::alloc::Global;
 use std::marker::Model;
 

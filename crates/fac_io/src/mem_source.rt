@@ -5,7 +5,7 @@ ghost use Rattle.std.specs.Io.KnownBytes.{ReadConsumes};
 ghost use Rattle.fac_io.specs.Faults.{HasCause};
 
 use crate::{Failed, Source};
-use fac_lang::{Bytes, List};
+use fac_base::{Bytes, List};
 use std::marker::Model;
 
 /// Bytes in memory, and the numbers of the calls that fail, the first call being 1. For tests.

@@ -9,7 +9,7 @@ ghost use Rattle.fac_io.specs.inner.Loading.{ReadsUpTo};
 ghost use Rattle.fac_io.specs.Told.{Grows, GrowsByPrefix};
 
 use crate::{Failed, Files, LoadFault, SaveFault, Sink, Source};
-use fac_lang::Bytes;
+use fac_base::Bytes;
 use std::alloc::Global;
 use std::io::{ErrorKind, Read, Write};
 use std::{fs, io, rt};

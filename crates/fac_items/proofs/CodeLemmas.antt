@@ -4,10 +4,10 @@ use Rattle.std.specs.Prelude.{reverse}
 use Rattle.std.proofs.lemmas.List.{map-append, reverse-append}
 use Rattle.fac_lang.specs.Phrases.{end}
 use Rattle.fac_lang.specs.declared.program.Lit.{Lit}
-use Rattle.fac_lang.specs.declared.tree.Element.{Element}
-use Rattle.fac_refusal.specs.declared.refusal.NameFault.{NameFault}
-use Rattle.fac_refusal.specs.Refusals.{sooner}
-use Rattle.fac_refusal.specs.Toks.{is_among, texts_of}
+use Rattle.fac_source.specs.declared.tree.Element.{Element}
+use Rattle.fac_source.specs.declared.refusal.NameFault.{NameFault}
+use Rattle.fac_source.specs.Refusals.{sooner}
+use Rattle.fac_source.specs.Toks.{is_among, texts_of}
 use Rattle.fac_vocab.specs.Scopes.{Scope}
 use Rattle.fac_items.specs.declared.nest.At.TheVariants.{Inside}
 use Rattle.fac_items.specs.declared.spelled.NameAt.{NameAt}

@@ -6,7 +6,7 @@ use Rattle.std.specs.List.{take-map}
 use Rattle.std.specs.Str.{bytes_eq}
 use Rattle.std.proofs.lemmas.List.{length-reverse, reverse-append, take-append-drop}
 use Rattle.std.proofs.lemmas.Slice.Eq.{bytes_eq-Decides}
-use Rattle.fac_refusal.specs.Toks.{is_among}
+use Rattle.fac_source.specs.Toks.{is_among}
 use Rattle.fac_items.specs.declared.spelled.NameAt.{NameAt}
 use Rattle.fac_items.specs.Written.{Node, n_bind, Nodes, nothing, more}
 use Rattle.fac_items.specs.Readings.{bound}

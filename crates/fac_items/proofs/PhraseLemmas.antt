@@ -1,11 +1,11 @@
 -- Phrases one behind another.
-use Rattle.std.proofs.Common.{◌≡◌, ◌<◌, ℕ, List, [], ◌∷◌, ◌++◌, length, reverse, refl, ap, ◌∙◌, sym, arith}
+use Rattle.std.proofs.Common.{◌≡◌, ◌<◌, ℕ, Result, Ok, Err, IfOk, List, [], ◌∷◌, ◌++◌, length, reverse, refl, ap, ◌∙◌, sym, arith}
 use Rattle.std.proofs.lemmas.List.{reverse-append, length-reverse}
 use Rattle.fac_lang.specs.PhraseView.{choices_behind, choices_from, items_phrase, what_item}
 use Rattle.fac_lang.specs.Phrases.{Phrase, end, then, quot, word}
 use Rattle.fac_lang.specs.RunningLaws.{append}
 use Rattle.fac_lang.specs.declared.phrase.Item.{Item as PlacedItem}
-use Rattle.fac_lang.specs.declared.phrase.Place.{Place}
+use Rattle.fac_base.specs.declared.place.Place.{Place}
 use Rattle.fac_lang.specs.declared.phrase.What.{What}
 
 pub append_end : (t : Phrase) → append t end ≡ t
@@ -43,3 +43,8 @@ choices_inside w p (t ∷ ts) lt = refl
 pub more_choices : (w : ℕ) (p : Place) (ts : List Phrase) (t : Phrase) → 0 < length ts → choices_from w p (reverse (ts ++ t ∷ [])) ≡ append t (then (quot (choices_from w p (reverse ts))) p (then (word w) p end))
 more_choices w p ts t lt =
     ap (choices_from w p) (reverse-append ts (t ∷ [])) ∙ ap (append t) (choices_inside w p (reverse ts) (omega (arith, lt, length-reverse ts)))
+
+-- what follows of an answer where there is one
+pub so_if_ok : {A E : Type 0} (P Q : A → Type 0) (r : Result A E) → ((x : A) → P x → Q x) → IfOk r P → IfOk r Q
+so_if_ok P Q (Ok x) so h = so x h
+so_if_ok P Q (Err e) so h = tt

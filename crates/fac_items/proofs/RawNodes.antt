@@ -1,23 +1,26 @@
 -- The nodes of elements, and what readings make of them.
 use Rattle.std.proofs.Common.{◌≡◌, List, [], ◌∷◌, map, Bool, true, false, refl}
-use Rattle.std.specs.Prelude.{ℕ}
+use Rattle.std.specs.Prelude.{ℕ, ℤ}
 use Rattle.fac_lang.specs.Phrases.{Plain, int, yes, no, str}
 use Rattle.fac_lang.specs.Whole.{is_small}
-use Rattle.fac_lang.specs.declared.phrase.Height.{Height}
-use Rattle.fac_lang.specs.declared.phrase.Place.{Place}
-use Rattle.fac_lang.specs.declared.token.Token.{Token}
-use Rattle.fac_lang.specs.declared.tree.Bracket.{Bracket}
-use Rattle.fac_lang.specs.declared.tree.Bracket.TheVariants.{Quotation, Array, Fry}
-use Rattle.fac_lang.specs.declared.tree.Callee.{Callee}
-use Rattle.fac_lang.specs.declared.tree.Callee.TheVariants.{Callable, Word}
-use Rattle.fac_lang.specs.declared.tree.Element.{Element}
-use Rattle.fac_lang.specs.declared.tree.Element.TheVariants as element
-use Rattle.fac_lang.specs.declared.tree.Term.{Term}
-use Rattle.fac_lang.specs.declared.tree.Term.TheVariants as term
-use Rattle.fac_refusal.specs.Toks.{is_among}
+use Rattle.fac_base.specs.declared.height.Height.{Height}
+use Rattle.fac_base.specs.declared.place.Place.{Place}
+use Rattle.fac_source.specs.declared.token.Token.{Token}
+use Rattle.fac_source.specs.declared.tree.Bracket.{Bracket}
+use Rattle.fac_source.specs.declared.tree.Bracket.TheVariants.{Quotation, Array, Fry}
+use Rattle.fac_source.specs.declared.tree.Callee.{Callee}
+use Rattle.fac_source.specs.declared.tree.Callee.TheVariants.{Callable, Word}
+use Rattle.fac_source.specs.declared.tree.Element.{Element}
+use Rattle.fac_source.specs.declared.tree.Element.TheVariants as element
+use Rattle.fac_source.specs.declared.tree.Literal.{Literal}
+use Rattle.fac_source.specs.declared.tree.Literal.TheVariants.{Integer, Text, True, False}
+use Rattle.fac_source.specs.declared.tree.Term.{Term}
+use Rattle.fac_source.specs.declared.tree.Term.TheVariants as term
+use Rattle.fac_effect.specs.Spellings.{token_text}
+use Rattle.fac_source.specs.Toks.{is_among}
 use Rattle.fac_items.specs.Written.{Tok, Node, n_lit, n_array, n_quot, n_ref, n_name, n_locals, n_fry, n_call, n_execute, n_bind, n_hole, n_at, n_next, Nodes, nothing, more}
 use Rattle.fac_items.specs.Readings.{bindings}
-use Rattle.fac_items.specs.FromElements.{AreClosing, IsElement as MayBeElement, IsInFry, IsItem, MayStand, bracketed, nested, node, opened, rests, tested_call, tok}
+use Rattle.fac_items.specs.FromElements.{AreClosing, IsElement as MayBeElement, IsInFry, IsItem, MayStand, bracketed, literal_value, nested, node, opened, rests, tested_call, tok}
 
 abbrev pub IsPlainLiteral : Plain → Type 0
 IsPlainLiteral (int z) = Unit {0}
@@ -91,14 +94,17 @@ call_raw : (fry : Bool) (callee : Callee) (h : Height) (p : Place) → is_small 
 call_raw fry Callable h p small = small
 call_raw fry Word h p small = small
 
+pub literal_plain : (text : List ℕ) (l : Literal ℤ) → IsPlainLiteral (literal_value text l)
+literal_plain text (Integer z) = tt
+literal_plain text Text = tt
+literal_plain text True = tt
+literal_plain text False = tt
+
 term_raw : (bs : List Bracket) (fry : Bool) → (IsInFry bs → fry ≡ true) → (t : Term) → IsItem bs t → IsRaw fry (node t)
 term_raw bs fry k (term.Name t) h = tt
 term_raw bs fry k (term.Wrapped sign name) h = tt
 term_raw bs fry k (term.EffectCall callee sign tokens height) h = call_raw fry callee height sign h
-term_raw bs fry k (term.Integer t z) h = tt
-term_raw bs fry k (term.Text t) h = tt
-term_raw bs fry k (term.True place) h = tt
-term_raw bs fry k (term.False place) h = tt
+term_raw bs fry k (term.Literal t l) h = literal_plain (token_text t.kind) l
 term_raw bs fry k (term.NextMethod place) h = tt
 term_raw bs fry k (term.Bind sign name) h = tt
 term_raw bs fry k (term.Hole place) h = k h
@@ -108,10 +114,7 @@ term_element : (t : Term) → MayBeElement t → IsRawElement (node t)
 term_element (term.Name t) h = tt
 term_element (term.Wrapped sign name) h = tt
 term_element (term.EffectCall callee sign tokens height) h = absurd h
-term_element (term.Integer t z) h = tt
-term_element (term.Text t) h = tt
-term_element (term.True place) h = tt
-term_element (term.False place) h = tt
+term_element (term.Literal t l) h = literal_plain (token_text t.kind) l
 term_element (term.NextMethod place) h = absurd h
 term_element (term.Bind sign name) h = absurd h
 term_element (term.Hole place) h = absurd h

@@ -1,8 +1,8 @@
 -- What readings make of items.
 use Rattle.std.proofs.Common.{◌≡◌, List, [], ◌∷◌, ◌++◌, Option, Some, None, Bool, true, false, refl, ap, sym, ◌∙◌}
 use Rattle.std.specs.Prelude.{ℕ, is_some, not, ◌&&◌, if◌then◌else◌}
-use Rattle.fac_lang.specs.declared.phrase.Place.{Place}
-use Rattle.fac_refusal.specs.Toks.{is_among, texts_of}
+use Rattle.fac_base.specs.declared.place.Place.{Place}
+use Rattle.fac_source.specs.Toks.{is_among, texts_of}
 use Rattle.fac_items.specs.Written.{Tok, n_lit, n_array, n_quot, n_ref, n_name, n_locals, n_fry, n_call, n_execute, n_bind, n_hole, n_at, n_next, Nodes, nothing, more}
 use Rattle.fac_items.specs.Readings.{are_pairs, behind_first, bindings, cond_first, joined, read_elements, read_items, read_pairs}
 use Rattle.fac_items.specs.Items.{local_of}

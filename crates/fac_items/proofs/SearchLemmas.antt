@@ -1,13 +1,13 @@
 -- What the search of a name comes to.
 use Rattle.std.proofs.Common.{◌≡◌, ℕ, List, [], ◌∷◌, Option, Some, None, Bool, false, fold, refl, ap, sym, ◌∙◌}
-use Rattle.fac_lang.specs.declared.program.Name.{Name as FullName}
+use Rattle.fac_base.specs.declared.name.Name.{Name as FullName}
 use Rattle.fac_vocab.specs.declared.answers.Found.TheVariants.{Word, Unknown as Nothing, Ambiguous as Several}
 use Rattle.fac_vocab.specs.ScopeCalls.{answer_of, names_between}
 use Rattle.fac_vocab.specs.declared.entry.Entry.{Entry}
 use Rattle.fac_vocab.specs.Scopes.{Scope, Found, the, unknown, ambiguous, found}
-use Rattle.fac_refusal.specs.declared.refusal.NameFault.{NameFault}
-use Rattle.fac_refusal.specs.declared.refusal.NameKind.TheVariants.{Unknown, Ambiguous}
-use Rattle.fac_refusal.specs.Refusals.{fault, sooner}
+use Rattle.fac_source.specs.declared.refusal.NameFault.{NameFault}
+use Rattle.fac_source.specs.declared.refusal.NameKind.TheVariants.{Unknown, Ambiguous}
+use Rattle.fac_source.specs.Refusals.{fault, sooner}
 use Rattle.fac_items.specs.Written.{Tok}
 use Rattle.fac_items.specs.Items.{entry_name, is_cond, is_cond_word, ref, search_fault}
 use Rattle.fac_items.specs.inner.Search.{IsAmbiguous}

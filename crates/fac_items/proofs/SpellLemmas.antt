@@ -1,15 +1,15 @@
 -- Elements are their nodes, one behind another.
 use Rattle.std.proofs.Common.{◌≡◌, ℕ, suc, List, [], ◌∷◌, ◌++◌, length, map, Option, None, Bool, refl, ap, sym, ◌∙◌, arith, append_assoc, append-nil}
-use Rattle.fac_lang.specs.declared.phrase.Height.{Height}
-use Rattle.fac_lang.specs.declared.phrase.Place.{Place}
-use Rattle.fac_lang.specs.declared.tree.Bracket.{Bracket}
-use Rattle.fac_lang.specs.declared.tree.Bracket.TheVariants.{Quotation, Array, Fry}
-use Rattle.fac_lang.specs.declared.tree.Callee.{Callee}
-use Rattle.fac_lang.specs.declared.tree.Callee.TheVariants.{Callable, Word}
-use Rattle.fac_lang.specs.declared.tree.Element.{Element}
-use Rattle.fac_lang.specs.declared.tree.Element.TheVariants as element
-use Rattle.fac_lang.specs.declared.tree.Term.{Term}
-use Rattle.fac_lang.specs.declared.tree.Term.TheVariants as term
+use Rattle.fac_base.specs.declared.height.Height.{Height}
+use Rattle.fac_base.specs.declared.place.Place.{Place}
+use Rattle.fac_source.specs.declared.tree.Bracket.{Bracket}
+use Rattle.fac_source.specs.declared.tree.Bracket.TheVariants.{Quotation, Array, Fry}
+use Rattle.fac_source.specs.declared.tree.Callee.{Callee}
+use Rattle.fac_source.specs.declared.tree.Callee.TheVariants.{Callable, Word}
+use Rattle.fac_source.specs.declared.tree.Element.{Element}
+use Rattle.fac_source.specs.declared.tree.Element.TheVariants as element
+use Rattle.fac_source.specs.declared.tree.Term.{Term}
+use Rattle.fac_source.specs.declared.tree.Term.TheVariants as term
 use Rattle.fac_items.specs.declared.cases.Child.{Child}
 use Rattle.fac_items.specs.declared.cases.Child.TheVariants as child
 use Rattle.fac_items.specs.Written.{Tok, Node, n_array, n_fry, n_locals, n_quot, Nodes, nothing, more}
@@ -53,10 +53,7 @@ term_child : (t : Term) → child_node (node t) ≡ child.Other
 term_child (term.Name t) = refl
 term_child (term.Wrapped sign name) = refl
 term_child (term.EffectCall callee sign tokens height) = call_child callee height sign
-term_child (term.Integer t z) = refl
-term_child (term.Text t) = refl
-term_child (term.True place) = refl
-term_child (term.False place) = refl
+term_child (term.Literal t l) = refl
 term_child (term.NextMethod place) = refl
 term_child (term.Bind sign name) = refl
 term_child (term.Hole place) = refl
@@ -148,10 +145,7 @@ spell_term : (c : List ℕ → Bool) (t : Term) (ns : Nodes) → spell c (more (
 spell_term c (term.Name t) ns = refl
 spell_term c (term.Wrapped sign name) ns = refl
 spell_term c (term.EffectCall callee sign tokens height) ns = spell_call c callee height sign ns
-spell_term c (term.Integer t z) ns = refl
-spell_term c (term.Text t) ns = refl
-spell_term c (term.True place) ns = refl
-spell_term c (term.False place) ns = refl
+spell_term c (term.Literal t l) ns = refl
 spell_term c (term.NextMethod place) ns = refl
 spell_term c (term.Bind sign name) ns = refl
 spell_term c (term.Hole place) ns = refl

@@ -4,14 +4,14 @@ use Rattle.std.specs.Prelude.{is_some, if◌then◌else◌}
 use Rattle.std.proofs.lemmas.List.Sums.{fold-append}
 use Rattle.fac_lang.specs.Phrases.{wrd, Phrase, end, then as placed, Item, lit, lit_arr, quot, word, bind, local, fry as fry_item, hole, call_eff, exec_eff, next_method}
 use Rattle.fac_lang.specs.RunningLaws.{append}
-use Rattle.fac_lang.specs.declared.phrase.Place.{Place}
+use Rattle.fac_base.specs.declared.place.Place.{Place}
 use Rattle.fac_lang.specs.declared.program.Lit.{Lit}
 use Rattle.fac_lang.specs.declared.program.Lit.TheVariants as literal_is
-use Rattle.fac_lang.specs.declared.tree.Bracket.TheVariants.{Quotation}
-use Rattle.fac_refusal.specs.declared.refusal.NameFault.{NameFault}
-use Rattle.fac_refusal.specs.declared.refusal.NameKind.TheVariants.{Twice}
-use Rattle.fac_refusal.specs.Refusals.{fault_if, sooner}
-use Rattle.fac_refusal.specs.Toks.{is_among}
+use Rattle.fac_source.specs.declared.tree.Bracket.TheVariants.{Quotation}
+use Rattle.fac_source.specs.declared.refusal.NameFault.{NameFault}
+use Rattle.fac_source.specs.declared.refusal.NameKind.TheVariants.{Twice}
+use Rattle.fac_source.specs.Refusals.{fault_if, sooner}
+use Rattle.fac_source.specs.Toks.{is_among}
 use Rattle.fac_vocab.specs.Scopes.{Scope}
 use Rattle.fac_items.specs.declared.added.Added.{Added}
 use Rattle.fac_items.specs.declared.added.Added.TheVariants as add

@@ -1,18 +1,20 @@
 -- Items as they stand in trees, which are flat, as nested nodes.
-use Rattle.std.specs.Prelude.{◌≡◌, List, [], ◌∷◌, map, true, false}
-use Rattle.fac_lang.specs.Phrases.{int, yes, no, str}
+use Rattle.std.specs.Prelude.{◌≡◌, ℕ, ℤ, List, [], ◌∷◌, map, true, false}
+use Rattle.fac_lang.specs.Phrases.{Plain, int, yes, no, str}
 use Rattle.fac_lang.specs.Whole.{is_small}
-use Rattle.fac_lang.specs.declared.phrase.Height.{Height}
-use Rattle.fac_lang.specs.declared.phrase.Place.{Place}
-use Rattle.fac_lang.specs.declared.token.Token.{Token}
-use Rattle.fac_lang.specs.declared.tree.Bracket.{Bracket}
-use Rattle.fac_lang.specs.declared.tree.Bracket.TheVariants.{Quotation, Array, Fry}
-use Rattle.fac_lang.specs.declared.tree.Callee.{Callee}
-use Rattle.fac_lang.specs.declared.tree.Callee.TheVariants.{Callable, Word}
-use Rattle.fac_lang.specs.declared.tree.Element.{Element}
-use Rattle.fac_lang.specs.declared.tree.Element.TheVariants as element
-use Rattle.fac_lang.specs.declared.tree.Term.{Term}
-use Rattle.fac_lang.specs.declared.tree.Term.TheVariants as term
+use Rattle.fac_base.specs.declared.height.Height.{Height}
+use Rattle.fac_base.specs.declared.place.Place.{Place}
+use Rattle.fac_source.specs.declared.token.Token.{Token}
+use Rattle.fac_source.specs.declared.tree.Bracket.{Bracket}
+use Rattle.fac_source.specs.declared.tree.Bracket.TheVariants.{Quotation, Array, Fry}
+use Rattle.fac_source.specs.declared.tree.Callee.{Callee}
+use Rattle.fac_source.specs.declared.tree.Callee.TheVariants.{Callable, Word}
+use Rattle.fac_source.specs.declared.tree.Element.{Element}
+use Rattle.fac_source.specs.declared.tree.Element.TheVariants as element
+use Rattle.fac_source.specs.declared.tree.Literal.{Literal}
+use Rattle.fac_source.specs.declared.tree.Literal.TheVariants.{Integer, Text, True, False}
+use Rattle.fac_source.specs.declared.tree.Term.{Term}
+use Rattle.fac_source.specs.declared.tree.Term.TheVariants as term
 use Rattle.fac_effect.specs.Spellings.{token_text}
 use Rattle.fac_items.specs.Written.{Tok, Node, n_lit, n_array, n_ref, n_name, n_next, n_quot, n_fry, n_locals, n_call, n_execute, n_bind, n_hole, n_at, Nodes, nothing, more}
 
@@ -24,14 +26,18 @@ abbrev pub tested_call : Callee → Height → Place → Node
 tested_call Callable h place = n_call h place
 tested_call Word h place = n_execute h place
 
+-- the value of a literal, by the content of its token
+abbrev pub literal_value : List ℕ → Literal ℤ → Plain
+literal_value text (Integer z) = int z
+literal_value text Text = str text
+literal_value text True = yes
+literal_value text False = no
+
 abbrev pub node : Term → Node
 node (term.Name t) = n_name (tok t) t.place
 node (term.Wrapped sign name) = n_ref (tok name) sign
 node (term.EffectCall callee sign tokens height) = tested_call callee height sign
-node (term.Integer t value) = n_lit (int value) t.place
-node (term.Text t) = n_lit (str (token_text t.kind)) t.place
-node (term.True place) = n_lit yes place
-node (term.False place) = n_lit no place
+node (term.Literal t l) = n_lit (literal_value (token_text t.kind) l) t.place
 node (term.NextMethod place) = n_next place
 node (term.Bind sign name) = n_bind (tok name) false sign
 node (term.Hole place) = n_hole place
@@ -70,10 +76,7 @@ nested es = (rests es).here
 abbrev pub IsElement : Term → Type 0
 IsElement (term.Name t) = Unit {0}
 IsElement (term.Wrapped sign name) = Unit {0}
-IsElement (term.Integer t value) = Unit {0}
-IsElement (term.Text t) = Unit {0}
-IsElement (term.True place) = Unit {0}
-IsElement (term.False place) = Unit {0}
+IsElement (term.Literal t l) = Unit {0}
 IsElement _ = ⊥
 
 -- whether a fry is around, where these brackets are open, the innermost first; a hole in an array isn't that of a fry around the array

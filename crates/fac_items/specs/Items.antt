@@ -1,22 +1,22 @@
 -- The names that items search, and the phrases that they come to.
 use Rattle.std.specs.Prelude.{ℕ, suc, List, [], ◌∷◌, ◌++◌, map, length, slice_get, Option, Some, None, Bool, false, ◌&&◌, codes, if◌then◌else◌}
 use Rattle.std.specs.Str.{bytes_eq}
-use Rattle.fac_lang.specs.CoreWords.{CoreWord, built_core_words}
+use Rattle.fac_lang.specs.CoreWords.{WrittenCore, built_core_words}
 use Rattle.fac_lang.specs.PrimitiveWords.{PrimitiveWord}
 use Rattle.fac_lang.specs.Primitives.{built_primitive_words}
 use Rattle.fac_lang.specs.RunningLaws.{append}
 use Rattle.fac_lang.specs.Phrases.{Phrase, end, then as placed, Item, lit, lit_arr, quot, word, bind, local, fry, hole, call_eff, exec_eff, next_method, Plain, int, yes, str, wrd}
 use Rattle.fac_lang.specs.Whole.{joined as all_of}
-use Rattle.fac_lang.specs.declared.phrase.Place.{Place}
+use Rattle.fac_base.specs.declared.place.Place.{Place}
 use Rattle.fac_lang.specs.declared.program.Lit.{Lit}
 use Rattle.fac_lang.specs.declared.program.Lit.TheVariants.{Int as l_int, True as l_yes, False as l_no, Str as l_str, Arr as l_arr, Wref as l_word, Quot as l_quot}
-use Rattle.fac_lang.specs.declared.program.Name.{Name as FullName}
-use Rattle.fac_refusal.specs.declared.refusal.NameFault.{NameFault}
-use Rattle.fac_refusal.specs.declared.refusal.NameKind.TheVariants.{Unknown, Ambiguous, Twice}
+use Rattle.fac_base.specs.declared.name.Name.{Name as FullName}
+use Rattle.fac_source.specs.declared.refusal.NameFault.{NameFault}
+use Rattle.fac_source.specs.declared.refusal.NameKind.TheVariants.{Unknown, Ambiguous, Twice}
 use Rattle.fac_items.specs.Written.{Tok, Node, n_lit, n_array, n_quot, n_ref, n_name, n_fry, n_call, n_execute, n_bind, n_hole, n_next, n_full, n_part, Nodes, nothing, more}
-use Rattle.fac_refusal.specs.declared.tok.Ref.{Ref}
-use Rattle.fac_refusal.specs.Refusals.{fault, fault_if}
-use Rattle.fac_refusal.specs.Toks.{is_among, number}
+use Rattle.fac_source.specs.declared.tok.Ref.{Ref}
+use Rattle.fac_source.specs.Refusals.{fault, fault_if}
+use Rattle.fac_source.specs.Toks.{is_among, number}
 use Rattle.fac_items.specs.Readings.{bound}
 use Rattle.fac_vocab.specs.declared.entry.Entry.{Entry}
 use Rattle.fac_vocab.specs.Scopes.{Scope, word_held, the, unknown, ambiguous, found}
@@ -44,7 +44,7 @@ is_cond_row row = bytes_eq row.vocab (codes "combinators") && bytes_eq row.name 
 
 -- the words that there are before a source is read, but for those of classes; their numbers are their places here
 abbrev pub known_rows : List PrimitiveWord
-known_rows = built_primitive_words ++ map (λ (c : CoreWord). c.word) built_core_words
+known_rows = built_primitive_words ++ map (λ (c : WrittenCore). c.word) built_core_words
 
 -- whether the word with this number is `cond`, where it is one of the words that there are before a source is read; these come first
 abbrev pub is_cond_word : ℕ → Bool

@@ -1,8 +1,8 @@
 -- `::`, `[|`, `@`, `cond`, `C:` and `CONSTANT:` as rewritings of trees.
 use Rattle.std.specs.Prelude.{ℕ, List, [], ◌∷◌, ◌++◌, Option, Some, None, Bool, true, false, ◌&&◌, not, codes, if◌then◌else◌}
 use Rattle.fac_lang.specs.Whole.{plain_effect}
-use Rattle.fac_lang.specs.declared.phrase.Place.{Place}
-use Rattle.fac_refusal.specs.Toks.{is_among, texts_of}
+use Rattle.fac_base.specs.declared.place.Place.{Place}
+use Rattle.fac_source.specs.Toks.{is_among, texts_of}
 use Rattle.fac_items.specs.Written.{Tok, Node, n_array, n_quot, n_name, n_locals, n_fry, n_bind, n_hole, n_at, n_full, n_part, Nodes, nothing, more, given, makes, Form, f_constant, f_define, f_locals, f_maker, f_items}
 
 abbrev pub joined : Nodes → Nodes → Nodes

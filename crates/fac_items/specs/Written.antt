@@ -1,11 +1,11 @@
 -- Trees as they are written, with the places of their tokens.
 use Rattle.std.specs.Prelude.{ℕ, List, Option, Bool}
 use Rattle.fac_lang.specs.Phrases.{Plain}
-use Rattle.fac_lang.specs.Signatures.{Signature}
-use Rattle.fac_lang.specs.declared.phrase.Height.{Height}
-use Rattle.fac_lang.specs.declared.phrase.Place.{Place}
+use Rattle.fac_base.specs.Signatures.{Signature}
+use Rattle.fac_base.specs.declared.height.Height.{Height}
+use Rattle.fac_base.specs.declared.place.Place.{Place}
 -- A name, as its token spells it (a local input without its `:`), and where that token stands.
-pub use Rattle.fac_refusal.specs.declared.tok.Tok.{Tok}
+pub use Rattle.fac_source.specs.declared.tok.Tok.{Tok}
 
 mutual
   -- An item, or an element of an array. A place is that of its first token.

@@ -1,6 +1,6 @@
 //! The words that readings add, which are named by their full names.
 ghost use Rattle.std.specs.Prelude.{◌≡◌};
-ghost use Rattle.fac_refusal.specs.Toks.{number};
+ghost use Rattle.fac_source.specs.Toks.{number};
 ghost use Rattle.fac_vocab.specs.Scopes.{word_held};
 ghost use Rattle.fac_items.specs.inner.TakenBits.{added_name, added_vocab};
 

@@ -10,7 +10,8 @@ ghost use Rattle.fac_items.specs.inner.Behind.{all_scanned, child_of, cond_name,
 use crate::cases::{Cases, Child, are_cases, array_child, with_child};
 use crate::search::is_cond;
 use crate::spelled::{NameAt, name_at};
-use fac_lang::{Bracket, Element, Memory, Stack, Term};
+use fac_base::{Memory, Stack};
+use fac_source::{Bracket, Element, Term};
 use fac_vocab::Scope;
 use std::alloc::Global;
 
@@ -60,10 +61,7 @@ fn leaf_name(term: &Term) -> Option<NameAt<'_>>
         Term::Name(token) => Some(name_at(token)),
         Term::Wrapped { .. } => None,
         Term::EffectCall { .. } => None,
-        Term::Integer(_, _) => None,
-        Term::Text(_) => None,
-        Term::True(_) => None,
-        Term::False(_) => None,
+        Term::Literal(..) => None,
         Term::NextMethod(_) => None,
         Term::Bind { .. } => None,
         Term::Hole(_) => None,

@@ -3,7 +3,8 @@ ghost use Rattle.std.specs.Prelude.{◌≡◌, ◌<◌, length, IfOk, MatchBool}
 ghost use Rattle.fac_lang.specs.Phrases.{append, end, quot, then, word};
 ghost use Rattle.fac_lang.specs.PhraseView.{choices_phrase, items_phrase, what_item};
 
-use fac_lang::{Choices, Item, Memory, Phrase, Place, What};
+use fac_base::{Memory, Place};
+use fac_lang::{Choices, Item, Phrase, What};
 use std::alloc::Global;
 
 // The phrase of these items, in no more memory than they take.
@@ -32,6 +33,18 @@ fn is_same(place: Place, other: Place) -> bool
     place.file == other.file && place.token == other.token
 }
 
+// Choices, on the heap.
+fn choices_of(alloc: Global, phrases: Vec<Phrase>, word: u32, place: Place) -> Result<What, Memory>
+    ensures { IfOk result (λ what. what_item what ≡ quot (choices_phrase (record { phrases = phrases; word = word; place = place }))) }
+{
+    let choices = Choices {
+        phrases,
+        word,
+        place,
+    };
+    Ok(What::Choices(Box::new(alloc, choices)?))
+}
+
 // A quotation of these items, of a quotation behind them and of the word that chooses.
 fn choice(
     alloc: Global,
@@ -45,15 +58,17 @@ fn choice(
     let mut phrases = Vec::with_capacity(alloc, 2)?;
     phrases.push(inner)?;
     phrases.push(phrase_of(items))?;
-    Ok(What::Choices(Choices {
-        phrases,
-        word: chooses,
-        place,
-    }))
+    choices_of(alloc, phrases, chooses, place)
 }
 
 // Likewise around choices, which these items join where the same word chooses at the same place.
-fn further(items: Vec<Item>, choices: Choices, chooses: u32, place: Place) -> Result<What, Memory>
+fn further(
+    alloc: Global,
+    items: Vec<Item>,
+    choices: Choices,
+    chooses: u32,
+    place: Place,
+) -> Result<What, Memory>
     ensures { IfOk result (λ what. what_item what ≡ quot (append (items_phrase items.items) (then (quot (choices_phrase choices)) place (then (word chooses) place end)))) }
 {
     let Choices {
@@ -64,17 +79,9 @@ fn further(items: Vec<Item>, choices: Choices, chooses: u32, place: Place) -> Re
     if word == chooses && is_same(at, place) && phrases.len() > 0 {
         let mut phrases = phrases;
         phrases.push(phrase_of(items))?;
-        return Ok(What::Choices(Choices {
-            phrases,
-            word,
-            place: at,
-        }));
+        return choices_of(alloc, phrases, word, at);
     }
-    let inner = What::Choices(Choices {
-        phrases,
-        word,
-        place: at,
-    });
+    let inner = choices_of(alloc, phrases, word, at)?;
     let last = What::Word(chooses);
     whole(
         items,
@@ -95,7 +102,10 @@ fn around(
 {
     match inner {
         What::Quot(phrase) => choice(alloc, items, phrase, chooses, place),
-        What::Choices(choices) => further(items, choices, chooses, place),
+        What::Choices(choices) => {
+            let choices = Box::into_inner(choices);
+            further(alloc, items, choices, chooses, place)
+        }
         other => {
             let last = What::Word(chooses);
             whole(

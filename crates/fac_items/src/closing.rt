@@ -10,7 +10,8 @@ use crate::content::{
 use crate::locals::keep;
 use crate::nest::{Around, At, Nest, Spot, add_word, open_quotation, take_inside};
 use crate::spelled::NameAt;
-use fac_lang::{Memory, Place, Term};
+use fac_base::{Memory, Place};
+use fac_source::Term;
 use fac_vocab::Scope;
 use std::alloc::Global;
 use std::mem;

@@ -3,10 +3,13 @@ ghost use Rattle.std.specs.Prelude.{◌≡◌, ◌++◌, ◌∷◌, [], length, 
 ghost use Rattle.fac_lang.specs.Phrases.{end, int, no, quot, str, then, yes};
 ghost use Rattle.fac_lang.specs.PhraseView.{items_phrase, what_item};
 ghost use Rattle.fac_lang.specs.RunningLaws.{append};
+ghost use Rattle.fac_items.specs.FromElements.{literal_value};
 ghost use Rattle.fac_items.specs.inner.TakenBits.{content_seen, elements_in, phrase_in, with_array, with_fresh, with_item, with_literal, with_reference};
 
 use crate::choices::quotation_of;
-use fac_lang::{Integer, Item, List, Lit, Memory, Phrase, Place, Text, What};
+use fac_base::{Integer, List, Memory, Place, Text};
+use fac_lang::{Item, Lit, Phrase, What};
+use fac_source::Literal;
 use std::alloc::Global;
 
 /// What a phrase or an array has so far.
@@ -125,32 +128,6 @@ pub fn keep_array(
     Ok(number)
 }
 
-/// Adds an integer.
-pub fn add_int(content: &mut Content, value: Integer, place: Place) -> Result<(), Memory>
-    ensures { OnOk result (content_seen content.new ≡ with_literal (int value) place (content_seen content.old)) }
-{
-    match content {
-        Content::Items(items) => add_item(items, What::Int(value), place),
-        Content::Elements(elements) => add_element(elements, Lit::Int(value)),
-    }
-}
-
-/// Adds a string.
-pub fn add_text(
-    alloc: Global,
-    content: &mut Content,
-    text: &str,
-    place: Place,
-) -> Result<(), Memory>
-    ensures { OnOk result (content_seen content.new ≡ with_literal (str text.now) place (content_seen content.old)) }
-{
-    let text = Text::from_str(alloc, text)?;
-    match content {
-        Content::Items(items) => add_item(items, What::Str(text), place),
-        Content::Elements(elements) => add_element(elements, Lit::Str(text)),
-    }
-}
-
 /// Adds a word as a value, by its number.
 pub fn add_reference(content: &mut Content, word: u32, place: Place) -> Result<(), Memory>
     ensures { OnOk result (content_seen content.new ≡ with_reference word place (content_seen content.old)) }
@@ -161,8 +138,29 @@ pub fn add_reference(content: &mut Content, word: u32, place: Place) -> Result<(
     }
 }
 
-/// Adds the value `t`.
-pub fn add_true(content: &mut Content, place: Place) -> Result<(), Memory>
+// Adds an integer.
+fn add_int(content: &mut Content, value: Integer, place: Place) -> Result<(), Memory>
+    ensures { OnOk result (content_seen content.new ≡ with_literal (int value) place (content_seen content.old)) }
+{
+    match content {
+        Content::Items(items) => add_item(items, What::Int(value), place),
+        Content::Elements(elements) => add_element(elements, Lit::Int(value)),
+    }
+}
+
+// Adds a string.
+fn add_text(alloc: Global, content: &mut Content, text: &str, place: Place) -> Result<(), Memory>
+    ensures { OnOk result (content_seen content.new ≡ with_literal (str text.now) place (content_seen content.old)) }
+{
+    let text = Text::from_str(alloc, text)?;
+    match content {
+        Content::Items(items) => add_item(items, What::Str(text), place),
+        Content::Elements(elements) => add_element(elements, Lit::Str(text)),
+    }
+}
+
+// Adds the value `t`.
+fn add_true(content: &mut Content, place: Place) -> Result<(), Memory>
     ensures { OnOk result (content_seen content.new ≡ with_literal yes place (content_seen content.old)) }
 {
     match content {
@@ -171,12 +169,30 @@ pub fn add_true(content: &mut Content, place: Place) -> Result<(), Memory>
     }
 }
 
-/// Adds the value `f`.
-pub fn add_false(content: &mut Content, place: Place) -> Result<(), Memory>
+// Adds the value `f`.
+fn add_false(content: &mut Content, place: Place) -> Result<(), Memory>
     ensures { OnOk result (content_seen content.new ≡ with_literal no place (content_seen content.old)) }
 {
     match content {
         Content::Items(items) => add_item(items, What::False, place),
         Content::Elements(elements) => add_element(elements, Lit::False),
+    }
+}
+
+/// Adds a literal, by the content of its token.
+pub fn add_literal(
+    alloc: Global,
+    content: &mut Content,
+    literal: Literal<Integer>,
+    text: &str,
+    place: Place,
+) -> Result<(), Memory>
+    ensures { OnOk result (content_seen content.new ≡ with_literal (literal_value text.now literal) place (content_seen content.old)) }
+{
+    match literal {
+        Literal::Integer(value) => add_int(content, value, place),
+        Literal::Text => add_text(alloc, content, text, place),
+        Literal::True => add_true(content, place),
+        Literal::False => add_false(content, place),
     }
 }

@@ -1,6 +1,6 @@
 //! Items with their names resolved, and the literal arrays among them.
 ghost use Rattle.std.specs.Prelude.{◌≡◌, [], fold, map, IfOk, OnOk};
-ghost use Rattle.fac_refusal.specs.Refusals.{sooner};
+ghost use Rattle.fac_source.specs.Refusals.{sooner};
 ghost use Rattle.std.specs.Option.{option_map};
 ghost use Rattle.fac_items.specs.FromElements.{AreClosing, nested};
 ghost use Rattle.fac_items.specs.Items.{items_faults};
@@ -16,8 +16,9 @@ use crate::closing::{close, take_term};
 use crate::content::whole_phrase;
 use crate::nest::{Nest, begin, bind_all, open, open_braces, open_locals};
 use crate::spelled::NameAt;
-use fac_lang::{Bracket, Element, List, Lit, Memory, Phrase, Place, Stack};
-use fac_refusal::NameFault;
+use fac_base::{List, Memory, Place, Stack};
+use fac_lang::{Lit, Phrase};
+use fac_source::{Bracket, Element, NameFault};
 use fac_vocab::Scope;
 use std::alloc::Global;
 use std::mem;

@@ -1,7 +1,7 @@
 //! The words that there are before a source is read, by their rows.
 ghost use Rattle.std.specs.Prelude.{◌≡◌, ◌++◌, length, map, slice_get};
 ghost use Rattle.std.specs.Option.{option_copied, option_map};
-ghost use Rattle.fac_lang.specs.CoreWords.{CoreWord, built_core_words};
+ghost use Rattle.fac_lang.specs.CoreWords.{WrittenCore, built_core_words};
 ghost use Rattle.fac_lang.specs.Primitives.{built_primitive_words};
 ghost use Rattle.fac_lang.specs.WrittenWords.{written_word};
 ghost use Rattle.fac_items.specs.Items.{is_cond_row, is_cond_word, known_rows};
@@ -12,7 +12,7 @@ use fac_lang::{WordRow, core_words, primitives};
 // The row of the core word at this place of their table.
 #[tactic(auto, using(crate::proofs::KnownRowLemmas::core_at))]
 fn core_row(place: usize) -> Option<&'static WordRow>
-    ensures { option_row (option_copied result) ≡ slice_get (map (λ (c : CoreWord). c.word) built_core_words) place }
+    ensures { option_row (option_copied result) ≡ slice_get (map (λ (c : WrittenCore). c.word) built_core_words) place }
 {
     match core_words().get(place) {
         Some(row) => Some(&row.word),

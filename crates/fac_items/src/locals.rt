@@ -1,11 +1,11 @@
 //! The locals in scope.
 ghost use Rattle.std.specs.Prelude.{◌≡◌, take, reverse, IfOk};
-ghost use Rattle.fac_refusal.specs.Toks.{is_among};
+ghost use Rattle.fac_source.specs.Toks.{is_among};
 ghost use Rattle.fac_items.specs.Items.{local_of};
 ghost use Rattle.fac_items.specs.inner.TakenBits.{kept_locals, locals_seen};
 
 use crate::spelled::NameAt;
-use fac_lang::Memory;
+use fac_base::Memory;
 
 /// The number of the local of this name: how many are in scope around it. The last of the locals is the innermost.
 pub fn local_of(locals: &[NameAt<'_>], name: &str) -> Option<usize>

@@ -3,8 +3,8 @@ ghost use Rattle.std.specs.Prelude.{◌≡◌, ◌++◌, ◌∷◌, [], fold, ma
 ghost use Rattle.std.specs.Option.{option_map};
 ghost use Rattle.fac_lang.specs.PhraseView.{what_item};
 ghost use Rattle.fac_lang.specs.declared.program.Lit.TheVariants.{Wref};
-ghost use Rattle.fac_lang.specs.declared.tree.Bracket.TheVariants.{Quotation};
-ghost use Rattle.fac_refusal.specs.Refusals.{sooner};
+ghost use Rattle.fac_source.specs.declared.tree.Bracket.TheVariants.{Quotation};
+ghost use Rattle.fac_source.specs.Refusals.{sooner};
 ghost use Rattle.fac_vocab.specs.Scopes.{Scope};
 ghost use Rattle.fac_items.specs.FromElements.{node, tested_call, tok};
 ghost use Rattle.fac_items.specs.Items.{local_of, search_fault, word_of};
@@ -12,15 +12,14 @@ ghost use Rattle.fac_items.specs.inner.Behind.{name_tok};
 ghost use Rattle.fac_items.specs.inner.TakenBits.{added_taken, all_bound, array_in, array_opened, array_or_cases, array_taken, begun, bound_taken, bracket_opened, case_opened, cond_place, fresh_opened, hole_taken, item_taken, last_opened, leaf_inside, locals_at, locals_seen, name_as, name_in, nest_seen, opened_inside, quotation_opened, reference_taken};
 
 use crate::added::{Added, number_of};
-use crate::content::{
-    Content, add_element, add_false, add_int, add_reference, add_text, add_true, add_what,
-};
+use crate::content::{Content, add_element, add_literal, add_reference, add_what};
 use crate::locals::{is_among, local_number, local_of};
 use crate::search::word_of;
 use crate::spelled::{NameAt, name_at};
+use fac_base::{Height, List, Memory, Place, Stack};
 use fac_effect::text;
-use fac_lang::{Bracket, Callee, Height, List, Lit, Memory, Place, Stack, Term, Token, What};
-use fac_refusal::{NameFault, NameKind, refuse_name};
+use fac_lang::{Lit, What};
+use fac_source::{Bracket, Callee, NameFault, NameKind, Term, Token, refuse_name};
 use fac_vocab::Scope;
 use std::alloc::Global;
 use std::mem;
@@ -270,7 +269,13 @@ pub fn take_inside<'a>(
     ensures { OnOk result (nest_seen nest.new ≡ leaf_inside scope.now (node term.now) (nest_seen nest.old)) }
 {
     match term {
-        Term::Integer(token, value) => add_int(&mut nest.content, *value, token.place),
+        Term::Literal(token, literal) => add_literal(
+            alloc,
+            &mut nest.content,
+            *literal,
+            text(&token.kind),
+            token.place,
+        ),
         Term::Name(token) => take_name(alloc, scope, nest, token),
         Term::Wrapped { sign, name } => take_reference(alloc, scope, nest, name, *sign),
         Term::EffectCall {
@@ -279,9 +284,6 @@ pub fn take_inside<'a>(
             tokens: _,
             height,
         } => take_call(nest, *callee, *height, *sign),
-        Term::Text(token) => add_text(alloc, &mut nest.content, text(&token.kind), token.place),
-        Term::True(place) => add_true(&mut nest.content, *place),
-        Term::False(place) => add_false(&mut nest.content, *place),
         Term::NextMethod(place) => add(nest, What::NextMethod, *place),
         Term::Bind { sign, name } => bind(alloc, nest, name_at(name), false, *sign),
         Term::Hole(place) => take_hole(nest, *place),

@@ -1,14 +1,14 @@
 //! The search of a name.
 ghost use Rattle.std.specs.Prelude.{◌≡◌, fold, IfOk, OnOk};
-ghost use Rattle.fac_refusal.specs.Refusals.{fault, sooner};
+ghost use Rattle.fac_source.specs.Refusals.{fault, sooner};
 ghost use Rattle.fac_items.specs.FromElements.{tok};
 ghost use Rattle.fac_items.specs.Items.{is_cond, ref, search_fault, word_of};
 ghost use Rattle.fac_items.specs.inner.Search.{IsAmbiguous};
 
 use crate::known_rows::is_cond_word;
+use fac_base::{Memory, Text};
 use fac_effect::text;
-use fac_lang::{Memory, Text, Token};
-use fac_refusal::{NameFault, NameKind, Ref, Tok, refuse_name};
+use fac_source::{NameFault, NameKind, Ref, Tok, Token, refuse_name};
 use fac_vocab::{Found, Scope};
 use std::alloc::Global;
 

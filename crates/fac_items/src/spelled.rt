@@ -3,8 +3,9 @@ ghost use Rattle.std.specs.Prelude.{◌≡◌};
 ghost use Rattle.fac_items.specs.FromElements.{tok};
 ghost use Rattle.fac_items.specs.inner.Behind.{name_tok};
 
+use fac_base::Place;
 use fac_effect::text;
-use fac_lang::{Place, Token};
+use fac_source::Token;
 
 /// A name, and the place of its token.
 #[derive(Clone, Copy)]

@@ -2,15 +2,17 @@
 use Rattle.std.proofs.Common.{◌≡◌, ◌<◌, ◌+◌, ℕ, zero, suc, List, [], ◌∷◌, ◌++◌, map, length, Bool, true, false, not, ◌&&◌, ◌||◌, Option, Some, None, refl, sym, ap, subst, ◌∙◌, true≢false, arith}
 use Rattle.std.proofs.lemmas.Bool.Decides.{Decides-ltb}
 use Rattle.std.proofs.lemmas.List.Folds.{list_all-append}
-use Rattle.std.specs.List.{list_all, list_any}
+use Rattle.std.specs.List.{list_all}
 use Rattle.std.specs.Option.{option_map}
 use Rattle.std.specs.Prelude.{nat_eq, nat_lt, slice_get, is_some, codes}
-use Rattle.fac_lang.specs.CoreWords.{CoreWord, core_in, core_word, built_core_words, is_built_core}
+use Rattle.fac_lang.specs.CoreWords.{core_word}
+use Rattle.fac_lang.specs.declared.core_table.CoreWord.{CoreWord}
+use Rattle.fac_lang.specs.declared.core_table.CoreWord.TheVariants.{Call, Dip, If, Execute, Boa, Cond}
 use Rattle.fac_lang.specs.Meaning.{sort_of, is_past}
 use Rattle.fac_lang.specs.Phrases.{int, yes, no, str, iota, wrd, arr, tup, Phrase, end, then, Item, lit, lit_arr, quot, word, bind, local, fry, hole, call_eff, exec_eff, next_method}
 use Rattle.fac_lang.specs.PrimitiveWords.{PrimitiveWord, written_effect}
 use Rattle.fac_lang.specs.Primitives.{Primitive, prim_numbered, primitive_word, built_primitives, built_count, is_built_primitive}
-use Rattle.fac_lang.specs.Signatures.{Signature, signature, no_inputs, leaves}
+use Rattle.fac_base.specs.Signatures.{Signature, signature, no_inputs, leaves}
 use Rattle.fac_lang.specs.Whole.{IsWhole, is_word, is_nameable, item_fits, item_spares, literal_fits, literal_spares, each_item, each_inner, each_numbered, word_phrases, quotations, joined, all_phrases, sort_fits, is_body, is_effect, effect_eq, effect_of, effect_written, has_written_effect, plain_effect, marks_fit}
 use Rattle.fac_lang.specs.declared.program.Lit.{Lit}
 use Rattle.fac_lang.specs.declared.program.Lit.TheVariants.{Int as l_int, True as l_yes, False as l_no, Str as l_str, Arr as l_arr, Wref as l_word, Quot as l_quot, Made as l_made}
@@ -70,10 +72,9 @@ pub record IsPrimitiveWord (d : WordDef) (k : ℕ) : Type 0 where
   pub not_recursive : d.recursive ≡ false
 
 -- likewise a core word
-pub record IsCoreWord (d : WordDef) (k : ℕ) : Type 0 where
+pub record IsCoreWord (d : WordDef) (k : CoreWord) : Type 0 where
   pub row : PrimitiveWord
   pub row_is : core_word k ≡ Some row
-  pub is_built : is_built_core k ≡ true
   pub effect_is : d.effect ≡ written_effect row
   pub not_inline : d.inline ≡ false
   pub not_recursive : d.recursive ≡ false
@@ -163,16 +164,14 @@ primitive_there : (k : ℕ) → is_some (primitive_word k) ≡ true → is_built
 unfolding prim_numbered built_count
 primitive_there k h = (Decides-ltb k (length built_primitives)).1 (some_there built_primitives k h)
 
-core_there_in : (cs : List CoreWord) (k : ℕ) → is_some (core_in cs k) ≡ true → list_any (λ (c : CoreWord). nat_eq k c.number) cs ≡ true
-core_there_in [] k h = not_true h
-core_there_in (c ∷ cs) k h = one (nat_eq k c.number) (λ e. core_there_in cs k e) h
-  where
-    one : (b : Bool) → (is_some (core_in cs k) ≡ true → list_any (λ (c : CoreWord). nat_eq k c.number) cs ≡ true) → is_some (elim b [ true ↦ Some c.word | false ↦ core_in cs k ]) ≡ true → (b || list_any (λ (c : CoreWord). nat_eq k c.number) cs) ≡ true
-    one true later e = refl
-    one false later e = later e
-
-core_there : (k : ℕ) → is_some (core_word k) ≡ true → is_built_core k ≡ true
-core_there k h = core_there_in built_core_words k h
+-- each core word has a row
+pub core_there : (k : CoreWord) → is_some (core_word k) ≡ true
+core_there Call = refl
+core_there Dip = refl
+core_there If = refl
+core_there Execute = refl
+core_there Boa = refl
+core_there Cond = refl
 
 row_written : (o : Option PrimitiveWord) (e : Signature) → is_some o ≡ true → is_effect (effect_written o) e ≡ true → (row : PrimitiveWord) × (o ≡ Some row) × (e ≡ written_effect row)
 row_written None e h k = not_true h
@@ -318,9 +317,9 @@ module _ (P : Program) (whole : IsWhole P) where
       let plain = unmarked d.inline d.recursive marks in
       record { row = row.0; row_is = row.1; is_built = primitive_there k fits; effect_is = row.2; not_inline = plain.0; not_recursive = plain.1 }
   word_from d (core k) m ts fits effect marks none h i =
-      let row = row_written (core_word k) d.effect fits effect in
+      let row = row_written (core_word k) d.effect (core_there k) effect in
       let plain = unmarked d.inline d.recursive marks in
-      record { row = row.0; row_is = row.1; is_built = core_there k fits; effect_is = row.2; not_inline = plain.0; not_recursive = plain.1 }
+      record { row = row.0; row_is = row.1; effect_is = row.2; not_inline = plain.0; not_recursive = plain.1 }
   word_from d (body t) m ts fits effect marks none h i =
       phrase_from t (both_true (each_item (item_fits P) t) (list_all (each_item (item_fits P)) ts) h).0 (both_true (each_item (item_spares P) t) (list_all (each_item (item_spares P)) ts) i).0
   word_from d (past t) m ts fits effect marks none h i = not_true none

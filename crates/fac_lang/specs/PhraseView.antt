@@ -1,7 +1,7 @@
 -- The tree that a phrase stands for.
 use Rattle.std.specs.Prelude.{ℕ, List, [], ◌∷◌, reverse}
 use Rattle.fac_lang.specs.declared.phrase.Choices.{Choices as ChoicesRead}
-use Rattle.fac_lang.specs.declared.phrase.Place.{Place}
+use Rattle.fac_base.specs.declared.place.Place.{Place}
 use Rattle.fac_lang.specs.declared.phrase.Item.{Item as PlacedItem}
 use Rattle.fac_lang.specs.declared.phrase.What.{What}
 use Rattle.fac_lang.specs.declared.phrase.What.TheVariants.{Int, True, False, Str, Arr, Wref, Quot, Choices, Word, Bind, Local, Fry, Hole, CallEff, ExecEff, NextMethod, NextAfter, Made}
@@ -28,7 +28,7 @@ what_item (Str s) = lit (str s)
 what_item (Arr n) = lit_arr n
 what_item (Wref n) = lit (wrd n)
 what_item (Quot p) = quot p
-what_item (Choices c) = quot (choices_phrase c)
+what_item (Choices c) = quot (choices_phrase c.value)
 what_item (Word n) = word n
 what_item (Bind n) = bind n
 what_item (Local n) = local n

@@ -1,21 +1,18 @@
 -- The words of the code's tables, as they are written.
-use Rattle.std.specs.Prelude.{map}
+use Rattle.std.specs.Prelude.{ℕ, List, map}
+use denote.Bor.{Bor}
 use Rattle.std.specs.Option.{option_map}
 use Rattle.fac_lang.specs.PrimitiveWords.{PrimitiveWord, word_row}
-use Rattle.fac_lang.specs.CoreWords.{CoreWord}
-use Rattle.fac_lang.specs.BuiltInClasses.{BuiltInClass}
 use Rattle.fac_lang.specs.declared.word_row.WordRow.{WordRow}
-use Rattle.fac_lang.specs.declared.core_table.CoreRow.{CoreRow}
-use Rattle.fac_lang.specs.declared.class_table.ClassRow.{ClassRow}
 
--- the word that a row writes
-abbrev pub written_word : WordRow → PrimitiveWord
-written_word r = word_row r.vocab.now r.name.now (map (λ name. name.now) r.ins.now) (option_map (λ names. map (λ name. name.now) names.now) r.outs)
+-- the word that a row writes, with functions that tell its texts and its lists of texts
+abbrev pub word_with : {Text Texts : Type 0} → (Text → List ℕ) → (Texts → List (List ℕ)) → WordRow Text Texts → PrimitiveWord
+word_with text texts r = word_row (text r.vocab) (text r.name) (texts r.ins) (option_map texts r.outs)
 
--- the core word that a row writes
-abbrev pub written_core : CoreRow → CoreWord
-written_core r = record { number = r.number; word = written_word r.word }
+-- a row of a table of the code
+abbrev pub TableWord : Type 0
+TableWord = WordRow (Bor (List ℕ)) (Bor (List (Bor (List ℕ))))
 
--- the built-in class that a row writes
-abbrev pub written_class : ClassRow → BuiltInClass
-written_class r = record { vocab = r.vocab.now; name = r.name.now; has_predicate = r.has_predicate }
+-- the word that it writes
+abbrev pub written_word : TableWord → PrimitiveWord
+written_word = word_with (λ text. text.now) (λ texts. map (λ text. text.now) texts.now)

@@ -1,21 +1,19 @@
-//! The table of the built-in classes. The number of a row is that of the class.
-ghost use Rattle.std.specs.Prelude.{◌≡◌, map};
-ghost use Rattle.fac_lang.specs.BuiltInClasses.{built_in_classes};
-ghost use Rattle.fac_lang.specs.WrittenWords.{written_class};
+//! The table of the built-in classes. The number of a row is that of the class. The definitions cite it, so no contract stands here.
 
-/// A class that no source defines. Names are those of the Factor Handbook's vocabularies.
+/// A class that no source defines, with its texts. Names are those of the Factor Handbook's vocabularies.
 #[derive(Clone, Copy)]
-pub struct ClassRow {
+pub struct ClassRow<Text = &'static str> {
     /// The vocabulary of the class.
-    pub vocab: &'static str,
+    pub vocab: Text,
     /// Its name.
-    pub name: &'static str,
+    pub name: Text,
     /// Whether a word asks if a value is of the class: its name with `?` behind it.
     pub has_predicate: bool,
 }
 
+/// The rows.
 #[rattlefmt::skip]
-static CLASSES: [ClassRow; 12] = [
+pub static CLASSES: &[ClassRow] = &[
     ClassRow { vocab: "math", name: "integer", has_predicate: true },
     ClassRow { vocab: "syntax", name: "t", has_predicate: false },
     ClassRow { vocab: "syntax", name: "f", has_predicate: false },
@@ -29,10 +27,3 @@ static CLASSES: [ClassRow; 12] = [
     ClassRow { vocab: "kernel", name: "tuple", has_predicate: true },
     ClassRow { vocab: "kernel", name: "object", has_predicate: true },
 ];
-
-/// The table, by the numbers of the classes.
-pub fn built_in_classes() -> &'static [ClassRow]
-    ensures { map written_class result.now ≡ built_in_classes }
-{
-    &CLASSES
-}

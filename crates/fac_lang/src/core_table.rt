@@ -1,44 +1,41 @@
-//! The table of the core words that are built.
-ghost use Rattle.std.specs.Prelude.{◌≡◌, map};
-ghost use Rattle.fac_lang.specs.CoreWords.{built_core_words, is_built_core};
-ghost use Rattle.fac_lang.specs.WrittenWords.{written_core};
+//! The core words, and their table. The definitions cite it, so no contract stands here.
 
 use crate::word_row::WordRow;
 
-/// A core word.
+/// A core word. What `call`, `if`, `execute`, `boa` and `cond` take and leave besides what their rows say hangs on the callable, the word,
+/// the class or the literal.
+#[derive(Clone, Copy, Debug, PartialEq, Eq)]
+pub enum CoreWord {
+    /// `call`
+    Call,
+    /// `dip`
+    Dip,
+    /// `if`
+    If,
+    /// `execute`
+    Execute,
+    /// `boa`
+    Boa,
+    /// `cond`, which is read with the literal before it, and does nothing without it.
+    Cond,
+}
+
+/// A row of the table: a core word as it is written, with its texts and its lists of texts.
 #[derive(Clone, Copy)]
-pub struct CoreRow {
-    /// Its number among the core words.
-    pub number: u32,
+pub struct CoreRow<Text = &'static str, Texts = &'static [&'static str]> {
+    /// Which core word it is.
+    pub core: CoreWord,
     /// The word, as it is written.
-    pub word: WordRow,
+    pub word: WordRow<Text, Texts>,
 }
 
+/// The rows. Programs have the core words in this order, behind the primitives.
 #[rattlefmt::skip]
-static CORE_WORDS: [CoreRow; 6] = [
-    CoreRow { number: 0, word: WordRow { vocab: "kernel", name: "call", ins: &["quot"], outs: Some(&[]) } },
-    CoreRow { number: 1, word: WordRow { vocab: "kernel", name: "dip", ins: &["x", "quot"], outs: Some(&["x"]) } },
-    CoreRow { number: 2, word: WordRow { vocab: "kernel", name: "if", ins: &["?", "true", "false"], outs: Some(&[]) } },
-    CoreRow { number: 3, word: WordRow { vocab: "kernel", name: "execute", ins: &["word"], outs: Some(&[]) } },
-    CoreRow { number: 4, word: WordRow { vocab: "kernel", name: "boa", ins: &["class"], outs: Some(&["tuple"]) } },
-    CoreRow { number: 9, word: WordRow { vocab: "combinators", name: "cond", ins: &["pairs"], outs: Some(&[]) } },
+pub static CORE_WORDS: &[CoreRow] = &[
+    CoreRow { core: CoreWord::Call, word: WordRow { vocab: "kernel", name: "call", ins: &["quot"], outs: Some(&[]) } },
+    CoreRow { core: CoreWord::Dip, word: WordRow { vocab: "kernel", name: "dip", ins: &["x", "quot"], outs: Some(&["x"]) } },
+    CoreRow { core: CoreWord::If, word: WordRow { vocab: "kernel", name: "if", ins: &["?", "true", "false"], outs: Some(&[]) } },
+    CoreRow { core: CoreWord::Execute, word: WordRow { vocab: "kernel", name: "execute", ins: &["word"], outs: Some(&[]) } },
+    CoreRow { core: CoreWord::Boa, word: WordRow { vocab: "kernel", name: "boa", ins: &["class"], outs: Some(&["tuple"]) } },
+    CoreRow { core: CoreWord::Cond, word: WordRow { vocab: "combinators", name: "cond", ins: &["pairs"], outs: Some(&[]) } },
 ];
-
-/// The table.
-pub fn core_words() -> &'static [CoreRow]
-    ensures { map written_core result.now ≡ built_core_words }
-{
-    &CORE_WORDS
-}
-
-/// Whether a core word that is built has this number.
-pub fn is_core_word(number: u32) -> bool
-    ensures { result ≡ is_built_core number }
-{
-    for row in core_words() {
-        if row.number == number {
-            return true;
-        }
-    }
-    false
-}

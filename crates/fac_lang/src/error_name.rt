@@ -1,4 +1,6 @@
-//! The names of run errors.
+//! The names of run errors, and their texts.
+ghost use Rattle.std.specs.Prelude.{◌≡◌};
+ghost use Rattle.fac_lang.specs.ErrorTexts.{error_text};
 
 /// The names of the run errors. They and their limits are this profile's own.
 #[derive(Clone, Copy, Debug, PartialEq, Eq)]
@@ -37,4 +39,31 @@ pub enum ErrorName {
     CompareTooLarge,
     /// A printed form has more than 1,000,000 bytes, or a line of the input is too long.
     TextTooLong,
+}
+
+impl ErrorName {
+    /// How the error is told.
+    pub fn text(self) -> &'static str
+        ensures { result.now ≡ error_text self }
+    {
+        match self {
+            ErrorName::NotInteger => "not-integer",
+            ErrorName::NotSequence => "not-sequence",
+            ErrorName::NotTuple => "not-tuple",
+            ErrorName::NoSlot => "no-slot",
+            ErrorName::NoMethod => "no-method",
+            ErrorName::NoNextMethod => "no-next-method",
+            ErrorName::WrongValues => "wrong-values",
+            ErrorName::Thrown => "thrown",
+            ErrorName::BadText => "bad-text",
+            ErrorName::Overflow => "overflow",
+            ErrorName::ZeroDivisor => "zero-divisor",
+            ErrorName::Bounds => "bounds",
+            ErrorName::Length => "length",
+            ErrorName::NoCond => "no-cond",
+            ErrorName::NoCompare => "no-compare",
+            ErrorName::CompareTooLarge => "compare-too-large",
+            ErrorName::TextTooLong => "text-too-long",
+        }
+    }
 }

@@ -3,7 +3,7 @@ use Rattle.std.proofs.Common.{◌≡◌, ℕ, ◌+◌, ◌-◌, ◌<◌, ◌≤�
 use Rattle.std.proofs.Math.Seq.{take-append-add, drop-append-add, take-length}
 use Rattle.std.proofs.lemmas.List.{take-append-le, drop-append-le, length-take-le}
 use Rattle.fac_lines.specs.declared.line_fault.LineFault.TheVariants as fault
-use Rattle.fac_lang.specs.declared.limits.TheConstants.{MOST_LINE_BYTES}
+use Rattle.fac_base.specs.declared.limits.TheConstants.{MOST_LINE_BYTES}
 use Rattle.fac_lines.specs.LineReads.{line_length, Line, LineTooLong, line_within, line_of, IsFront}
 use Rattle.fac_lines.specs.inner.Cutting.{Cuts, CutsRest}
 use Rattle.fac_lines.proofs.LineLemmas.{length_most, length_joined, length_cut, length_before, no_line, short_line, long_line, more_behind, drop_past}

@@ -1,7 +1,7 @@
 -- The lines of bytes.
 use Rattle.std.specs.Prelude.{◌≡◌, ◌==◌, ◌≤◌, ◌+◌, ℕ, nat_le, List, [], ◌∷◌, length, take, drop, Bool, if◌then◌else◌}
 use Rattle.std.specs.List.{position_or_len}
-use Rattle.fac_lang.specs.declared.limits.TheConstants.{MOST_LINE_BYTES}
+use Rattle.fac_base.specs.declared.limits.TheConstants.{MOST_LINE_BYTES}
 
 abbrev pub is_newline : ℕ → Bool
 is_newline byte = byte == 10

@@ -6,8 +6,8 @@ ghost use Rattle.fac_lines.specs.inner.Cutting.{Cuts, CutsRest};
 
 use crate::LineFault;
 use crate::piece::Piece;
-use fac_lang::Bytes;
-use fac_lang::limits::MOST_LINE_BYTES;
+use fac_base::Bytes;
+use fac_base::limits::MOST_LINE_BYTES;
 use std::alloc::Global;
 use std::mem;
 

@@ -1,7 +1,7 @@
 //! Why there is no line.
 ghost use Rattle.std.specs.Prelude.{◌≡◌};
 
-use fac_lang::Memory;
+use fac_base::Memory;
 use std::alloc::AllocError;
 use thiserror::Error;
 

@@ -7,8 +7,8 @@ ghost use Rattle.fac_lines.specs.LineAnswers.{bytes_left, LineAnswers, AtEnd, St
 use crate::LineFault;
 use crate::piece::Piece;
 use crate::reading::next_line;
+use fac_base::Bytes;
 use fac_io::Source;
-use fac_lang::Bytes;
 use std::alloc::Global;
 use std::marker::Model;
 

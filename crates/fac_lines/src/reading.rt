@@ -7,8 +7,8 @@ ghost use Rattle.fac_lines.specs.inner.Reading.{ReadsLine};
 use crate::LineFault;
 use crate::cutting::{cut_line, cut_rest};
 use crate::piece::Piece;
+use fac_base::Bytes;
 use fac_io::Source;
-use fac_lang::Bytes;
 use std::alloc::Global;
 
 // Reads until there is a line, where the front begins one and nothing else is kept.

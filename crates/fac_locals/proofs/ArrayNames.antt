@@ -4,7 +4,7 @@ use Rattle.std.specs.Prelude.{map, slice_get, nat_eq, nat_lt}
 use Rattle.std.specs.List.{list_all}
 use Rattle.std.proofs.lemmas.Bool.{cases_lt, cases_eq, eqb-true, ltb-true, and_parts}
 use Rattle.fac_lang.specs.Phrases.{Phrase, end, then, Item, lit, lit_arr, quot, word, bind, local, fry, hole, call_eff, exec_eff, next_method}
-use Rattle.fac_lang.specs.declared.phrase.Place.{Place}
+use Rattle.fac_base.specs.declared.place.Place.{Place}
 use Rattle.fac_lang.specs.declared.phrase.Template.{Template}
 use Rattle.fac_lang.specs.declared.program.Lit.{Lit}
 use Rattle.fac_lang.specs.declared.program.Lit.TheVariants.{Int as l_int, True as l_yes, False as l_no, Str as l_str, Arr as l_arr, Wref as l_word, Quot as l_quot, Made as l_made}
@@ -13,8 +13,8 @@ use Rattle.fac_lang.specs.declared.program.Sort.{Sort}
 use Rattle.fac_lang.specs.declared.program.Sort.TheVariants.{Body as body, Past as past, Method as method}
 use Rattle.fac_lang.specs.Whole.{times_in, each_below, each_numbered, names_earlier, arrays_named, arrays_named_by, arrays_in, joined, word_phrases}
 use Rattle.fac_locals.specs.declared.closing.ArrayStart.{ArrayStart}
-use Rattle.fac_captures.specs.declared.cell.Cell.{Cell}
-use Rattle.fac_captures.specs.Cells.{cells_behind, inner_cells}
+use Rattle.fac_locals.specs.declared.cell.Cell.{Cell}
+use Rattle.fac_locals.specs.Cells.{cells_behind, inner_cells}
 use Rattle.fac_locals.specs.inner.Numbering.{plain_phrase, phrase_of, method_of, phrase_behind, item_behind, closed_template, phrase_templates, item_templates, phrase_starts, item_starts, words_behind, words_templates, words_starts}
 use Rattle.fac_locals.proofs.LiteralArrays.{HasBuiltPhrase, HaveBuiltPhrases, IsClosable, IsClosableItem, AreClosable}
 use Rattle.fac_locals.proofs.Puts.{counted, keys, IsPut, IsEntry, put_left, put_right, times_both, keys_both}

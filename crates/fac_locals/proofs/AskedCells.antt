@@ -6,7 +6,7 @@ use Rattle.std.proofs.lemmas.List.Folds.{list_all-append, list_any-append}
 use Rattle.std.proofs.lemmas.Bool.{eqb-true, eqb-false, eq-eqb, ltb-true, lt-ltb, cases_lt, and_parts}
 use Rattle.fac_lang.specs.Phrases.{Phrase, end, then, Item, quot, bind, local, fry, hole, next_method}
 use Rattle.fac_lang.specs.Substitution.{binds_local}
-use Rattle.fac_lang.specs.declared.phrase.Place.{Place}
+use Rattle.fac_base.specs.declared.place.Place.{Place}
 use Rattle.fac_lang.specs.declared.program.Lit.{Lit}
 use Rattle.fac_lang.specs.declared.program.Lit.TheVariants.{Int as l_int, True as l_yes, False as l_no, Str as l_str, Arr as l_arr, Wref as l_word, Quot as l_quot, Made as l_made}
 use Rattle.fac_lang.specs.declared.program.Program.{Program}
@@ -14,9 +14,9 @@ use Rattle.fac_lang.specs.declared.program.WordDef.{WordDef}
 use Rattle.fac_lang.specs.declared.program.Sort.{Sort}
 use Rattle.fac_lang.specs.declared.program.Sort.TheVariants.{Body as body, Past as past, Method as method}
 use Rattle.fac_lang.specs.Whole.{IsWhole, locals_bound, locals_bound_in, holes_within, holes_within_item, word_phrases, quotations, joined}
-use Rattle.fac_captures.specs.declared.cell.Cell.{Cell}
-use Rattle.fac_captures.specs.declared.cell.Cell.TheVariants.{Local, Hole}
-use Rattle.fac_captures.specs.Cells.{same_cell, number_from, cell_number, cells_behind, binds_cell, is_local, asks, item_asks, keeps_cell, captured_from, captured, kept_cells, hole_cells, inner_cells}
+use Rattle.fac_locals.specs.declared.cell.Cell.{Cell}
+use Rattle.fac_locals.specs.declared.cell.Cell.TheVariants.{Local, Hole}
+use Rattle.fac_locals.specs.Cells.{same_cell, number_from, cell_number, cells_behind, binds_cell, is_local, asks, item_asks, keeps_cell, captured_from, captured, kept_cells, hole_cells, inner_cells}
 use Rattle.fac_locals.specs.inner.Numbering.{plain_phrase, phrase_of}
 use Rattle.fac_locals.proofs.LiteralArrays.{HasBuiltPhrase, HaveBuiltPhrases, in_method, item_in}
 

@@ -1,27 +1,27 @@
 -- Phrases that stand behind one another, and the numbers and templates of choices inside one another.
-use Rattle.std.proofs.Common.{◌≡◌, ◌≤◌, ℕ, suc, List, [], ◌∷◌, ◌++◌, reverse, Option, Some, refl, sym, ap, ◌∙◌, subst, append_assoc, append-nil, arith}
+use Rattle.std.proofs.Common.{◌≡◌, ◌≤◌, ℕ, suc, List, [], ◌∷◌, ◌++◌, reverse, Option, Some, refl, sym, ap, ◌∙◌, subst, append_assoc, append-nil, arith, Box, Global}
 use Rattle.std.proofs.lemmas.List.{reverse-append}
 use Rattle.fac_lang.specs.declared.phrase.Choices.{Choices}
-use Rattle.fac_lang.specs.declared.phrase.Place.{Place}
+use Rattle.fac_base.specs.declared.place.Place.{Place}
 use Rattle.fac_lang.specs.declared.phrase.Item.{Item as PlacedItem}
 use Rattle.fac_lang.specs.declared.phrase.What.{What}
-use Rattle.fac_lang.specs.declared.phrase.What.TheVariants.{Quot, Choices as ChoicesValue, Word, Made}
+use Rattle.fac_lang.specs.declared.phrase.What.TheVariants.{Choices as ChoicesValue, Word, Made}
 use Rattle.fac_lang.specs.declared.phrase.Template.{Template}
 use Rattle.fac_lang.specs.Phrases.{Phrase, end, then, append, Item, quot, phrase_depth, item_depth}
 use Rattle.fac_lang.specs.PhraseView.{what_item, items_phrase, choices_behind, choices_from, choices_phrase}
 use Rattle.fac_lang.specs.Meaning.{nowhere}
 use Rattle.fac_lang.specs.inner.PhraseFalls.{first_falls, second_falls}
-use Rattle.fac_captures.specs.declared.cell.Cell.{Cell}
-use Rattle.fac_captures.specs.declared.asking.Asked.{Asked}
-use Rattle.fac_captures.specs.declared.keeping.Kept.{Kept}
-use Rattle.fac_captures.specs.Cells.{cells_behind, captured, inner_cells}
-use Rattle.fac_captures.specs.Asked.{AreAskedBy, quotations_in, quotations_at}
+use Rattle.fac_locals.specs.declared.cell.Cell.{Cell}
+use Rattle.fac_locals.specs.declared.asking.Asked.{Asked}
+use Rattle.fac_locals.specs.declared.keeping.Kept.{Kept}
+use Rattle.fac_locals.specs.Cells.{cells_behind, captured, inner_cells}
+use Rattle.fac_locals.specs.Asked.{AreAskedBy, quotations_in, quotations_at}
 use Rattle.fac_locals.specs.declared.closing.ArrayStart.{ArrayStart}
 use Rattle.fac_locals.specs.declared.closing.Closing.{Closing}
 use Rattle.fac_locals.specs.declared.closing.Level.{Level}
 use Rattle.fac_locals.specs.inner.Numbering.{put_all, phrase_behind, item_behind, closed_item, closed_phrase, closed_template, template_of, phrase_templates, item_templates, phrase_starts, item_starts, phrase_cells, choice_in, level_templates}
 use Rattle.fac_locals.specs.inner.Numbering.{ClosesWhat, ClosesTree, AreAsked, IsAsked, NumberTaken, KeptTaken, LevelEntered, EntersLevel, IsEnteredAsked, Inside, EntersInside, ClosesChoices}
-use Rattle.fac_locals.proofs.TemplateNumbers.{put_both, template_with, quotation_asked, inside_quotation}
+use Rattle.fac_locals.proofs.TemplateNumbers.{put_both, template_with, plain_quotation, quotation_asked, inside_quotation}
 
 -- One phrase behind another.
 
@@ -128,12 +128,12 @@ module _ (counts : List ℕ) (m : Option ℕ) where
   level_of n p ks t = record { number = n; place = p; captures = ks; body = t }
 
   pub level_asked : (t : Phrase) (before taken : Closing) (number : ℕ) → NumberTaken before number taken → IsEnteredAsked t before.asked → IsAsked taken.asked
-  level_asked t before taken number takes asked = quotation_asked counts m (Quot (append t asked.0)) (append t asked.0) before taken number refl takes asked.1
+  level_asked t before taken number takes asked = quotation_asked counts m (append t asked.0) 0 before taken number takes (plain_quotation counts m (append t asked.0) before.asked asked.1)
 
   pub asked_in_level : (cells : List Cell) (t : Phrase) (before taken held : Closing) (number : ℕ) (kept : Kept) → NumberTaken before number taken → KeptTaken cells 0 taken kept held → IsEnteredAsked t before.asked → AreAsked (quotations_in t) held.asked
   asked_in_level cells t before taken held number kept takes keeps asked =
       let u = asked.0 in
-      let inner = inside_quotation counts m cells (Quot (append t u)) (append t u) before taken held number 0 kept refl refl takes keeps asked.1 in
+      let inner = inside_quotation counts m cells (append t u) 0 before taken held number kept takes keeps (plain_quotation counts m (append t u) before.asked asked.1) in
       (quotations_in u ++ inner.0, subst (λ (js : List Item). AreAskedBy js held.asked) (ap (λ (js : List Item). js ++ inner.0) (quotations_both t u) ∙ append_assoc (quotations_in t) (quotations_in u) inner.0) inner.1)
 
   pub level_entered :
@@ -280,14 +280,16 @@ module _ (counts : List ℕ) (m : Option ℕ) where
         left = subst (AreAskedBy is) (sym asked_are) all.asked;
       })
 
-  pub choices_what : (cells : List Cell) (before : Closing) (p : Place) (w : What) (c : Choices) (behind : Closing) → w ≡ ChoicesValue c → ClosesChoices counts m cells before p (choices_phrase c) behind → ClosesWhat counts m cells before p w (Made before.next) behind
-  choices_what cells before p w c behind is_choices closes =
+  pub choices_what : (cells : List Cell) (before : Closing) (p : Place) (w : What) (b : Box Choices Global) (c : Choices) (behind : Closing) → w ≡ ChoicesValue b → c ≡ b.value → ClosesChoices counts m cells before p (choices_phrase c) behind → ClosesWhat counts m cells before p w (Made before.next) behind
+  choices_what cells before p w b c behind is_choices is_value closes =
+      let closes_value = subst (λ (d : Choices). ClosesChoices counts m cells before p (choices_phrase d) behind) is_value closes in
       subst
       (λ (v : What). ClosesWhat counts m cells before p v (Made before.next) behind)
       (sym is_choices)
-      (λ (is : List Item) (asked : AreAskedBy (quotations_at (quot (choices_phrase c)) ++ is) before.asked).
-      let all = closes is asked in
+      (λ (is : List Item) (asked : AreAskedBy (quotations_at (quot (choices_phrase b.value)) ++ is) before.asked).
+      let all = closes_value is asked in
       record { closed_is = refl; passed = all.passed; left = all.left })
 
-  pub choices_asked : (w : What) (c : Choices) (all : List Asked) → w ≡ ChoicesValue c → AreAsked (quotations_at (what_item w)) all → AreAsked (quotations_at (quot (choices_phrase c))) all
-  choices_asked w c all is_choices asked = subst (λ (v : What). AreAsked (quotations_at (what_item v)) all) is_choices asked
+  pub choices_asked : (w : What) (b : Box Choices Global) (c : Choices) (all : List Asked) → w ≡ ChoicesValue b → c ≡ b.value → AreAsked (quotations_at (what_item w)) all → AreAsked (quotations_at (quot (choices_phrase c))) all
+  choices_asked w b c all is_choices is_value asked =
+      subst (λ (d : Choices). AreAsked (quotations_at (quot (choices_phrase d))) all) (sym is_value) (subst (λ (v : What). AreAsked (quotations_at (what_item v)) all) is_choices asked)

@@ -5,7 +5,7 @@ use Rattle.std.proofs.lemmas.Bool.{cases_eq, cases_lt}
 use Rattle.std.proofs.lemmas.Option.{get_or_from_slice_get, slice_get_within}
 use Rattle.fac_lang.specs.Phrases.{Literal, Phrase, end, then, Item, lit, lit_arr, quot, word, bind, local, fry, hole, call_eff, exec_eff, next_method}
 use Rattle.fac_lang.specs.Meaning.{nowhere, array_method}
-use Rattle.fac_lang.specs.declared.phrase.Place.{Place}
+use Rattle.fac_base.specs.declared.place.Place.{Place}
 use Rattle.fac_lang.specs.declared.phrase.Template.{Template}
 use Rattle.fac_lang.specs.declared.program.Lit.{Lit}
 use Rattle.fac_lang.specs.declared.program.Lit.TheVariants.{Int as l_int, True as l_yes, False as l_no, Str as l_str, Arr as l_arr, Wref as l_word, Quot as l_quot, Made as l_made}
@@ -15,9 +15,9 @@ use Rattle.fac_lang.specs.declared.program.Sort.{Sort}
 use Rattle.fac_lang.specs.declared.program.Sort.TheVariants.{Body as body, Past as past, Method as method}
 use Rattle.fac_lang.proofs.SourcePrograms.{IsSourceProgram}
 use Rattle.fac_lang.specs.Whole.{IsWhole, times_in, each_numbered, names_earlier, arrays_named, arrays_named_by, arrays_in, joined, word_phrases, all_arrays_named}
-use Rattle.fac_captures.specs.declared.cell.Cell.{Cell}
-use Rattle.fac_captures.specs.declared.cell.Cell.TheVariants.{Local, Hole}
-use Rattle.fac_captures.specs.Cells.{cells_behind, captured, inner_phrase, inner_cells, hole_count}
+use Rattle.fac_locals.specs.declared.cell.Cell.{Cell}
+use Rattle.fac_locals.specs.declared.cell.Cell.TheVariants.{Local, Hole}
+use Rattle.fac_locals.specs.Cells.{cells_behind, captured, inner_phrase, inner_cells, hole_count}
 use Rattle.fac_locals.specs.declared.closing.ArrayStart.{ArrayStart}
 use Rattle.fac_locals.specs.Literals.{Quoted, element_item, first_of_word, first_of_literal, first_in_array, behind, literal_or, literal_numbered}
 use Rattle.fac_locals.specs.Closed.{IsMadeBy, Closes, CloseWords, ClosesSort, ClosesPhrase, ClosesItem, ClosesLiteral, CloseLiterals, ClosesElement, CloseElements, CloseArrays}

@@ -3,8 +3,8 @@ use Rattle.std.proofs.Common.{◌≡◌, List, [], ◌∷◌, Some, refl}
 use Rattle.fac_lang.specs.Meaning.{nowhere}
 use Rattle.fac_lang.specs.Phrases.{yes, no, Phrase, end, then, Item, quot, bind, local, fry, hole, held, plain}
 use Rattle.fac_lang.specs.Substitution.{put_local, put_holes}
-use Rattle.fac_captures.specs.declared.cell.Cell.TheVariants.{Local, Hole}
-use Rattle.fac_captures.specs.Cells.{cell_number, captured, inner_cells, hole_cells}
+use Rattle.fac_locals.specs.declared.cell.Cell.TheVariants.{Local, Hole}
+use Rattle.fac_locals.specs.Cells.{cell_number, captured, inner_cells, hole_cells}
 use Rattle.fac_locals.specs.Frames.{filled}
 
 -- items at no place

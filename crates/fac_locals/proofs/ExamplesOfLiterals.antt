@@ -1,14 +1,14 @@
 -- The literals of a small program, and its closed form.
 use Rattle.std.proofs.Common.{◌≡◌, ℕ, pos, List, [], ◌∷◌, false, None, refl}
 use Rattle.std.specs.Prelude.{map, codes}
-use Rattle.fac_lang.specs.declared.phrase.Place.{Place}
+use Rattle.fac_base.specs.declared.place.Place.{Place}
 use Rattle.fac_lang.specs.declared.phrase.Template.{Template}
 use Rattle.fac_lang.specs.declared.program.Lit.{Lit}
 use Rattle.fac_lang.specs.declared.program.Lit.TheVariants.{Int as l_int, Arr as l_arr, Quot as l_quot, Made as l_made}
 use Rattle.fac_lang.specs.declared.program.Program.{Program}
 use Rattle.fac_lang.specs.declared.program.WordDef.{WordDef}
 use Rattle.fac_lang.specs.declared.program.Sort.TheVariants.{Body as body, Method as method}
-use Rattle.fac_lang.specs.Signatures.{signature, no_inputs, leaves}
+use Rattle.fac_base.specs.Signatures.{signature, no_inputs, leaves}
 use Rattle.fac_lang.specs.Phrases.{Phrase, end, then, Item, lit_arr, quot, word, next_method, made, next_after}
 use Rattle.fac_lang.specs.Meaning.{nowhere}
 use Rattle.fac_lang.proofs.DemoWords.{phrase, number, quotation}

@@ -7,14 +7,14 @@ use Rattle.fac_lang.specs.declared.program.WordDef.{WordDef}
 use Rattle.fac_lang.specs.declared.program.Lit.{Lit}
 use Rattle.fac_lang.specs.declared.program.Lit.TheVariants.{Quot as l_quot, Made as l_made}
 use Rattle.fac_lang.specs.declared.program.Sort.TheVariants.{Body as body, Method as method}
-use Rattle.fac_lang.specs.Signatures.{signature, no_inputs, leaves}
+use Rattle.fac_base.specs.Signatures.{signature, no_inputs, leaves}
 use Rattle.fac_lang.specs.Phrases.{Item, lit_arr, quot, word, bind, local, fry, hole, next_method, made, next_after}
 use Rattle.fac_lang.specs.Meaning.{nowhere}
 use Rattle.fac_lang.specs.PhraseView.{choices_from}
 use Rattle.fac_lang.proofs.DemoWords.{phrase, number, quotation}
 use Rattle.fac_lang.proofs.DemoPrelude.{word_of}
-use Rattle.fac_captures.specs.declared.cell.Cell.{Cell}
-use Rattle.fac_captures.specs.declared.cell.Cell.TheVariants.{Local}
+use Rattle.fac_locals.specs.declared.cell.Cell.{Cell}
+use Rattle.fac_locals.specs.declared.cell.Cell.TheVariants.{Local}
 use Rattle.fac_locals.specs.Literals.{Quoted, literals}
 use Rattle.fac_locals.proofs.ClosedForms.{made_words, made_templates, made_arrays}
 

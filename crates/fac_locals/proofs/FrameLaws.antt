@@ -4,13 +4,13 @@ use Rattle.std.specs.List.{list_any}
 use Rattle.std.proofs.lemmas.Bool.{eqb-true, eq-eqb}
 use Rattle.std.proofs.lemmas.List.Folds.{list_any-append}
 use Rattle.std.proofs.lemmas.Grind.{common_steps}
-use Rattle.fac_lang.specs.declared.phrase.Place.{Place}
+use Rattle.fac_base.specs.declared.place.Place.{Place}
 use Rattle.fac_lang.specs.Phrases.{Literal, Phrase, end, then, Item, lit, lit_arr, quot, word, bind, local, fry, hole, call_eff, exec_eff, next_method, made, next_after, held, known}
 use Rattle.fac_lang.specs.Substitution.{binds_local, put_local, put_local_item, put_holes, put_holes_item, item_or_hole}
-use Rattle.fac_captures.specs.declared.cell.Cell.{Cell}
-use Rattle.fac_captures.specs.declared.cell.Cell.TheVariants.{Local, Hole}
-use Rattle.fac_captures.specs.Cells.{same_cell, number_from, cell_number, binds_cell, asks, item_asks, keeps_cell, captured_from, captured, kept_cells, hole_cells, inner_cells}
-use Rattle.fac_captures.proofs.CellLemmas.{number_last}
+use Rattle.fac_locals.specs.declared.cell.Cell.{Cell}
+use Rattle.fac_locals.specs.declared.cell.Cell.TheVariants.{Local, Hole}
+use Rattle.fac_locals.specs.Cells.{same_cell, number_from, cell_number, binds_cell, asks, item_asks, keeps_cell, captured_from, captured, kept_cells, hole_cells, inner_cells}
+use Rattle.fac_locals.proofs.CellLemmas.{number_last}
 use Rattle.fac_locals.specs.Literals.{items_in, items_inside, behind, places_in, places_at}
 use Rattle.fac_locals.specs.Frames.{item_or, item_in, cell_item, put_behind, put_in_fry, filled_by, filled_item, item_for, filled, IsPut, ArePut, items_at}
 

@@ -1,3 +1,8 @@
+pub mod SetLemmas
+pub mod CellLemmas
+pub mod AskLemmas
+pub mod MethodCells
+pub mod ExamplesOfAsked
 pub mod Puts
 pub mod TemplateNumbers
 pub mod ChoiceTemplates

@@ -1,6 +1,6 @@
 -- A closed program opens to the one for which it stands.
 use Rattle.std.proofs.Common.{◌≡◌, ◌<◌, ◌≤◌, ℕ, zero, suc, ◌+◌, List, [], ◌∷◌, ◌++◌, length, Bool, true, false, Option, Some, None, slice_get, refl, sym, ap, ap₂, ◌∙◌, subst, length-append, arith}
-use Rattle.fac_lang.specs.declared.phrase.Place.{Place}
+use Rattle.fac_base.specs.declared.place.Place.{Place}
 use Rattle.fac_lang.specs.declared.phrase.Template.{Template}
 use Rattle.fac_lang.specs.declared.program.Program.{Program}
 use Rattle.fac_lang.specs.declared.program.WordDef.{WordDef}
@@ -10,9 +10,9 @@ use Rattle.fac_lang.specs.Meaning.{nowhere}
 use Rattle.fac_lang.specs.Phrases.{Literal, Phrase, end, then, Item, lit, lit_arr, quot, word, bind, local, fry, hole, call_eff, exec_eff, next_method, made, next_after, held, known}
 use Rattle.fac_lang.specs.Substitution.{binds_local, of_method}
 use Rattle.std.proofs.lemmas.Grind.{common_steps}
-use Rattle.fac_captures.specs.declared.cell.Cell.{Cell}
-use Rattle.fac_captures.specs.declared.cell.Cell.TheVariants.{Local, Hole}
-use Rattle.fac_captures.specs.Cells.{cell_number, cells_behind, binds_cell, captured, kept_cells, hole_cells, hole_count, inner_cells, inner_phrase}
+use Rattle.fac_locals.specs.declared.cell.Cell.{Cell}
+use Rattle.fac_locals.specs.declared.cell.Cell.TheVariants.{Local, Hole}
+use Rattle.fac_locals.specs.Cells.{cell_number, cells_behind, binds_cell, captured, kept_cells, hole_cells, hole_count, inner_cells, inner_phrase}
 use Rattle.fac_locals.specs.Literals.{Quoted, behind, first_of_word, first_of_literal, first_in_array, array_phrase, literals_in, literals_at, array_literals, sort_literals, word_literals, literals, literal_or, literal_numbered}
 use Rattle.fac_locals.specs.Closed.{IsMadeBy, ClosesItem, ClosesPhrase, ClosesSort, ClosesLiteral, Closes}
 use Rattle.fac_locals.specs.Frames.{cell_item, put_behind, put_in_fry, filled_by, filled_item, item_for, filled, IsPut, ArePut, items_at, template_phrase, OpensItem, o_plain, o_local, o_quotation, o_fry, Opens, o_end, o_item, o_bind}

@@ -2,7 +2,7 @@
 use Rattle.std.proofs.Common.{◌≡◌, ℕ, suc, List, [], ◌∷◌, ◌++◌, length, set, Option, Some, None, refl, sym, ap, ◌∙◌, subst, append_assoc, arith}
 use Rattle.std.proofs.lemmas.List.{append-nil}
 use Rattle.fac_lang.specs.Phrases.{Phrase, end, then, Item, quot, fry}
-use Rattle.fac_lang.specs.declared.phrase.Place.{Place}
+use Rattle.fac_base.specs.declared.place.Place.{Place}
 use Rattle.fac_lang.specs.declared.phrase.Item.{Item as PlacedItem}
 use Rattle.fac_lang.specs.declared.phrase.What.{What}
 use Rattle.fac_lang.specs.declared.phrase.What.TheVariants.{Int, True, False, Str, Arr, Wref, Quot, Choices, Word, Bind, Local as LocalValue, Fry, Hole as HoleValue, CallEff, ExecEff, NextMethod, NextAfter, Made}
@@ -11,16 +11,16 @@ use Rattle.fac_lang.specs.declared.program.Lit.{Lit}
 use Rattle.fac_lang.specs.declared.program.Lit.TheVariants.{Int as l_int, True as l_yes, False as l_no, Str as l_str, Arr as l_arr, Wref as l_word, Quot as l_quot, Made as l_made}
 use Rattle.fac_lang.specs.declared.program.WordDef.{WordDef}
 use Rattle.fac_lang.specs.PhraseView.{what_item, items_phrase}
-use Rattle.fac_captures.specs.declared.cell.Cell.{Cell}
-use Rattle.fac_captures.specs.declared.cell.Cell.TheVariants.{Local, Hole}
-use Rattle.fac_captures.specs.declared.asking.Asked.{Asked}
-use Rattle.fac_captures.specs.declared.keeping.Kept.{Kept}
-use Rattle.fac_captures.specs.Cells.{cell_number, cells_behind, captured, inner_cells, hole_count}
-use Rattle.fac_captures.specs.Asked.{AreAskedBy, quotations_in, quotations_at}
+use Rattle.fac_locals.specs.declared.cell.Cell.{Cell}
+use Rattle.fac_locals.specs.declared.cell.Cell.TheVariants.{Local, Hole}
+use Rattle.fac_locals.specs.declared.asking.Asked.{Asked}
+use Rattle.fac_locals.specs.declared.keeping.Kept.{Kept}
+use Rattle.fac_locals.specs.Cells.{cell_number, cells_behind, captured, inner_cells, hole_count}
+use Rattle.fac_locals.specs.Asked.{AreAskedBy, quotations_in, quotations_at}
 use Rattle.fac_locals.specs.declared.closing.ArrayStart.{ArrayStart}
 use Rattle.fac_locals.specs.declared.closing.Closing.{Closing}
 use Rattle.fac_locals.specs.inner.Numbering.{put_all, phrase_behind, item_behind, closed_item, closed_phrase, closed_template, template_of, phrase_templates, item_templates, phrase_starts, item_starts, closed_what, closed_items, closed_element, closed_elements, plain_item, phrase_of, method_of, next_in, next_what, cell_or, cell_what}
-use Rattle.fac_locals.specs.inner.Numbering.{words_behind, closed_word, closed_words, words_templates, words_starts, ItemPassed, PhrasePassed, ArrayPassed, Passing, WordsPassing, PhraseClosed, ItemsClosed, ClosesWhat, ClosesTree, IsAsked, AreAsked, NumberTaken, KeptTaken}
+use Rattle.fac_locals.specs.inner.Numbering.{words_behind, closed_word, closed_words, words_templates, words_starts, ItemPassed, PhrasePassed, ArrayPassed, Passing, WordsPassing, PhraseClosed, ItemsClosed, ClosesWhat, ClosesTree, IsAsked, AreAsked, NumberTaken, KeptTaken, IsQuoted, a_quotation, a_fry, IsQuotedAsked, ClosesQuotation}
 
 -- elements are put one after the other
 pub put_both : {A : Type 0} → (xs : List A) (vs ws : List (ℕ × A)) → put_all xs (vs ++ ws) ≡ put_all (put_all xs vs) ws
@@ -208,65 +208,73 @@ module _ (counts : List ℕ) (m : Option ℕ) where
     starts_are = starts_are ∙ passed.starts_are ∙ ap (λ (ts : List ArrayStart). put_all ts (phrase_starts counts m held.next t)) held_starts ∙ ap (λ (n : ℕ). put_all before.starts.items (phrase_starts counts m n t)) held_next ∙ sym (ap (put_all before.starts.items) (quotes.starts_are before.next p));
   }
 
-  quotation_closes :
-      (cells : List Cell) (before taken held inside behind : Closing) (p : Place) (w : What) (t closed : Phrase) (number holes : ℕ) (kept : Kept) (x : Template) → Quotes (what_item w) t → ((n : ℕ) → closed_what counts m cells n w ≡ Made n) → hole_count (what_item w) ≡ holes →
+  abbrev of_quotation : (t : Phrase) → Quotes (quot t) t
+  of_quotation t = record { behind_is = λ n. refl; templates_are = λ cs n q. refl; starts_are = λ n q. refl; asked_is = refl }
+
+  of_quoted : (t : Phrase) (n : ℕ) (i : Item) → IsQuoted t n i → Quotes i t
+  of_quoted t n i (a_quotation u) = of_quotation u
+  of_quoted t n i (a_fry u k) = record { behind_is = λ n. refl; templates_are = λ cs n q. refl; starts_are = λ n q. refl; asked_is = refl }
+
+  holes_of : (t : Phrase) (n : ℕ) (i : Item) → IsQuoted t n i → hole_count i ≡ n
+  holes_of t n i (a_quotation u) = refl
+  holes_of t n i (a_fry u k) = refl
+
+  pub quotation_closes :
+      (cells : List Cell) (before taken held inside behind : Closing) (p : Place) (t closed : Phrase) (number holes : ℕ) (kept : Kept) (x : Template) →
       NumberTaken before number taken → KeptTaken cells holes taken kept held → ClosesTree counts m kept.cells held t closed inside → x ≡ record { body = closed; captures = kept.captures; holes = holes; place = p } →
-      behind.next ≡ inside.next → behind.templates.items ≡ set inside.templates.items number x → behind.starts.items ≡ inside.starts.items → behind.asked ≡ inside.asked → ClosesWhat counts m cells before p w (Made number) behind
-  quotation_closes cells before taken held inside behind p w t closed number holes kept x quotes what_is holes_are takes keeps closes is_template next_is templates_are starts_are asked_are is asked =
-      let i = what_item w in
+      behind.next ≡ inside.next → behind.templates.items ≡ set inside.templates.items number x → behind.starts.items ≡ inside.starts.items → behind.asked ≡ inside.asked → ClosesQuotation counts m cells before p t holes number behind
+  quotation_closes cells before taken held inside behind p t closed number holes kept x takes keeps closes is_template next_is templates_are starts_are asked_are i is quoted asked =
+      let quotes = of_quoted t holes i quoted in
+      let holes_are = holes_of t holes i quoted in
       let mine : AreAskedBy (i ∷ (quotations_in t ++ is)) before.asked = subst (λ (js : List Item). AreAskedBy (js ++ is) before.asked) quotes.asked_is asked in
       let here = keeps.kept_is i (quotations_in t ++ is) holes_are (subst (AreAskedBy (i ∷ (quotations_in t ++ is))) (sym takes.asked_stay) mine) in
       let inner = closes is here.left in
       record {
-        closed_is = ap Made takes.number_is ∙ sym (what_is before.next);
+        number_is = takes.number_is;
         passed = quotation_passed cells kept.cells before held inside behind p i t closed number x quotes takes.number_is (keeps.next_stays ∙ takes.next_is) (keeps.templates_stay ∙ takes.templates_stay) (keeps.starts_stay ∙ takes.starts_stay) here.cells_are inner.closed_is inner.passed (is_template ∙ same_template closed p kept.captures (captured cells i) holes (hole_count i) here.captures_are (sym holes_are)) next_is templates_are starts_are;
         left = subst (AreAskedBy is) (sym asked_are) inner.left;
       }
 
   -- what a quotation or fry asks for comes first when it is closed, and then what those in it ask for
-  taken_asked : (w : What) (t : Phrase) (before taken : Closing) (number : ℕ) → Quotes (what_item w) t → NumberTaken before number taken → AreAsked (quotations_at (what_item w)) before.asked → (is : List Item) × AreAskedBy (what_item w ∷ (quotations_in t ++ is)) taken.asked
-  taken_asked w t before taken number quotes takes asked =
-      (asked.0, subst (AreAskedBy (what_item w ∷ (quotations_in t ++ asked.0))) (sym takes.asked_stay) (subst (λ (js : List Item). AreAskedBy (js ++ asked.0) before.asked) quotes.asked_is asked.1))
+  taken_asked : (t : Phrase) (n : ℕ) (before taken : Closing) (number : ℕ) → NumberTaken before number taken → (all : IsQuotedAsked t n before.asked) → AreAskedBy (all.item ∷ (quotations_in t ++ all.asked.0)) taken.asked
+  taken_asked t n before taken number takes all =
+      let is : List Item = all.asked.0 in
+      subst (AreAskedBy (all.item ∷ (quotations_in t ++ is))) (sym takes.asked_stay) (subst (λ (js : List Item). AreAskedBy (js ++ is) before.asked) (of_quoted t n all.item all.quoted).asked_is all.asked.1)
 
-  abbrev of_quotation : (t : Phrase) → Quotes (quot t) t
-  of_quotation t = record { behind_is = λ n. refl; templates_are = λ cs n q. refl; starts_are = λ n q. refl; asked_is = refl }
+  pub quotation_asked : (t : Phrase) (n : ℕ) (before taken : Closing) (number : ℕ) → NumberTaken before number taken → IsQuotedAsked t n before.asked → IsAsked taken.asked
+  quotation_asked t n before taken number takes all = (all.item, quotations_in t ++ all.asked.0, taken_asked t n before taken number takes all)
 
-  abbrev of_fry : (t : Phrase) (k : ℕ) → Quotes (fry t k) t
-  of_fry t k = record { behind_is = λ n. refl; templates_are = λ cs n q. refl; starts_are = λ n q. refl; asked_is = refl }
+  pub inside_quotation : (cells : List Cell) (t : Phrase) (n : ℕ) (before taken held : Closing) (number : ℕ) (kept : Kept) → NumberTaken before number taken → KeptTaken cells n taken kept held → IsQuotedAsked t n before.asked → AreAsked (quotations_in t) held.asked
+  inside_quotation cells t n before taken held number kept takes keeps all =
+      (all.asked.0, (keeps.kept_is all.item (quotations_in t ++ all.asked.0) (holes_of t n all.item all.quoted) (taken_asked t n before taken number takes all)).left)
 
-  pub quotation_asked : (w : What) (t : Phrase) (before taken : Closing) (number : ℕ) → w ≡ Quot t → NumberTaken before number taken → AreAsked (quotations_at (what_item w)) before.asked → IsAsked taken.asked
-  quotation_asked w t before taken number is takes asked =
-      let first = taken_asked (Quot t) t before taken number (of_quotation t) takes (subst (λ (v : What). AreAsked (quotations_at (what_item v)) before.asked) is asked) in
-      (quot t, quotations_in t ++ first.0, first.1)
+  -- an item that is a quotation or a fry
+  pub plain_quotation : (t : Phrase) (all : List Asked) → AreAsked (quotations_at (quot t)) all → IsQuotedAsked t 0 all
+  plain_quotation t all asked = record { item = quot t; quoted = a_quotation t; asked = asked }
 
-  pub fry_asked : (w : What) (t : Phrase) (k : ℕ) (before taken : Closing) (number : ℕ) → w ≡ Fry t k → NumberTaken before number taken → AreAsked (quotations_at (what_item w)) before.asked → IsAsked taken.asked
-  fry_asked w t k before taken number is takes asked =
-      let first = taken_asked (Fry t k) t before taken number (of_fry t k) takes (subst (λ (v : What). AreAsked (quotations_at (what_item v)) before.asked) is asked) in
-      (fry t k, quotations_in t ++ first.0, first.1)
+  pub first_quotation : (w : What) (t : Phrase) (all : List Asked) → w ≡ Quot t → AreAsked (quotations_at (what_item w)) all → IsQuotedAsked t 0 all
+  first_quotation w t all is asked = plain_quotation t all (subst (λ (v : What). AreAsked (quotations_at (what_item v)) all) is asked)
 
-  pub inside_quotation : (cells : List Cell) (w : What) (t : Phrase) (before taken held : Closing) (number holes : ℕ) (kept : Kept) → w ≡ Quot t → 0 ≡ holes → NumberTaken before number taken → KeptTaken cells holes taken kept held → AreAsked (quotations_at (what_item w)) before.asked → AreAsked (quotations_in t) held.asked
-  inside_quotation cells w t before taken held number holes kept is holes_are takes keeps asked =
-      let first = taken_asked (Quot t) t before taken number (of_quotation t) takes (subst (λ (v : What). AreAsked (quotations_at (what_item v)) before.asked) is asked) in
-      (first.0, (keeps.kept_is (quot t) (quotations_in t ++ first.0) holes_are first.1).left)
+  pub first_fry : (w : What) (t : Phrase) (n : ℕ) (all : List Asked) → w ≡ Fry t n → AreAsked (quotations_at (what_item w)) all → IsQuotedAsked t n all
+  first_fry w t n all is asked = record { item = fry t n; quoted = a_fry t n; asked = subst (λ (v : What). AreAsked (quotations_at (what_item v)) all) is asked }
 
-  pub inside_fry : (cells : List Cell) (w : What) (t : Phrase) (before taken held : Closing) (number holes : ℕ) (kept : Kept) → w ≡ Fry t holes → NumberTaken before number taken → KeptTaken cells holes taken kept held → AreAsked (quotations_at (what_item w)) before.asked → AreAsked (quotations_in t) held.asked
-  inside_fry cells w t before taken held number holes kept is takes keeps asked =
-      let first = taken_asked (Fry t holes) t before taken number (of_fry t holes) takes (subst (λ (v : What). AreAsked (quotations_at (what_item v)) before.asked) is asked) in
-      (first.0, (keeps.kept_is (fry t holes) (quotations_in t ++ first.0) refl first.1).left)
+  pub quotation_what : (cells : List Cell) (before : Closing) (p : Place) (w : What) (t : Phrase) (number : ℕ) (behind : Closing) → w ≡ Quot t → ClosesQuotation counts m cells before p t 0 number behind → ClosesWhat counts m cells before p w (Made number) behind
+  quotation_what cells before p w t number behind is_quot closes =
+      subst
+      (λ (v : What). ClosesWhat counts m cells before p v (Made number) behind)
+      (sym is_quot)
+      (λ (is : List Item) (asked : AreAskedBy (quotations_at (quot t) ++ is) before.asked).
+      let all = closes (quot t) is (a_quotation t) asked in
+      record { closed_is = ap Made all.number_is; passed = all.passed; left = all.left })
 
-  pub quotation_what :
-      (cells : List Cell) (before taken held inside behind : Closing) (p : Place) (w : What) (t closed : Phrase) (number holes : ℕ) (kept : Kept) (x : Template) → w ≡ Quot t → 0 ≡ holes →
-      NumberTaken before number taken → KeptTaken cells holes taken kept held → ClosesTree counts m kept.cells held t closed inside → x ≡ record { body = closed; captures = kept.captures; holes = holes; place = p } →
-      behind.next ≡ inside.next → behind.templates.items ≡ set inside.templates.items number x → behind.starts.items ≡ inside.starts.items → behind.asked ≡ inside.asked → ClosesWhat counts m cells before p w (Made number) behind
-  quotation_what cells before taken held inside behind p w t closed number holes kept x is_quotation holes_are takes keeps closes is_template next_is templates_are starts_are asked_are =
-      subst (λ (v : What). ClosesWhat counts m cells before p v (Made number) behind) (sym is_quotation) (quotation_closes cells before taken held inside behind p (Quot t) t closed number holes kept x (of_quotation t) (λ n. refl) holes_are takes keeps closes is_template next_is templates_are starts_are asked_are)
-
-  pub fry_what :
-      (cells : List Cell) (before taken held inside behind : Closing) (p : Place) (w : What) (t closed : Phrase) (number holes : ℕ) (kept : Kept) (x : Template) → w ≡ Fry t holes →
-      NumberTaken before number taken → KeptTaken cells holes taken kept held → ClosesTree counts m kept.cells held t closed inside → x ≡ record { body = closed; captures = kept.captures; holes = holes; place = p } →
-      behind.next ≡ inside.next → behind.templates.items ≡ set inside.templates.items number x → behind.starts.items ≡ inside.starts.items → behind.asked ≡ inside.asked → ClosesWhat counts m cells before p w (Made number) behind
-  fry_what cells before taken held inside behind p w t closed number holes kept x is_fry takes keeps closes is_template next_is templates_are starts_are asked_are =
-      subst (λ (v : What). ClosesWhat counts m cells before p v (Made number) behind) (sym is_fry) (quotation_closes cells before taken held inside behind p (Fry t holes) t closed number holes kept x (of_fry t holes) (λ n. refl) refl takes keeps closes is_template next_is templates_are starts_are asked_are)
+  pub fry_what : (cells : List Cell) (before : Closing) (p : Place) (w : What) (t : Phrase) (n number : ℕ) (behind : Closing) → w ≡ Fry t n → ClosesQuotation counts m cells before p t n number behind → ClosesWhat counts m cells before p w (Made number) behind
+  fry_what cells before p w t n number behind is_fried closes =
+      subst
+      (λ (v : What). ClosesWhat counts m cells before p v (Made number) behind)
+      (sym is_fried)
+      (λ (is : List Item) (asked : AreAskedBy (quotations_at (fry t n) ++ is) before.asked).
+      let all = closes (fry t n) is (a_fry t n) asked in
+      record { closed_is = ap Made all.number_is; passed = all.passed; left = all.left })
 
   pub array_what : (cells : List Cell) (before : Closing) (p : Place) (w : What) (a : ℕ) (behind : Closing) → w ≡ Arr a → ArrayPassed counts m before p a behind → behind.asked ≡ before.asked → ClosesWhat counts m cells before p w (Arr a) behind
   array_what cells before p w a behind is_array passed asked_stay =

@@ -10,9 +10,9 @@ use Rattle.fac_lang.specs.declared.program.Program.{Program}
 use Rattle.fac_lang.specs.declared.program.WordDef.{WordDef}
 use Rattle.fac_lang.specs.declared.program.Sort.{Sort}
 use Rattle.fac_lang.specs.declared.program.Sort.TheVariants.{Body as body, Past as past, Method as method}
-use Rattle.fac_captures.specs.declared.cell.Cell.{Cell}
-use Rattle.fac_captures.specs.declared.cell.Cell.TheVariants.{Local, Hole}
-use Rattle.fac_captures.specs.Cells.{cell_number, cells_behind, captured, inner_cells, hole_count}
+use Rattle.fac_locals.specs.declared.cell.Cell.{Cell}
+use Rattle.fac_locals.specs.declared.cell.Cell.TheVariants.{Local, Hole}
+use Rattle.fac_locals.specs.Cells.{cell_number, cells_behind, captured, inner_cells, hole_count}
 use Rattle.fac_locals.specs.Literals.{Quoted, quoted_phrase, behind, first_of_word, first_of_literal, first_in_array, element_item, literals, literal_places, literal_numbered}
 
 module _ (P : Program) where

@@ -1,3 +1,6 @@
+pub mod Cells
+pub mod Sets
+pub mod Asked
 pub mod Literals
 pub mod Closed
 pub mod Frames

@@ -3,9 +3,9 @@ use Rattle.std.specs.Prelude.{◌≡◌, ◌<◌, ◌⊎◌, ℕ, zero, suc, ◌
 use Rattle.fac_lang.specs.Phrases.{int, yes, no, str, wrd, Literal, Phrase, end, then, Item, lit, lit_arr, quot, fry, made}
 use Rattle.fac_lang.specs.Substitution.{of_method}
 use Rattle.fac_lang.specs.Meaning.{of_method_if, array_method, nowhere}
-use Rattle.fac_lang.specs.declared.phrase.Place.{Place}
-use Rattle.fac_captures.specs.declared.cell.Cell.{Cell}
-use Rattle.fac_captures.specs.Cells.{cells_behind, inner_cells, inner_phrase}
+use Rattle.fac_base.specs.declared.place.Place.{Place}
+use Rattle.fac_locals.specs.declared.cell.Cell.{Cell}
+use Rattle.fac_locals.specs.Cells.{cells_behind, inner_cells, inner_phrase}
 use Rattle.fac_lang.specs.declared.program.Lit.{Lit}
 use Rattle.fac_lang.specs.declared.program.Lit.TheVariants.{Int as l_int, True as l_yes, False as l_no, Str as l_str, Arr as l_arr, Wref as l_word, Quot as l_quot, Made as l_made}
 use Rattle.fac_lang.specs.declared.program.Program.{Program}

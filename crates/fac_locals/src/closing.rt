@@ -3,20 +3,18 @@ ghost use Rattle.std.specs.Prelude.{◌≡◌, ◌+◌, ◌<◌, [], ◌∷◌, 
 ghost use Rattle.fac_lang.specs.Whole.{IsWhole};
 ghost use Rattle.fac_lang.specs.PhraseView.{choices_behind, choices_phrase, items_phrase, what_item};
 ghost use Rattle.fac_lang.specs.Phrases.{append, end, quot, bind};
-ghost use Rattle.fac_slots.specs.Slots.{slot_counts};
-ghost use Rattle.fac_captures.specs.Cells.{cell_number, cells_behind};
-ghost use Rattle.fac_captures.specs.Asked.{quotations_in, quotations_at};
+ghost use Rattle.fac_graph.specs.Slots.{slot_counts};
+ghost use Rattle.fac_locals.specs.Cells.{cell_number, cells_behind};
+ghost use Rattle.fac_locals.specs.Asked.{quotations_in, quotations_at};
 ghost use Rattle.fac_locals.specs.Closed.{Closes};
-ghost use Rattle.fac_locals.specs.inner.Numbering.{ItemPassed, PhrasePassed, ArrayPassed, WordsPassed, ClosesWhat, ClosesTree, IsAsked, AreAsked, NumberTaken, KeptTaken, IsEnteredAsked, EntersLevel, EntersInside, ClosesChoices, PartsClosed, closed_phrase, closed_element, closed_elements, closed_sort, closed_word, closed_words};
+ghost use Rattle.fac_locals.specs.inner.Numbering.{ItemPassed, PhrasePassed, ArrayPassed, WordsPassed, ClosesWhat, ClosesTree, IsAsked, AreAsked, NumberTaken, KeptTaken, IsEnteredAsked, EntersLevel, EntersInside, ClosesChoices, ClosesQuotation, IsQuotedAsked, PartsClosed, closed_phrase, closed_element, closed_elements, closed_sort, closed_word, closed_words};
 ghost use Rattle.fac_locals.specs.inner.Numbering.{put_all, method_of, next_what, cell_what, phrase_of, plain_item, plain_phrase, phrase_cells, choice_in, level_templates, array_closed, arrays_closed, stage_of};
 
 use crate::counting::{behind_array, count_arrays, count_words, one_more};
-use fac_captures::{AllAsked, Cell, Kept, asked_in, keep, number_of};
-use fac_lang::{
-    Choices, Item, List, Lit, Memory, Phrase, Place, Program, Queue, Sort, Stack, Template, What,
-    WordDef,
-};
-use fac_slots::slot_counts;
+use crate::{AllAsked, Cell, Kept, asked_in, keep, number_of};
+use fac_base::{List, Memory, Place, Queue, Stack};
+use fac_graph::slot_counts;
+use fac_lang::{Choices, Item, Lit, Phrase, Program, Sort, Template, What, WordDef};
 use std::alloc::Global;
 use std::mem;
 
@@ -39,6 +37,16 @@ pub struct Closed {
 struct ArrayStart {
     number: u32,
     place: Place,
+    // The word of the method in whose phrase it stands.
+    method: Option<u32>,
+}
+
+// Around what is closed.
+#[derive(Clone, Copy)]
+struct Around<'a> {
+    alloc: Global,
+    // How many quotations each literal array has, those of the arrays in it included.
+    counts: &'a [u32],
     // The word of the method in whose phrase it stands.
     method: Option<u32>,
 }
@@ -286,91 +294,93 @@ fn leave_levels(
     Ok(())
 }
 
-// An item under these cells with a template in place of its quotation or fry, in the phrase of this method or in none.
+// An item under these cells with a template in place of its quotation or fry.
 #[cycle(closing)]
 fn close_what(
     what: What,
-    alloc: Global,
+    around: Around<'_>,
     closing: &mut Closing,
-    counts: &[u32],
     place: Place,
-    method: Option<u32>,
     cells: &mut List<Cell>,
 ) -> Result<What, Memory>
     requires { AreAsked (quotations_at (what_item what)) closing.old.asked }
-    ensures closed { IfOk result (λ closed. ClosesWhat counts.now method cells.old closing.old place what closed closing.new) }
+    ensures closed { IfOk result (λ closed. ClosesWhat around.entry.counts.now around.entry.method cells.old closing.old place what closed closing.new) }
     ensures cells { OnOk result (cells.new ≡ cells_behind cells.old (what_item what)) }
 {
     match what {
-        What::Quot(inner) => {
-            let number = take_number(closing)?;
-            let Kept {
-                captures,
-                cells: own,
-            } = take_kept(alloc, closing, cells, 0)?;
-            let mut own = own;
-            let body = close_phrase(inner, alloc, closing, counts, method, &mut own)?;
-            let template = Template {
-                body,
-                captures,
-                holes: 0,
-                place,
-            };
-            put(&mut closing.templates, number, template);
+        What::Quot(phrase) => {
+            let number = close_quotation(phrase, 0, around, closing, place, cells)?;
             Ok(What::Made(number))
         }
         What::Choices(choices) => {
             let number = closing.next;
-            close_choices(choices, alloc, closing, counts, place, method, cells)?;
+            let choices = Box::into_inner(choices);
+            close_choices(choices, around, closing, place, cells)?;
             Ok(What::Made(number))
         }
-        What::Fry(inner, holes) => {
-            let number = take_number(closing)?;
-            let Kept {
-                captures,
-                cells: own,
-            } = take_kept(alloc, closing, cells, holes)?;
-            let mut own = own;
-            let body = close_phrase(inner, alloc, closing, counts, method, &mut own)?;
-            let template = Template {
-                body,
-                captures,
-                holes,
-                place,
-            };
-            put(&mut closing.templates, number, template);
+        What::Fry(phrase, holes) => {
+            let number = close_quotation(phrase, holes, around, closing, place, cells)?;
             Ok(What::Made(number))
         }
         What::Bind(local) => Ok(What::Bind(bind_cell(cells, local)?)),
         What::Local(local) => Ok(in_cell(cells, Cell::Local(local), What::Local(local))),
         What::Hole(hole) => Ok(in_cell(cells, Cell::Hole(hole), What::Hole(hole))),
         What::Arr(array) => {
-            pass_array(closing, counts, array, place, method)?;
+            pass_array(closing, around.counts, array, place, around.method)?;
             Ok(What::Arr(array))
         }
-        What::NextMethod => Ok(next_method(method)),
+        What::NextMethod => Ok(next_method(around.method)),
         other => Ok(other),
     }
 }
 
-// A phrase under these cells with templates in place of its quotations and fries, which stands in this method or in none.
+// Closes the phrase of a quotation, or of a fry with so many holes, that stands at this place under these cells. The answer is the number of
+// its template.
+#[cycle(closing)]
+fn close_quotation(
+    phrase: Phrase,
+    holes: u32,
+    around: Around<'_>,
+    closing: &mut Closing,
+    place: Place,
+    cells: &List<Cell>,
+) -> Result<u32, Memory>
+    requires { IsQuotedAsked phrase holes closing.old.asked }
+    ensures { IfOk result (λ number. ClosesQuotation around.entry.counts.now around.entry.method cells.now closing.old place phrase holes number closing.new) }
+{
+    let number = take_number(closing)?;
+    let Kept {
+        captures,
+        cells: own,
+    } = take_kept(around.alloc, closing, cells, holes)?;
+    let mut own = own;
+    let body = close_phrase(phrase, around, closing, &mut own)?;
+    let template = Template {
+        body,
+        captures,
+        holes,
+        place,
+    };
+    put(&mut closing.templates, number, template);
+    Ok(number)
+}
+
+// A phrase under these cells with templates in place of its quotations and fries.
 #[cycle(closing)]
 fn close_phrase(
     phrase: Phrase,
-    alloc: Global,
+    around: Around<'_>,
     closing: &mut Closing,
-    counts: &[u32],
-    method: Option<u32>,
     cells: &mut List<Cell>,
 ) -> Result<Phrase, Memory>
     requires { AreAsked (quotations_in phrase) closing.old.asked }
-    ensures closed { IfOk result (λ closed. ClosesTree counts.now method cells.old closing.old phrase closed closing.new) }
+    ensures closed { IfOk result (λ closed. ClosesTree around.entry.counts.now around.entry.method cells.old closing.old phrase closed closing.new) }
     ensures cells { OnOk result (cells.new ≡ phrase_cells cells.old phrase) }
 {
-    let mut items = Vec::with_capacity(alloc, phrase.items.len())?;
+    let mut items = Vec::with_capacity(around.alloc, phrase.items.len())?;
     for item in phrase.items {
         let Item { what, place } = item;
-        let what = close_what(what, alloc, closing, counts, place, method, cells)?;
+        let what = close_what(what, around, closing, place, cells)?;
         items.push(Item { what, place })?;
     }
     Ok(Phrase { items })
@@ -381,23 +391,21 @@ fn close_phrase(
 #[cycle(closing)]
 fn enter(
     phrase: Phrase,
-    alloc: Global,
+    around: Around<'_>,
     closing: &mut Closing,
-    counts: &[u32],
     place: Place,
-    method: Option<u32>,
     cells: &List<Cell>,
 ) -> Result<(Level, List<Cell>), Memory>
     requires { IsEnteredAsked phrase closing.old.asked }
-    ensures { IfOk result (λ entered. EntersLevel counts.now method cells.now closing.old place phrase entered.0 entered.1 closing.new) }
+    ensures { IfOk result (λ entered. EntersLevel around.entry.counts.now around.entry.method cells.now closing.old place phrase entered.0 entered.1 closing.new) }
 {
     let number = take_number(closing)?;
     let Kept {
         captures,
         cells: own,
-    } = take_kept(alloc, closing, cells, 0)?;
+    } = take_kept(around.alloc, closing, cells, 0)?;
     let mut inner = own;
-    let body = close_phrase(phrase, alloc, closing, counts, method, &mut inner)?;
+    let body = close_phrase(phrase, around, closing, &mut inner)?;
     let level = Level {
         number,
         place,
@@ -411,21 +419,19 @@ fn enter(
 #[cycle(closing)]
 fn enter_inside(
     choices: Choices,
-    alloc: Global,
+    around: Around<'_>,
     closing: &mut Closing,
-    counts: &[u32],
-    method: Option<u32>,
     levels: &mut Stack<Level>,
     cells: List<Cell>,
 ) -> Result<(), Memory>
     requires { AreAsked (quotations_in (choices_behind choices.word choices.place (reverse choices.phrases.items))) closing.old.asked }
-    ensures { OnOk result (EntersInside counts.now method choices.word choices.place levels.old cells closing.old (reverse choices.phrases.items) levels.new closing.new) }
+    ensures { OnOk result (EntersInside around.entry.counts.now around.entry.method choices.word choices.place levels.old cells closing.old (reverse choices.phrases.items) levels.new closing.new) }
 {
     let Choices { phrases, place, .. } = choices;
     let mut rest = phrases;
     let mut inner = cells;
     while let Some(phrase) = take_outer(&mut rest) {
-        let (level, own) = enter(phrase, alloc, closing, counts, place, method, &inner)?;
+        let (level, own) = enter(phrase, around, closing, place, &inner)?;
         levels.push(level)?;
         inner = own;
     }
@@ -436,41 +442,33 @@ fn enter_inside(
 #[cycle(closing)]
 fn close_choices(
     choices: Choices,
-    alloc: Global,
+    around: Around<'_>,
     closing: &mut Closing,
-    counts: &[u32],
     place: Place,
-    method: Option<u32>,
     cells: &List<Cell>,
 ) -> Result<(), Memory>
     requires { AreAsked (quotations_at (quot (choices_phrase choices))) closing.old.asked }
-    ensures { OnOk result (ClosesChoices counts.now method cells.now closing.old place (choices_phrase choices) closing.new) }
+    ensures { OnOk result (ClosesChoices around.entry.counts.now around.entry.method cells.now closing.old place (choices_phrase choices) closing.new) }
 {
     let mut rest = choices;
-    let outermost = take_outermost(alloc, &mut rest);
+    let outermost = take_outermost(around.alloc, &mut rest);
     let word = rest.word;
     let at = rest.place;
-    let (level, inner) = enter(outermost, alloc, closing, counts, place, method, cells)?;
-    let mut levels = Stack::new(alloc);
+    let (level, inner) = enter(outermost, around, closing, place, cells)?;
+    let mut levels = Stack::new(around.alloc);
     levels.push(level)?;
-    enter_inside(rest, alloc, closing, counts, method, &mut levels, inner)?;
+    enter_inside(rest, around, closing, &mut levels, inner)?;
     leave_levels(&mut closing.templates, levels, word, at)?;
     Ok(())
 }
 
 // A phrase under no cells with templates in place of its quotations and fries.
-fn close_whole(
-    phrase: Phrase,
-    alloc: Global,
-    closing: &mut Closing,
-    counts: &[u32],
-    method: Option<u32>,
-) -> Result<Phrase, Memory>
-    ensures { IfOk result (λ closed. (closed ≡ closed_phrase counts.now method [] closing.old.next phrase) × PhrasePassed counts.now method [] closing.old phrase closing.new) }
+fn close_whole(phrase: Phrase, around: Around<'_>, closing: &mut Closing) -> Result<Phrase, Memory>
+    ensures { IfOk result (λ closed. (closed ≡ closed_phrase around.entry.counts.now around.entry.method [] closing.old.next phrase) × PhrasePassed around.entry.counts.now around.entry.method [] closing.old phrase closing.new) }
 {
-    closing.asked = asked_in(alloc, &phrase)?;
-    let mut cells = List::new(alloc);
-    let closed = close_phrase(phrase, alloc, closing, counts, method, &mut cells)?;
+    closing.asked = asked_in(around.alloc, &phrase)?;
+    let mut cells = List::new(around.alloc);
+    let closed = close_phrase(phrase, around, closing, &mut cells)?;
     Ok(closed)
 }
 
@@ -485,13 +483,26 @@ fn close_sort(
     ensures { IfOk result (λ closed. (closed ≡ closed_sort counts.now number closing.old.next sort) × PhrasePassed counts.now (method_of number sort) [] closing.old (phrase_of sort) closing.new) }
 {
     match sort {
-        Sort::Body(phrase) => Ok(Sort::Body(close_whole(phrase, alloc, closing, counts, None)?)),
+        Sort::Body(phrase) => {
+            let around = Around {
+                alloc,
+                counts,
+                method: None,
+            };
+            let body = close_whole(phrase, around, closing)?;
+            Ok(Sort::Body(body))
+        }
         Sort::Method {
             class,
             generic,
             body,
         } => {
-            let body = close_whole(body, alloc, closing, counts, Some(number))?;
+            let around = Around {
+                alloc,
+                counts,
+                method: Some(number),
+            };
+            let body = close_whole(body, around, closing)?;
             Ok(Sort::Method {
                 class,
                 generic,
@@ -549,24 +560,22 @@ fn close_words(
     Ok(closed)
 }
 
-// An element of a literal array that stands here, in the phrase of this method or in none, with a template in place of its quotation.
+// An element of a literal array that stands here, with a template in place of its quotation.
 fn close_element(
     element: Lit,
-    alloc: Global,
+    around: Around<'_>,
     closing: &mut Closing,
-    counts: &[u32],
     place: Place,
-    method: Option<u32>,
 ) -> Result<Lit, Memory>
-    ensures { IfOk result (λ closed. (closed ≡ closed_element counts.now closing.old.next element) × ItemPassed counts.now method [] closing.old place (plain_item element) closing.new) }
+    ensures { IfOk result (λ closed. (closed ≡ closed_element around.entry.counts.now closing.old.next element) × ItemPassed around.entry.counts.now around.entry.method [] closing.old place (plain_item element) closing.new) }
 {
     match element {
         Lit::Quot(inner) => {
             let number = take_number(closing)?;
-            let body = close_whole(inner, alloc, closing, counts, method)?;
+            let body = close_whole(inner, around, closing)?;
             let template = Template {
                 body,
-                captures: List::new(alloc),
+                captures: List::new(around.alloc),
                 holes: 0,
                 place,
             };
@@ -574,7 +583,7 @@ fn close_element(
             Ok(Lit::Made(number))
         }
         Lit::Arr(array) => {
-            pass_array(closing, counts, array, place, method)?;
+            pass_array(closing, around.counts, array, place, around.method)?;
             Ok(Lit::Arr(array))
         }
         other => Ok(other),
@@ -591,9 +600,14 @@ fn close_elements(
 ) -> Result<List<Lit>, Memory>
     ensures { IfOk result (λ closed. (closed ≡ closed_elements counts.now closing.old.next elements.items) × PhrasePassed counts.now start.method [] closing.old (plain_phrase start.place elements.items) closing.new) }
 {
+    let around = Around {
+        alloc,
+        counts,
+        method: start.method,
+    };
     let mut closed = List::new(alloc);
     for element in elements {
-        let element = close_element(element, alloc, closing, counts, start.place, start.method)?;
+        let element = close_element(element, around, closing, start.place)?;
         closed.push(element)?;
     }
     Ok(closed)

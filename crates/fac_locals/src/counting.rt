@@ -1,11 +1,12 @@
 //! How many quotations and fries there are.
 ghost use Rattle.std.specs.Prelude.{◌≡◌, ◌+◌, ℕ, [], suc, reverse, slice_index_or, IfOk};
 ghost use Rattle.fac_lang.specs.Meaning.{nowhere};
-ghost use Rattle.fac_lang.specs.declared.phrase.Place.{Place};
+ghost use Rattle.fac_base.specs.declared.place.Place.{Place};
 ghost use Rattle.fac_lang.specs.PhraseView.{choices_behind, choices_phrase, what_item};
 ghost use Rattle.fac_locals.specs.inner.Numbering.{phrase_behind, item_behind, plain_item, plain_phrase, elements_count, counts_from, words_behind, phrase_of};
 
-use fac_lang::{Choices, List, Lit, Memory, Phrase, Sort, What, WordDef};
+use fac_base::{List, Memory};
+use fac_lang::{Choices, Lit, Phrase, Sort, What, WordDef};
 use std::alloc::Global;
 
 /// The number behind this one.

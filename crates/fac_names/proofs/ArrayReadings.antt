@@ -6,19 +6,19 @@ use Rattle.std.specs.Str.{bytes_eq}
 use Rattle.std.proofs.lemmas.List.{length_push}
 use Rattle.fac_lang.specs.Phrases.{Phrase, end, then as placed}
 use Rattle.fac_lang.specs.RunningLaws.{append}
-use Rattle.fac_lang.specs.Signatures.{Signature}
+use Rattle.fac_base.specs.Signatures.{Signature}
 use Rattle.fac_lang.specs.Whole.{arrays_named, arrays_named_by, each_numbered, names_earlier, times_in}
-use Rattle.fac_lang.specs.declared.phrase.Place.{Place}
+use Rattle.fac_base.specs.declared.place.Place.{Place}
 use Rattle.fac_lang.specs.declared.program.Lit.{Lit}
 use Rattle.fac_lang.specs.declared.program.Sort.{Sort}
 use Rattle.fac_lang.specs.declared.program.Sort.TheVariants.{Body as body, Past as past, Itself as itself, Method as method}
 use Rattle.fac_lang.specs.declared.program.WordDef.{WordDef}
 use Rattle.fac_vocab.specs.declared.entry.Entry.{Entry}
 use Rattle.fac_vocab.specs.Scopes.{Scope, entries_from, holders, home, now_defined}
-use Rattle.fac_refusal.specs.declared.refusal.NameFault.{NameFault}
-use Rattle.fac_refusal.specs.declared.refusal.NameKind.TheVariants.{Twice}
+use Rattle.fac_source.specs.declared.refusal.NameFault.{NameFault}
+use Rattle.fac_source.specs.declared.refusal.NameKind.TheVariants.{Twice}
 use Rattle.fac_items.specs.Written.{Tok}
-use Rattle.fac_refusal.specs.Refusals.{fault}
+use Rattle.fac_source.specs.Refusals.{fault}
 use Rattle.fac_endings.specs.declared.draft.Draft.{Draft}
 use Rattle.fac_names.specs.Forms.{Numbered, Reading, added, at_place, changed, defined, defining, deferring, draft_of, own, refused, told, with_told}
 use Rattle.fac_endings.specs.declared.draft.Late.{Late}

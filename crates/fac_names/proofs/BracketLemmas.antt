@@ -2,18 +2,19 @@
 use Rattle.std.proofs.Common.{◌≡◌, ◌+◌, ℕ, nat_lt, Option, List, [], ◌∷◌, length, map, Some, None, Bool, true, false, cond, refl, ap, sym, ◌∙◌, subst}
 use Rattle.std.specs.Prelude.{◌&&◌, ℤ, is_some, nat_le}
 use Rattle.fac_lang.specs.Whole.{is_small}
-use Rattle.fac_lang.specs.declared.phrase.Height.{Height}
-use Rattle.fac_lang.specs.declared.phrase.Place.{Place}
-use Rattle.fac_lang.specs.declared.token.Token.{Token}
-use Rattle.fac_lang.specs.declared.tree.Element.{Element}
-use Rattle.fac_lang.specs.declared.tree.Element.TheVariants as element
-use Rattle.fac_lang.specs.declared.tree.Bracket.{Bracket}
-use Rattle.fac_lang.specs.declared.tree.Bracket.TheVariants.{Quotation, Array, Fry}
-use Rattle.fac_lang.specs.declared.tree.Callee.{Callee}
-use Rattle.fac_lang.specs.declared.tree.Part.TheVariants as part
-use Rattle.fac_lang.specs.declared.tree.WrittenEffect.{WrittenEffect}
-use Rattle.fac_lang.specs.declared.tree.Term.{Term}
-use Rattle.fac_lang.specs.declared.tree.Term.TheVariants as term
+use Rattle.fac_base.specs.declared.height.Height.{Height}
+use Rattle.fac_base.specs.declared.place.Place.{Place}
+use Rattle.fac_source.specs.declared.token.Token.{Token}
+use Rattle.fac_source.specs.declared.tree.Element.{Element}
+use Rattle.fac_source.specs.declared.tree.Element.TheVariants as element
+use Rattle.fac_source.specs.declared.tree.Bracket.{Bracket}
+use Rattle.fac_source.specs.declared.tree.Bracket.TheVariants.{Quotation, Array, Fry}
+use Rattle.fac_source.specs.declared.tree.Callee.{Callee}
+use Rattle.fac_source.specs.declared.tree.Part.TheVariants as part
+use Rattle.fac_source.specs.declared.tree.WrittenEffect.{WrittenEffect}
+use Rattle.fac_source.specs.declared.tree.Literal.{Literal}
+use Rattle.fac_source.specs.declared.tree.Term.{Term}
+use Rattle.fac_source.specs.declared.tree.Term.TheVariants as term
 use Rattle.fac_effect.specs.RowlessEffects.{opened_tokens}
 use Rattle.fac_parse.specs.declared.context.Around.{Around}
 use Rattle.fac_parse.specs.declared.context.Around.TheVariants as stands_in
@@ -175,29 +176,11 @@ may_test (Array ∷ bs) callee p ts h none small = absurd none
 test_small : (callee : Callee) (p : Place) (ts : List Token) (h : Height) → IsTerm (term.EffectCall callee p ts h) → is_small h ≡ true
 test_small callee p ts h fits = ap is_small fits.2 ∙ small_height (opened_tokens p ts) fits.0 fits.1.is
 
-may_integer : (bs : List Bracket) (t : Token) (z : ℤ) → MayStand bs (element.Item (term.Integer t z))
-may_integer [] t z = tt
-may_integer (Quotation ∷ bs) t z = tt
-may_integer (Fry ∷ bs) t z = tt
-may_integer (Array ∷ bs) t z = tt
-
-may_text : (bs : List Bracket) (t : Token) → MayStand bs (element.Item (term.Text t))
-may_text [] t = tt
-may_text (Quotation ∷ bs) t = tt
-may_text (Fry ∷ bs) t = tt
-may_text (Array ∷ bs) t = tt
-
-may_true : (bs : List Bracket) (p : Place) → MayStand bs (element.Item (term.True p))
-may_true [] p = tt
-may_true (Quotation ∷ bs) p = tt
-may_true (Fry ∷ bs) p = tt
-may_true (Array ∷ bs) p = tt
-
-may_false : (bs : List Bracket) (p : Place) → MayStand bs (element.Item (term.False p))
-may_false [] p = tt
-may_false (Quotation ∷ bs) p = tt
-may_false (Fry ∷ bs) p = tt
-may_false (Array ∷ bs) p = tt
+may_literal : (bs : List Bracket) (t : Token) (l : Literal ℤ) → MayStand bs (element.Item (term.Literal t l))
+may_literal [] t l = tt
+may_literal (Quotation ∷ bs) t l = tt
+may_literal (Fry ∷ bs) t l = tt
+may_literal (Array ∷ bs) t l = tt
 
 may_next : (bs : List Bracket) (p : Place) → NoArray bs → MayStand bs (element.Item (term.NextMethod p))
 may_next [] p h = tt
@@ -228,10 +211,7 @@ item_steps cs next bs (term.Name t) fits s h = same_steps cs next bs (term.Name 
 item_steps cs next bs (term.Wrapped p t) fits s h = same_steps cs next bs (term.Wrapped p t) (may_wrapped bs p t) s (all_counted cs next h)
 item_steps cs next bs (term.EffectCall callee p ts e) fits s h =
     let u = all_uncounted cs next bs s h in same_steps cs next bs (term.EffectCall callee p ts e) (may_test bs callee p ts e u.no_array (test_small callee p ts e fits)) s (ap seen_all u.same)
-item_steps cs next bs (term.Integer t z) fits s h = same_steps cs next bs (term.Integer t z) (may_integer bs t z) s (all_counted cs next h)
-item_steps cs next bs (term.Text t) fits s h = same_steps cs next bs (term.Text t) (may_text bs t) s (all_counted cs next h)
-item_steps cs next bs (term.True p) fits s h = same_steps cs next bs (term.True p) (may_true bs p) s (all_counted cs next h)
-item_steps cs next bs (term.False p) fits s h = same_steps cs next bs (term.False p) (may_false bs p) s (all_counted cs next h)
+item_steps cs next bs (term.Literal t l) fits s h = same_steps cs next bs (term.Literal t l) (may_literal bs t l) s (all_counted cs next h)
 item_steps cs next bs (term.NextMethod p) fits s h = let u = all_uncounted cs next bs s h in same_steps cs next bs (term.NextMethod p) (may_next bs p u.no_array) s (ap seen_all u.same)
 item_steps cs next bs (term.Bind p t) fits s h = let u = all_bound (uncounted cs) cs next bs s refl h in same_steps cs next bs (term.Bind p t) (may_bind bs p t u.no_array) s u.same
 item_steps cs next bs (term.Hole p) fits s h = let u = all_holed cs next bs s h in same_steps cs next bs (term.Hole p) (may_hole bs p u.fry) s u.same
@@ -406,10 +386,7 @@ literal_closing (element.Item t ∷ []) h = one t h
     one (term.Name t) k = absurd k
     one (term.Wrapped p t) k = (tt, refl)
     one (term.EffectCall callee p ts h) k = absurd k
-    one (term.Integer t z) k = (tt, refl)
-    one (term.Text t) k = (tt, refl)
-    one (term.True p) k = (tt, refl)
-    one (term.False p) k = (tt, refl)
+    one (term.Literal t l) k = (tt, refl)
     one (term.NextMethod p) k = absurd k
     one (term.Bind p t) k = absurd k
     one (term.Hole p) k = absurd k

@@ -5,7 +5,7 @@ use Rattle.std.specs.Option.{option_map}
 use Rattle.fac_lang.proofs.SourcePrograms.{IsSourcePhrase, IsSourceSort}
 use Rattle.fac_names.proofs.PrimitiveNumbers.{numbers_before}
 use Rattle.fac_lang.specs.Phrases.{Phrase}
-use Rattle.fac_lang.specs.Signatures.{Signature}
+use Rattle.fac_base.specs.Signatures.{Signature}
 use Rattle.fac_lang.specs.Whole.{name_count, plain_effect}
 use Rattle.fac_lang.specs.declared.program.Sort.{Sort}
 use Rattle.fac_lang.specs.declared.program.Sort.TheVariants.{Body as body, Itself as itself, Class as class, Isa as isa, Getter as getter, Setter as setter, Putter as putter, Generic as generic}
@@ -13,9 +13,9 @@ use Rattle.fac_lang.specs.declared.program.WordDef.{WordDef}
 use Rattle.fac_vocab.specs.declared.brought.Brought.TheVariants.{Named as named, Prefixed as prefixed}
 use Rattle.fac_vocab.specs.declared.entry.Entry.{Entry}
 use Rattle.fac_vocab.specs.Scopes.{Scope, begun, bringing, entered, exists, holders, home, using_vocab, word_held}
-use Rattle.fac_refusal.specs.declared.refusal.NameFault.{NameFault}
-use Rattle.fac_refusal.specs.declared.refusal.NameKind.TheVariants.{Unknown, NoVocab, TooMany}
-use Rattle.fac_refusal.specs.Refusals.{fault, fault_if, sooner}
+use Rattle.fac_source.specs.declared.refusal.NameFault.{NameFault}
+use Rattle.fac_source.specs.declared.refusal.NameKind.TheVariants.{Unknown, NoVocab, TooMany}
+use Rattle.fac_source.specs.Refusals.{fault, fault_if, sooner}
 use Rattle.fac_items.specs.Written.{Tok, Nodes, Declared, given, makes, Form, f_in, f_use, f_using, f_from, f_qualified, f_private, f_public, f_defer, f_symbol, f_main, f_define, f_tuple, f_union, f_single, f_generic, f_method, f_items}
 use Rattle.fac_items.specs.Readings.{read_items}
 use Rattle.fac_items.specs.Items.{is_cond, items_faults, phrase_of, ref, search_fault, search_faults}

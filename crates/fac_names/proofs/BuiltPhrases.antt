@@ -6,7 +6,7 @@ use Rattle.fac_lang.proofs.SourcePrograms.{AreSourceArrays, AreSourceElements, I
 use Rattle.fac_lang.specs.Phrases.{int, yes, no, str, Phrase, end, then as placed, local, word}
 use Rattle.fac_lang.specs.RunningLaws.{append}
 use Rattle.fac_lang.specs.declared.program.Lit.{Lit}
-use Rattle.fac_refusal.specs.Toks.{number}
+use Rattle.fac_source.specs.Toks.{number}
 use Rattle.fac_vocab.specs.Scopes.{Scope, word_held}
 use Rattle.fac_items.specs.Written.{Tok, n_lit, n_ref, n_name, n_call, n_execute, n_next, n_full, n_bind, n_hole, n_fry, n_part, n_quot, n_array, Nodes, nothing, more}
 use Rattle.fac_items.specs.Items.{elements_of, local_of, phrase_of, word_of}

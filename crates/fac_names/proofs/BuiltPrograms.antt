@@ -16,12 +16,12 @@ use Rattle.fac_lang.specs.declared.program.Program.{Program}
 use Rattle.fac_lang.specs.declared.program.Sort.{Sort}
 use Rattle.fac_lang.specs.declared.program.Sort.TheVariants.{Body as body, Past as past, Method as method}
 use Rattle.fac_lang.specs.declared.program.WordDef.{WordDef}
-use Rattle.fac_lang.specs.declared.tree.Form.{Form as Flat}
+use Rattle.fac_source.specs.declared.tree.Form.{Form as Flat}
 use Rattle.fac_parse.specs.Trees.{AreWellFormed, IsWellFormed}
 use Rattle.fac_vocab.specs.Scopes.{begun}
-use Rattle.fac_refusal.specs.declared.refusal.NameFault.{NameFault}
-use Rattle.fac_refusal.specs.declared.refusal.ResolveFault.{ResolveFault}
-use Rattle.fac_refusal.specs.Refusals.{sooner}
+use Rattle.fac_source.specs.declared.refusal.NameFault.{NameFault}
+use Rattle.fac_source.specs.declared.refusal.ResolveFault.{ResolveFault}
+use Rattle.fac_source.specs.Refusals.{sooner}
 use Rattle.fac_items.specs.Readings.{read_form}
 use Rattle.fac_items.proofs.ArrayNumbers.{below, each_below_is, times_both}
 use Rattle.fac_endings.specs.ClassTable.{class_of, classes_of}

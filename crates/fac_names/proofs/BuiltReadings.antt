@@ -8,14 +8,14 @@ use Rattle.fac_lang.proofs.SourcePrograms.{AreSourceArrays, IsSourcePhrase, IsSo
 use Rattle.fac_names.proofs.PrimitiveNumbers.{has_no_repeats, numbers_before, numbers_in, numbers_with, numbers_placed, told_distinct}
 use Rattle.fac_lang.specs.Phrases.{Phrase}
 use Rattle.fac_lang.specs.RunningLaws.{append}
-use Rattle.fac_lang.specs.Signatures.{Signature}
+use Rattle.fac_base.specs.Signatures.{Signature}
 use Rattle.fac_lang.specs.Whole.{arrays_named, name_count}
-use Rattle.fac_lang.specs.declared.phrase.Place.{Place}
+use Rattle.fac_base.specs.declared.place.Place.{Place}
 use Rattle.fac_lang.specs.declared.program.Lit.{Lit}
 use Rattle.fac_lang.specs.declared.program.Sort.{Sort}
 use Rattle.fac_lang.specs.declared.program.Sort.TheVariants.{Body as body, Itself as itself, Prim as prim, Core as core, Past as past, Class as class, Isa as isa, Getter as getter, Setter as setter, Putter as putter, Generic as generic, Method as method}
 use Rattle.fac_lang.specs.declared.program.WordDef.{WordDef}
-use Rattle.fac_refusal.specs.declared.refusal.NameFault.{NameFault}
+use Rattle.fac_source.specs.declared.refusal.NameFault.{NameFault}
 use Rattle.fac_vocab.specs.declared.entry.Entry.{Entry}
 use Rattle.fac_vocab.specs.Scopes.{Scope, now_defined, with_entry, word_held}
 use Rattle.fac_items.specs.Written.{Tok}
@@ -205,7 +205,7 @@ drafts_changed bound f (suc n) (d ∷ ds) keeps h = (h.0, drafts_changed bound f
 -- the place of a word is no part of what is built
 placed_sort : (bound : ℕ) (d : WordDef) (p : Place) (s : Sort) → IsSourceSort bound d s → IsSourceSort bound (record d { place = p }) s
 placed_sort bound d p (prim k) h = record { row = h.row; row_is = h.row_is; is_built = h.is_built; effect_is = h.effect_is; not_inline = h.not_inline; not_recursive = h.not_recursive }
-placed_sort bound d p (core k) h = record { row = h.row; row_is = h.row_is; is_built = h.is_built; effect_is = h.effect_is; not_inline = h.not_inline; not_recursive = h.not_recursive }
+placed_sort bound d p (core k) h = record { row = h.row; row_is = h.row_is; effect_is = h.effect_is; not_inline = h.not_inline; not_recursive = h.not_recursive }
 placed_sort bound d p (body t) h = h
 placed_sort bound d p itself h = record { effect_is = h.effect_is; not_inline = h.not_inline; not_recursive = h.not_recursive }
 placed_sort bound d p (class c) h = record { effect_is = h.effect_is; not_inline = h.not_inline; not_recursive = h.not_recursive }

@@ -9,7 +9,7 @@ use Rattle.fac_vocab.specs.declared.brought.Brought.TheVariants.{Named as named,
 use Rattle.fac_vocab.specs.declared.entry.Entry.{Entry}
 use Rattle.fac_vocab.specs.Scopes.{Scope, Found, the, unknown, ambiguous, all_used, companion, found, full_text, given_by, held, latest, now_defined, only_one, or_else, put_in_order, word_held}
 use Rattle.fac_items.specs.Written.{Tok}
-use Rattle.fac_refusal.specs.Toks.{number}
+use Rattle.fac_source.specs.Toks.{number}
 use Rattle.fac_items.specs.Items.{word_of}
 
 abbrev pub EntriesBelow : ℕ → List Entry → Type 0

@@ -1,12 +1,12 @@
 -- What the forms of classes do.
 use Rattle.std.proofs.Common.{◌≡◌, ℕ, List, [], ◌∷◌, ◌++◌, ◌+◌, length, Option, false, fold, ap, ◌∙◌}
 use Rattle.std.specs.Prelude.{◌&&◌, codes, nat_le, nat_lt}
-use Rattle.fac_lang.specs.Signatures.{Signature}
+use Rattle.fac_base.specs.Signatures.{Signature}
 use Rattle.fac_lang.specs.Whole.{plain_effect}
 use Rattle.fac_lang.specs.declared.program.Sort.TheVariants.{Class as class, Isa as isa}
-use Rattle.fac_refusal.specs.declared.refusal.NameFault.{NameFault}
-use Rattle.fac_refusal.specs.declared.refusal.NameKind.TheVariants.{TooMany}
-use Rattle.fac_refusal.specs.Refusals.{fault_if, sooner}
+use Rattle.fac_source.specs.declared.refusal.NameFault.{NameFault}
+use Rattle.fac_source.specs.declared.refusal.NameKind.TheVariants.{TooMany}
+use Rattle.fac_source.specs.Refusals.{fault_if, sooner}
 use Rattle.fac_vocab.specs.Scopes.{Scope, home}
 use Rattle.fac_items.specs.Items.{search_faults}
 use Rattle.fac_items.specs.Written.{Tok}

@@ -3,12 +3,12 @@ use Rattle.std.proofs.Common.{◌≡◌, ℕ, zero, suc, List, [], ◌∷◌, �
 use Rattle.std.specs.Prelude.{if◌then◌else◌, slice_get}
 use Rattle.std.specs.List.{list_any}
 use Rattle.std.specs.Option.{option_map}
-use Rattle.fac_lang.specs.declared.program.Name.{Name as FullName}
+use Rattle.fac_base.specs.declared.name.Name.{Name as FullName}
 use Rattle.fac_vocab.specs.declared.entry.Entry.{Entry}
 use Rattle.fac_vocab.specs.Scopes.{holders, home, now_defined, with_entry, word_held}
-use Rattle.fac_refusal.specs.declared.refusal.NameFault.{NameFault}
-use Rattle.fac_refusal.specs.declared.refusal.NameKind.TheVariants.{Twice}
-use Rattle.fac_refusal.specs.Refusals.{fault, sooner}
+use Rattle.fac_source.specs.declared.refusal.NameFault.{NameFault}
+use Rattle.fac_source.specs.declared.refusal.NameKind.TheVariants.{Twice}
+use Rattle.fac_source.specs.Refusals.{fault, sooner}
 use Rattle.fac_items.specs.Written.{Tok}
 use Rattle.fac_items.specs.Items.{entry_name}
 use Rattle.fac_endings.specs.declared.draft.Draft.{Draft}

@@ -8,7 +8,7 @@ use Rattle.std.proofs.lemmas.Slice.Eq.{bytes_eq-Decides}
 use Rattle.fac_names.proofs.PrimitiveNumbers.{has_no_repeats, is_member, numbers_before, primitive_numbers}
 use Rattle.fac_lang.specs.Whole.{no_two, same_class_name, same_name, same_word}
 use Rattle.fac_lang.specs.declared.program.ClassDef.{ClassDef}
-use Rattle.fac_lang.specs.declared.program.Name.{Name as FullName}
+use Rattle.fac_base.specs.declared.name.Name.{Name as FullName}
 use Rattle.fac_lang.specs.declared.program.Sort.{Sort}
 use Rattle.fac_lang.specs.declared.program.Sort.TheVariants.{Prim as prim, Class as class, Getter as getter, Setter as setter, Putter as putter}
 use Rattle.fac_lang.specs.declared.program.WordDef.{WordDef}

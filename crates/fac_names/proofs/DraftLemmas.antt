@@ -1,7 +1,7 @@
 -- Words so far.
 use Rattle.std.proofs.Common.{◌≡◌, ◌<◌, ◌≤◌, ℕ, zero, suc, List, [], ◌∷◌, ◌++◌, length, set, get_or, slice_get, Some, Result, Ok, Err, Bool, true, false, refl, ap, sym, ◌∙◌, subst, arith}
 use Rattle.std.specs.Prelude.{IfOk}
-use Rattle.fac_lang.specs.declared.memory.Memory.{Memory}
+use Rattle.fac_base.specs.declared.memory.Memory.{Memory}
 use Rattle.fac_endings.specs.declared.draft.Draft.{Draft}
 use Rattle.fac_names.specs.Forms.{changed, counted, is_counted, one_more_if}
 use Rattle.fac_names.specs.inner.Counts.{Recounts}

@@ -2,10 +2,10 @@
 use Rattle.std.proofs.Common.{◌≡◌, ◌≤◌, ◌+◌, ℕ, suc, List, length, Bool, true, false, cond, refl, ap, sym, ◌∙◌, arith}
 use Rattle.std.specs.Prelude.{nat_le}
 use Rattle.std.specs.Str.{bytes_eq}
-use Rattle.fac_lang.specs.Effects.{effect_height, inputs_count}
-use Rattle.fac_lang.specs.Signatures.{Signature, signature, Inputs, no_inputs, value, quoted, Leaving, never, leaves}
+use Rattle.fac_base.specs.Effects.{effect_height, inputs_count}
+use Rattle.fac_base.specs.Signatures.{Signature, signature, Inputs, no_inputs, value, quoted, Leaving, never, leaves}
 use Rattle.fac_lang.specs.Whole.{name_count, inputs_name_count, is_small, leaving_count, row_count}
-use Rattle.fac_lang.specs.declared.token.Token.{Token}
+use Rattle.fac_source.specs.declared.token.Token.{Token}
 use Rattle.fac_effect.specs.WrittenEffects.{Written, written, Entries, no_entries, plain, described, detailed, written_names, entries_names, is_row, plain_name, colon_name, row_if, row_in, values_in, output_names, leaving_in, said, side_inputs, inputs_of, IsEffect}
 use Rattle.fac_endings.proofs.Apart.{and_true}
 

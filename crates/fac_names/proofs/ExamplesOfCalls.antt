@@ -3,17 +3,17 @@ use Rattle.std.specs.Prelude.{ℕ, suc, List, [], ◌∷◌, Option, Some, None,
 use Rattle.std.proofs.Common.{◌≡◌, refl}
 use Rattle.fac_lang.specs.Phrases.{end, wrd, lit, lit_arr, quot, word, bind, local, fry, hole, call_eff, exec_eff}
 use Rattle.fac_lang.specs.Primitives.{built_primitive_words}
-use Rattle.fac_lang.specs.Signatures.{signature, no_inputs, value, leaves}
-use Rattle.fac_lang.specs.declared.phrase.Height.{Height}
+use Rattle.fac_base.specs.Signatures.{signature, no_inputs, value, leaves}
+use Rattle.fac_base.specs.declared.height.Height.{Height}
 use Rattle.fac_lang.specs.declared.program.Lit.TheVariants.{Wref as l_word}
 use Rattle.fac_lang.specs.declared.program.Sort.TheVariants.{Body as body, Generic as generic, Method as method}
-use Rattle.fac_lang.specs.declared.token.TokKind.TheVariants.{Plain as plain_text}
-use Rattle.fac_lang.specs.declared.token.Token.{Token}
-use Rattle.fac_lang.specs.declared.tree.Callee.TheVariants.{Callable, Word}
-use Rattle.fac_lang.specs.declared.tree.Element.TheVariants as element
-use Rattle.fac_lang.specs.declared.tree.Term.TheVariants as term
+use Rattle.fac_source.specs.declared.token.TokKind.TheVariants.{Plain as plain_text}
+use Rattle.fac_source.specs.declared.token.Token.{Token}
+use Rattle.fac_source.specs.declared.tree.Callee.TheVariants.{Callable, Word}
+use Rattle.fac_source.specs.declared.tree.Element.TheVariants as element
+use Rattle.fac_source.specs.declared.tree.Term.TheVariants as term
 use Rattle.fac_vocab.specs.Scopes.{found}
-use Rattle.fac_refusal.specs.declared.refusal.NameKind.TheVariants.{Unknown, Ambiguous}
+use Rattle.fac_source.specs.declared.refusal.NameKind.TheVariants.{Unknown, Ambiguous}
 use Rattle.fac_items.specs.Written.{Node, n_ref, n_call, n_execute, n_fry, n_hole, f_constant, f_defer, f_generic, f_in, f_locals, f_method, f_single, f_symbol, f_using}
 use Rattle.fac_items.specs.FromElements.{nested}
 use Rattle.fac_endings.specs.Words.{no_effect}

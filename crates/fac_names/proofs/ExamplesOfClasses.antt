@@ -3,7 +3,7 @@ use Rattle.std.specs.Prelude.{ℕ, zero, suc, ◌+◌, pos, List, [], ◌∷◌,
 use Rattle.std.proofs.Common.{◌≡◌, refl}
 use Rattle.fac_lang.specs.Phrases.{int, yes as yes_value, end, Item, lit, lit_arr, quot, word, next_method}
 use Rattle.fac_lang.specs.Primitives.{built_primitive_words}
-use Rattle.fac_lang.specs.Signatures.{Signature}
+use Rattle.fac_base.specs.Signatures.{Signature}
 use Rattle.fac_lang.specs.Whole.{plain_effect}
 use Rattle.fac_lang.specs.declared.program.ClassDef.{ClassDef}
 use Rattle.fac_lang.specs.declared.program.Lit.TheVariants.{Int as l_int, Arr as l_arr, Quot as l_quot}
@@ -11,8 +11,8 @@ use Rattle.fac_lang.specs.declared.program.Shape.{Shape}
 use Rattle.fac_lang.specs.declared.program.Shape.TheVariants.{Tuple as tuple_class, Union as union, Single as single}
 use Rattle.fac_lang.specs.declared.program.Sort.TheVariants.{Body as body, Class as class, Isa as isa, Getter as getter, Setter as setter, Putter as putter, Generic as generic, Method as method}
 use Rattle.fac_lang.specs.declared.program.WordDef.{WordDef}
-use Rattle.fac_refusal.specs.declared.refusal.NameFault.{NameFault}
-use Rattle.fac_refusal.specs.declared.refusal.NameKind.TheVariants.{Twice, NotClass, NotGeneric, BadParent, Cycle, TooMany}
+use Rattle.fac_source.specs.declared.refusal.NameFault.{NameFault}
+use Rattle.fac_source.specs.declared.refusal.NameKind.TheVariants.{Twice, NotClass, NotGeneric, BadParent, Cycle, TooMany}
 use Rattle.fac_vocab.specs.Scopes.{found}
 use Rattle.fac_items.specs.Written.{Tok, n_next, Form, f_in, f_using, f_defer, f_symbol, f_tuple, f_union, f_single, f_maker, f_generic, f_method}
 use Rattle.fac_endings.specs.declared.draft.Draft.{Draft}

@@ -4,14 +4,15 @@ use Rattle.std.proofs.Common.{◌≡◌, refl}
 use Rattle.fac_lang.specs.Phrases.{int, end, lit, lit_arr, quot, word, bind, local, fry, hole}
 use Rattle.fac_lang.specs.Primitives.{built_primitive_words}
 use Rattle.fac_lang.specs.declared.program.Lit.TheVariants.{Wref as l_word}
-use Rattle.fac_lang.specs.declared.token.TokKind.TheVariants.{Plain as plain_text}
-use Rattle.fac_lang.specs.declared.token.Token.{Token}
-use Rattle.fac_lang.specs.declared.tree.Bracket.TheVariants.{Quotation, Fry}
-use Rattle.fac_lang.specs.declared.tree.Element.TheVariants as element
-use Rattle.fac_lang.specs.declared.tree.Term.TheVariants as term
-use Rattle.fac_effect.specs.Spellings.{has_integer_form, is_reserved, is_reserved_sign, is_reserved_form, is_reserved_word, is_left_out, spelling_of, sign_spelling, word_spelling}
+use Rattle.fac_source.specs.declared.token.TokKind.TheVariants.{Plain as plain_text}
+use Rattle.fac_source.specs.declared.token.Token.{Token}
+use Rattle.fac_source.specs.declared.tree.Bracket.TheVariants.{Quotation, Fry}
+use Rattle.fac_source.specs.declared.tree.Element.TheVariants as element
+use Rattle.fac_source.specs.declared.tree.Term.TheVariants as term
+use Rattle.fac_source.specs.FormRows.{kind_begun}
+use Rattle.fac_effect.specs.Spellings.{has_integer_form, reserved_spelling, spelling_of, sign_spelling, word_spelling}
 use Rattle.fac_vocab.specs.Scopes.{found}
-use Rattle.fac_refusal.specs.declared.refusal.NameKind.TheVariants.{Unknown, Twice}
+use Rattle.fac_source.specs.declared.refusal.NameKind.TheVariants.{Unknown, Twice}
 use Rattle.fac_items.specs.Written.{Tok, Node, n_locals, n_fry, n_bind, n_hole, n_at, Form, f_locals, f_using}
 use Rattle.fac_items.specs.FromElements.{nested}
 use Rattle.fac_endings.specs.Words.{no_effect}
@@ -100,5 +101,5 @@ fry_in_a_quotation = refl
 -- ( ..r x: integer q: ( y -- z ) b -- c )
 inputs_where_they_stand : written_inputs (spelled (codes "(") 3 ∷ spelled (codes "..r") 4 ∷ spelled (codes "x:") 5 ∷ spelled (codes "integer") 6 ∷ spelled (codes "q:") 7 ∷ spelled (codes "(") 8 ∷ spelled (codes "y") 9 ∷ spelled (codes "--") 10 ∷ spelled (codes "z") 11 ∷ spelled (codes ")") 12 ∷ spelled (codes "b") 13 ∷ spelled (codes "--") 14 ∷ spelled (codes "c") 15 ∷ spelled (codes ")") 16 ∷ []) ≡
     tk (codes "x") 5 ∷ tk (codes "q") 7 ∷ tk (codes "b") 13 ∷ []
-unfolding spelling_of has_integer_form word_spelling sign_spelling is_reserved is_reserved_sign is_reserved_form is_reserved_word is_left_out
+unfolding spelling_of has_integer_form word_spelling sign_spelling kind_begun reserved_spelling
 inputs_where_they_stand = refl

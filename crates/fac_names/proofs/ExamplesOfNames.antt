@@ -1,16 +1,19 @@
 -- Sources, and what they resolve to.
-use Rattle.std.specs.Prelude.{pos, negsuc, List, [], ◌∷◌, None, false, codes}
+use Rattle.std.specs.Prelude.{ℕ, pos, negsuc, List, [], ◌∷◌, None, false, codes}
 use Rattle.std.proofs.Common.{◌≡◌, refl}
 use Rattle.fac_lang.specs.Phrases.{int, str, yes as yes_value, no as no_value, end, lit, lit_arr, word}
 use Rattle.fac_lang.specs.Primitives.{built_primitive_words}
-use Rattle.fac_lang.specs.Signatures.{signature, no_inputs, leaves}
+use Rattle.fac_base.specs.Signatures.{signature, no_inputs, leaves}
 use Rattle.fac_lang.specs.declared.program.Lit.TheVariants.{Int as l_int, True as l_yes, Str as l_str, Arr as l_arr, Wref as l_word, Quot as l_quot}
 use Rattle.fac_lang.specs.declared.program.Sort.TheVariants.{Body as body}
-use Rattle.fac_lang.specs.declared.tree.Bracket.TheVariants.{Quotation, Array}
-use Rattle.fac_lang.specs.declared.tree.Element.TheVariants as element
-use Rattle.fac_lang.specs.declared.tree.Term.TheVariants as term
+use Rattle.fac_source.specs.declared.token.Token.{Token}
+use Rattle.fac_source.specs.declared.tree.Bracket.TheVariants.{Quotation, Array}
+use Rattle.fac_source.specs.declared.tree.Element.TheVariants as element
+use Rattle.fac_source.specs.declared.tree.Literal.TheVariants.{True, False}
+use Rattle.fac_source.specs.declared.tree.Term.TheVariants as term
+use Rattle.fac_effect.specs.Spellings.{plain_token}
 use Rattle.fac_vocab.specs.Scopes.{found}
-use Rattle.fac_refusal.specs.declared.refusal.NameKind.TheVariants.{Unknown, Ambiguous, Twice, NoVocab, Undefined}
+use Rattle.fac_source.specs.declared.refusal.NameKind.TheVariants.{Unknown, Ambiguous, Twice, NoVocab, Undefined}
 use Rattle.fac_items.specs.Written.{given, Form, f_constant, f_in, f_use, f_using, f_from, f_qualified, f_private, f_public, f_defer, f_symbol, f_main, f_define}
 use Rattle.fac_items.specs.FromElements.{nested}
 use Rattle.fac_endings.specs.Words.{no_effect}
@@ -346,6 +349,9 @@ cond_again : resolves ((f_in (tk (codes "combinators") 2) ∷ defined (codes "co
 unfolding known_words built_primitive_words found
 cond_again = refl
 
+abbrev spelled : List ℕ → ℕ → Token
+spelled text t = plain_token (at t) text
+
 -- { [ ] t } f, as its elements
-elements_nested : nested (element.Opens Array (at 1) ∷ element.Opens Quotation (at 2) ∷ element.Closes Quotation (at 3) ∷ element.Item (term.True (at 4)) ∷ element.Closes Array (at 5) ∷ element.Item (term.False (at 6)) ∷ []) ≡ nodes (array (quotation [] 2 ∷ literal yes_value 4 ∷ []) 1 ∷ literal no_value 6 ∷ [])
+elements_nested : nested (element.Opens Array (at 1) ∷ element.Opens Quotation (at 2) ∷ element.Closes Quotation (at 3) ∷ element.Item (term.Literal (spelled (codes "t") 4) True) ∷ element.Closes Array (at 5) ∷ element.Item (term.Literal (spelled (codes "f") 6) False) ∷ []) ≡ nodes (array (quotation [] 2 ∷ literal yes_value 4 ∷ []) 1 ∷ literal no_value 6 ∷ [])
 elements_nested = refl

@@ -1,11 +1,11 @@
 -- The forms of a file, in order.
 use Rattle.std.proofs.Common.{◌≡◌, List, [], ◌∷◌, map, fold, false, refl, ap, sym, ◌∙◌, subst}
-use Rattle.fac_lang.specs.declared.tree.Form.{Form as Flat}
-use Rattle.fac_lang.specs.declared.tree.Form.TheVariants.{Row, Items}
-use Rattle.fac_lang.specs.declared.tree.FormKind.{FormKind}
-use Rattle.fac_lang.specs.declared.tree.FormKind.TheVariants.{In, Use, Using, From, QualifiedWith, Defer, Symbol, Constant, Private, Public, Main, Define, DefineLocals, Tuple, Union, Singleton, Generic, Method, Maker}
-use Rattle.fac_lang.specs.declared.tree.Part.{Part}
-use Rattle.fac_lang.specs.declared.tree.Tree.{Tree}
+use Rattle.fac_source.specs.declared.tree.Form.{Form as Flat}
+use Rattle.fac_source.specs.declared.tree.Form.TheVariants.{Row, Items}
+use Rattle.fac_source.specs.declared.tree.FormKind.{FormKind}
+use Rattle.fac_source.specs.declared.tree.FormKind.TheVariants.{In, Use, Using, From, QualifiedWith, Defer, Symbol, Constant, Private, Public, Main, Define, DefineLocals, Tuple, Union, Singleton, Generic, Method, Maker}
+use Rattle.fac_source.specs.declared.tree.Part.{Part}
+use Rattle.fac_source.specs.declared.tree.Tree.{Tree}
 use Rattle.fac_parse.specs.Trees.{AreForms, AreWellFormed, IsForm, IsWellFormed, MayStandBefore, forms_of}
 use Rattle.fac_vocab.specs.Scopes.{begun}
 use Rattle.fac_items.specs.Written.{Nodes, Form, f_items}

@@ -3,11 +3,12 @@ use Rattle.std.proofs.Common.{◌≡◌, ◌-◌, ℕ, suc, List, [], ◌∷◌,
 use Rattle.std.specs.Prelude.{◌&&◌, codes, nat_le, length, if◌then◌else◌}
 use Rattle.std.specs.Str.{bytes_eq, chars}
 use Rattle.std.proofs.lemmas.Slice.Eq.{bytes_eq-Decides}
-use Rattle.fac_lang.specs.declared.limits.TheConstants.{MOST_ELEMENTS}
-use Rattle.fac_lang.specs.Signatures.{Signature}
-use Rattle.fac_lang.specs.declared.token.TokKind.{TokKind}
-use Rattle.fac_lang.specs.declared.token.TokKind.TheVariants.{Plain, Str}
-use Rattle.fac_lang.specs.declared.token.Token.{Token}
+use Rattle.fac_base.specs.declared.limits.TheConstants.{MOST_ELEMENTS}
+use Rattle.fac_base.specs.Signatures.{Signature}
+use Rattle.fac_source.specs.declared.token.TokKind.{TokKind}
+use Rattle.fac_source.specs.declared.token.TokKind.TheVariants.{Plain, Str}
+use Rattle.fac_source.specs.declared.token.Token.{Token}
+use Rattle.fac_source.specs.declared.tree.Literal.TheVariants.{Text}
 use Rattle.fac_effect.specs.declared.spelling.Spelling.TheVariants as spelled
 use Rattle.fac_effect.specs.SaidEffects.{read_back}
 use Rattle.fac_effect.specs.Spellings.{plain_token, spelling_of, string_spelling, token_spelling, token_text}
@@ -20,11 +21,11 @@ use Rattle.fac_items.specs.Readings.{read_form, with_inputs}
 use Rattle.fac_names.specs.Forms.{Reading, take}
 use Rattle.fac_names.specs.FromFlat.{is_inline, is_recursive, row}
 use Rattle.fac_names.specs.inner.Parts.{IsLocals}
-use Rattle.fac_lang.specs.declared.tree.Element.{Element}
-use Rattle.fac_lang.specs.declared.tree.FormKind.TheVariants.{DefineLocals}
-use Rattle.fac_lang.specs.declared.tree.Mark.{Mark}
-use Rattle.fac_lang.specs.declared.tree.Part.{Part}
-use Rattle.fac_lang.specs.declared.tree.WrittenEffect.{WrittenEffect}
+use Rattle.fac_source.specs.declared.tree.Element.{Element}
+use Rattle.fac_source.specs.declared.tree.FormKind.TheVariants.{DefineLocals}
+use Rattle.fac_source.specs.declared.tree.Mark.{Mark}
+use Rattle.fac_source.specs.declared.tree.Part.{Part}
+use Rattle.fac_source.specs.declared.tree.WrittenEffect.{WrittenEffect}
 use Rattle.fac_names.specs.WrittenInputs.{entry_toks, inputs_of, written_inputs}
 use Rattle.fac_names.specs.declared.inputs.Sign.{Sign}
 use Rattle.fac_names.specs.declared.inputs.Sign.TheVariants.{Opens, Closes, Dashes, Name}
@@ -32,7 +33,7 @@ use Rattle.fac_names.specs.inner.Walks.{Walked, begun, entry_taken, sign_of, sig
 
 -- No name is a sign.
 
-no_string_name : (b : Bool) → cond b spelled.String spelled.Other ≡ spelled.Name → ⊥
+no_string_name : (b : Bool) → cond b (spelled.Literal Text) spelled.Other ≡ spelled.Name → ⊥
 no_string_name true h = cc
 no_string_name false h = cc
 

@@ -6,13 +6,13 @@ use Rattle.std.specs.Option.{option_map}
 use Rattle.std.proofs.lemmas.Bool.Decides.{Decides-ltb}
 use Rattle.std.proofs.lemmas.List.{length_push, length-map}
 use Rattle.fac_lang.specs.BuiltInClasses.{BuiltInClass, built_in_classes}
-use Rattle.fac_lang.specs.CoreWords.{CoreWord, core_word, built_core_words, is_built_core}
+use Rattle.fac_lang.specs.CoreWords.{WrittenCore, core_word, built_core_words}
 use Rattle.fac_lang.proofs.SourcePrograms.{AreSourceWords}
 use Rattle.fac_names.proofs.PrimitiveNumbers.{has_no_repeats, primitive_numbers, words_in}
 use Rattle.fac_lang.specs.Primitives.{Primitive, built_primitives, built_primitive_words, prim_numbered, primitive_word, built_count, is_built_primitive}
 use Rattle.fac_lang.specs.Whole.{times_in}
 use Rattle.fac_lang.specs.declared.program.WordDef.{WordDef}
-use Rattle.fac_refusal.specs.Toks.{number}
+use Rattle.fac_source.specs.Toks.{number}
 use Rattle.fac_vocab.specs.declared.entry.Entry.{Entry}
 use Rattle.fac_vocab.specs.Scopes.{entries_from, word_held}
 use Rattle.fac_endings.specs.declared.draft.Draft.{Draft}
@@ -57,14 +57,14 @@ primitives_built bound n ps (p ∷ rest) same e = (
   primitives_built bound (n + 1) (ps ++ p ∷ []) rest (let more = length_push ps p in omega (arith, same, more)) (append_assoc ps (p ∷ []) rest ∙ e),
 )
 
--- the core words that are built
-abbrev AreCoreRows : List CoreWord → Type 0
+-- the core words
+abbrev AreCoreRows : List WrittenCore → Type 0
 AreCoreRows [] = Unit {0}
-AreCoreRows (row ∷ rows) = (core_word row.number ≡ Some row.word) × (is_built_core row.number ≡ true) × AreCoreRows rows
+AreCoreRows (row ∷ rows) = (core_word row.core ≡ Some row.word) × AreCoreRows rows
 
-cores_built : (bound : ℕ) (rows : List CoreWord) → AreCoreRows rows → AreSourceWords bound (core_words_of rows)
+cores_built : (bound : ℕ) (rows : List WrittenCore) → AreCoreRows rows → AreSourceWords bound (core_words_of rows)
 cores_built bound [] h = tt
-cores_built bound (row ∷ rows) h = (record { row = row.word; row_is = h.0; is_built = h.1; effect_is = refl; not_inline = refl; not_recursive = refl }, cores_built bound rows h.2)
+cores_built bound (row ∷ rows) h = (record { row = row.word; row_is = h.0; effect_is = refl; not_inline = refl; not_recursive = refl }, cores_built bound rows h.1)
 
 predicate_built : (bound k : ℕ) (row : BuiltInClass) (b : Bool) → AreSourceWords bound (predicates_if b row k)
 predicate_built bound k row true = (record { effect_is = refl; not_inline = refl; not_recursive = refl }, tt)
@@ -79,7 +79,7 @@ known_built : (bound : ℕ) → AreSourceWords bound known_words
 unfolding known_words built_primitive_words
 known_built bound =
     built_with bound (primitives_from 0 built_primitive_words ++ core_words_of built_core_words) (class_words_from 0 built_in_classes)
-    (built_with bound (primitives_from 0 built_primitive_words) (core_words_of built_core_words) (primitives_built bound 0 [] built_primitives refl refl) (cores_built bound built_core_words (refl, refl, (refl, refl, (refl, refl, (refl, refl, (refl, refl, (refl, refl, tt))))))))
+    (built_with bound (primitives_from 0 built_primitive_words) (core_words_of built_core_words) (primitives_built bound 0 [] built_primitives refl refl) (cores_built bound built_core_words (refl, (refl, (refl, (refl, (refl, (refl, tt))))))))
     (classes_built bound 0 built_in_classes)
 
 known_distinct : has_no_repeats (primitive_numbers known_words) ≡ true

@@ -1,12 +1,8 @@
 -- The words and classes of the code's tables.
 use Rattle.std.proofs.Common.{◌≡◌, ◌<◌, ◌∙◌, ℕ, List, [], ◌++◌, length, map, drop, refl, ap, sym, append-nil, true, arith, Fits, w32}
 use Rattle.std.proofs.lemmas.List.{length-map}
-use Rattle.fac_lang.specs.BuiltInClasses.{built_in_classes}
-use Rattle.fac_lang.specs.Primitives.{built_primitive_words, built_count}
-use Rattle.fac_lang.specs.Operations.{row_seen, rows_seen}
-use Rattle.fac_lang.specs.WrittenWords.{written_class}
-use Rattle.fac_lang.specs.declared.class_table.ClassRow.{ClassRow}
-use Rattle.fac_lang.specs.declared.primitive_table.PrimitiveRow.{PrimitiveRow}
+use Rattle.fac_lang.specs.BuiltInClasses.{built_in_classes, written_class, TableClass}
+use Rattle.fac_lang.specs.Primitives.{built_primitive_words, built_count, row_seen, rows_seen, TableRow}
 use Rattle.fac_vocab.specs.ScopeCalls.{names_differ}
 use Rattle.fac_vocab.specs.Scopes.{entries_from}
 use Rattle.fac_lang.proofs.TableLemmas.{row_count}
@@ -24,14 +20,14 @@ all_added {R} {W} {D} seen f ds rows n empty none =
     ∙ append-nil ds
 
 -- there are so few that each has a number
-pub row_fits : (rows : List PrimitiveRow) (n : ℕ) → map row_seen rows ≡ rows_seen → n < length rows → Fits w32 n
+pub row_fits : (rows : List TableRow) (n : ℕ) → map row_seen rows ≡ rows_seen → n < length rows → Fits w32 n
 unfolding built_count
 row_fits rows n same less = let count = row_count rows same in omega (arith, count)
 
 class_count : length built_in_classes ≡ 12
 class_count = refl
 
-pub class_fits : (rows : List ClassRow) (n : ℕ) → map written_class rows ≡ built_in_classes → n < length rows → Fits w32 n
+pub class_fits : (rows : List TableClass) (n : ℕ) → map written_class rows ≡ built_in_classes → n < length rows → Fits w32 n
 class_fits rows n same less =
     let count = sym (length-map rows written_class) ∙ ap length same ∙ class_count in
     omega (arith, count, less)

@@ -4,12 +4,12 @@ use Rattle.std.specs.Prelude.{codes, OnOk}
 use Rattle.fac_lang.specs.Phrases.{Phrase, end, then, word}
 use Rattle.fac_lang.specs.PhraseView.{items_phrase}
 use Rattle.fac_lang.specs.RunningLaws.{append}
-use Rattle.fac_lang.specs.Signatures.{Signature}
+use Rattle.fac_base.specs.Signatures.{Signature}
 use Rattle.fac_lang.specs.declared.program.Sort.{Sort}
 use Rattle.fac_lang.specs.declared.program.Sort.TheVariants.{Body as body}
-use Rattle.fac_refusal.specs.declared.refusal.NameFault.{NameFault}
-use Rattle.fac_refusal.specs.Refusals.{sooner}
-use Rattle.fac_refusal.specs.Toks.{number}
+use Rattle.fac_source.specs.declared.refusal.NameFault.{NameFault}
+use Rattle.fac_source.specs.Refusals.{sooner}
+use Rattle.fac_source.specs.Toks.{number}
 use Rattle.fac_vocab.specs.Scopes.{home, word_held}
 use Rattle.fac_items.specs.Items.{ref, search_fault, search_faults}
 use Rattle.fac_items.specs.Made.{made}

@@ -2,18 +2,18 @@
 use Rattle.std.proofs.Common.{◌≡◌, ◌+◌, ◌<◌, ℕ, suc, List, [], ◌∷◌, ◌++◌, length, Bool, true, false, Option, Some, None, cond, refl, ap, sym, ◌∙◌, subst, append_assoc, append-nil, arith}
 use Rattle.std.specs.Prelude.{nat_eq}
 use Rattle.fac_lang.specs.Phrases.{lit, int, yes, no, str, wrd, word, call_eff, exec_eff, next_method}
-use Rattle.fac_lang.specs.declared.phrase.Height.{Height}
-use Rattle.fac_lang.specs.declared.phrase.Place.{Place}
+use Rattle.fac_base.specs.declared.height.Height.{Height}
+use Rattle.fac_base.specs.declared.place.Place.{Place}
 use Rattle.fac_lang.specs.declared.program.Lit.{Lit}
 use Rattle.fac_lang.specs.declared.program.Lit.TheVariants as literal_is
-use Rattle.fac_lang.specs.declared.tree.Bracket.{Bracket}
-use Rattle.fac_lang.specs.declared.tree.Bracket.TheVariants.{Quotation, Array, Fry}
-use Rattle.fac_lang.specs.declared.tree.Callee.{Callee}
-use Rattle.fac_lang.specs.declared.tree.Callee.TheVariants.{Callable, Word}
-use Rattle.fac_lang.specs.declared.tree.Element.{Element}
-use Rattle.fac_lang.specs.declared.tree.Element.TheVariants as element
-use Rattle.fac_lang.specs.declared.tree.Term.{Term}
-use Rattle.fac_lang.specs.declared.tree.Term.TheVariants as term
+use Rattle.fac_source.specs.declared.tree.Bracket.{Bracket}
+use Rattle.fac_source.specs.declared.tree.Bracket.TheVariants.{Quotation, Array, Fry}
+use Rattle.fac_source.specs.declared.tree.Callee.{Callee}
+use Rattle.fac_source.specs.declared.tree.Callee.TheVariants.{Callable, Word}
+use Rattle.fac_source.specs.declared.tree.Element.{Element}
+use Rattle.fac_source.specs.declared.tree.Element.TheVariants as element
+use Rattle.fac_source.specs.declared.tree.Term.{Term}
+use Rattle.fac_source.specs.declared.tree.Term.TheVariants as term
 use Rattle.fac_parse.specs.declared.context.Context.{Context}
 use Rattle.fac_parse.specs.declared.context.Around.{Around}
 use Rattle.fac_parse.specs.declared.context.Around.TheVariants as stands_in
@@ -26,7 +26,8 @@ use Rattle.fac_items.specs.Items.{elements_of, literal, phrase_of, word_of}
 use Rattle.fac_names.specs.Laws.{Longer}
 use Rattle.fac_names.specs.Signs.{Sign, AreOfWords, IsOfWords, PhrasesAreWrittenAsItems, array_signs, element_signs, elements_signs, innermost, phrase_signs, place_in, term_signs, tested_item, value, with_array_signs, with_arrays_signs, closes, one, opens, within}
 use Rattle.fac_names.proofs.Growing.{and_then, elements_longer, phrase_longer, same}
-use Rattle.fac_items.proofs.RawNodes.{IsPlainLiteral}
+use Rattle.fac_effect.specs.Spellings.{token_text}
+use Rattle.fac_items.proofs.RawNodes.{IsPlainLiteral, literal_plain}
 use Rattle.fac_names.proofs.BracketLemmas.{Stand, kind_of, seen_all, steps}
 
 -- Nodes of words: literals, names, calls with a declared effect, next methods, quotations and arrays.
@@ -58,10 +59,7 @@ term_worded : (t : Term) → IsOfWords (element.Item t) → IsWorded (node t)
 term_worded (term.Name t) h = tt
 term_worded (term.Wrapped sign name) h = tt
 term_worded (term.EffectCall callee sign tokens height) h = call_worded callee height sign
-term_worded (term.Integer t z) h = tt
-term_worded (term.Text t) h = tt
-term_worded (term.True place) h = tt
-term_worded (term.False place) h = tt
+term_worded (term.Literal t l) h = literal_plain (token_text t.kind) l
 term_worded (term.NextMethod place) h = tt
 term_worded (term.Bind sign name) h = absurd h
 term_worded (term.Hole place) h = absurd h
@@ -235,18 +233,12 @@ term_alone : (s : Scope) (b : Bracket) (t : Term) → IsNoFry b → IsOfWords (e
 term_alone s Quotation (term.Name t) h w = refl
 term_alone s Quotation (term.Wrapped sign name) h w = refl
 term_alone s Quotation (term.EffectCall callee sign tokens height) h w = call_alone s callee height sign
-term_alone s Quotation (term.Integer t z) h w = refl
-term_alone s Quotation (term.Text t) h w = refl
-term_alone s Quotation (term.True place) h w = refl
-term_alone s Quotation (term.False place) h w = refl
+term_alone s Quotation (term.Literal t l) h w = refl
 term_alone s Quotation (term.NextMethod place) h w = refl
 term_alone s Array (term.Name t) h w = refl
 term_alone s Array (term.Wrapped sign name) h w = refl
 term_alone s Array (term.EffectCall callee sign tokens height) h w = call_in_array s callee height sign
-term_alone s Array (term.Integer t z) h w = refl
-term_alone s Array (term.Text t) h w = refl
-term_alone s Array (term.True place) h w = refl
-term_alone s Array (term.False place) h w = refl
+term_alone s Array (term.Literal t l) h w = refl
 term_alone s Array (term.NextMethod place) h w = refl
 term_alone s Quotation (term.Bind sign name) h w = absurd w
 term_alone s Quotation (term.Hole place) h w = absurd w

@@ -4,9 +4,9 @@ use Rattle.std.proofs.lemmas.List.Sums.{fold-append}
 use Rattle.std.specs.Prelude.{IfOk}
 use Rattle.fac_lang.specs.Whole.{IsWhole}
 use Rattle.fac_lang.specs.declared.program.Program.{Program}
-use Rattle.fac_lang.specs.declared.tree.Form.{Form as Flat}
+use Rattle.fac_source.specs.declared.tree.Form.{Form as Flat}
 use Rattle.fac_parse.specs.Trees.{AreWellFormed}
-use Rattle.fac_refusal.specs.declared.refusal.ResolveFault.{ResolveFault}
+use Rattle.fac_source.specs.declared.refusal.ResolveFault.{ResolveFault}
 use Rattle.fac_vocab.specs.Scopes.{begun}
 use Rattle.fac_names.specs.Forms.{Reading, scoped}
 use Rattle.fac_names.specs.Resolution.{Resolves, first_reading}

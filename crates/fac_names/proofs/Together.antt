@@ -8,7 +8,7 @@ use Rattle.std.proofs.lemmas.Slice.Eq.{bytes_eq-Decides}
 use Rattle.fac_lang.proofs.SourcePrograms.{AreSourceWords, IsSourceSort}
 use Rattle.fac_names.proofs.PrimitiveNumbers.{numbers_before, primitive_numbers, numbers_in}
 use Rattle.fac_lang.specs.Phrases.{Phrase}
-use Rattle.fac_lang.specs.Signatures.{Signature, signature, Inputs, no_inputs, value, quoted, Leaving, never, leaves}
+use Rattle.fac_base.specs.Signatures.{Signature, signature, Inputs, no_inputs, value, quoted, Leaving, never, leaves}
 use Rattle.fac_lang.specs.Whole.{arrays_named, effect_eq, has_generic_effect, inputs_eq, is_effect, is_generic, joined, leaving_eq, name_count, names_eq, no_two, same_method, side_eq, word_phrases}
 use Rattle.fac_lang.specs.declared.program.ClassDef.{ClassDef}
 use Rattle.fac_lang.specs.declared.program.Program.{Program}

@@ -11,9 +11,9 @@ use Rattle.fac_lang.proofs.SourcePrograms.{IsSourceProgram, IsSourcePhrase, IsSo
 use Rattle.fac_lang.specs.Meaning.{sort_of, is_past}
 use Rattle.fac_lang.specs.PrimitiveWords.{PrimitiveWord, plain_inputs, plain_leaving, written_effect}
 use Rattle.fac_lang.specs.Phrases.{Phrase, end, then, Item, lit, int, yes, no, str, wrd, lit_arr, quot, word, bind, local, fry, hole, call_eff, exec_eff, next_method}
-use Rattle.fac_lang.specs.Signatures.{Signature}
+use Rattle.fac_base.specs.Signatures.{Signature}
 use Rattle.fac_lang.specs.Whole.{IsWhole, all_arrays_named, all_phrases, arrays_in, arrays_named, joined, literal_fits, literal_spares, names_earlier, quotations, times_in, each_item, each_numbered, locals_bound, holes_within, item_fits, item_spares, is_body, tests_small, word_phrases, sort_fits, has_written_effect, has_generic_effect, marks_fit, effect_eq, inputs_eq, leaving_eq, names_eq, name_count, no_two, same_word, same_method, is_class, is_effect, is_generic, effect_of, has_its_holes, shape_fits, slots_of, reaches, same_class_name, each_below, plain_effect}
-use Rattle.fac_lang.specs.declared.phrase.Height.{Height}
+use Rattle.fac_base.specs.declared.height.Height.{Height}
 use Rattle.fac_lang.specs.declared.program.ClassDef.{ClassDef}
 use Rattle.fac_lang.specs.declared.program.Lit.{Lit}
 use Rattle.fac_lang.specs.declared.program.Lit.TheVariants.{Int as l_int, True as l_yes, False as l_no, Str as l_str, Arr as l_arr, Wref as l_word, Quot as l_quot, Made as l_made}
@@ -206,7 +206,6 @@ sort_named P _ = true
 
 sort_passes : (P : Program) (bound : ℕ) (d : WordDef) (s : Sort) → IsSourceSort bound d s → sort_named P s ≡ true → sort_fits P s ≡ true
 sort_passes P bound d (prim k) h fits = rw h.row_is refl
-sort_passes P bound d (core k) h fits = rw h.row_is refl
 sort_passes P bound d (class c) h fits = fits
 sort_passes P bound d (isa c) h fits = fits
 sort_passes P bound d (method c g t) h fits = fits

@@ -1,18 +1,18 @@
 -- How sources and answers are written in examples.
 use Rattle.std.specs.Prelude.{ℕ, ◌+◌, List, [], ◌∷◌, length, drop, Result, Ok, Err, Bool, false, codes}
 use Rattle.fac_lang.specs.Phrases.{Plain, Phrase, end, then as placed, Item}
-use Rattle.fac_lang.specs.Signatures.{Signature}
-use Rattle.fac_lang.specs.declared.phrase.Place.{Place}
+use Rattle.fac_base.specs.Signatures.{Signature}
+use Rattle.fac_base.specs.declared.place.Place.{Place}
 use Rattle.fac_lang.specs.declared.program.Lit.{Lit}
-use Rattle.fac_lang.specs.declared.program.Name.{Name as FullName}
+use Rattle.fac_base.specs.declared.name.Name.{Name as FullName}
 use Rattle.fac_lang.specs.declared.program.Sort.{Sort}
 use Rattle.fac_lang.specs.declared.program.Sort.TheVariants.{Body as body}
 use Rattle.fac_lang.specs.declared.program.WordDef.{WordDef}
 use Rattle.fac_vocab.specs.Scopes.{entries_from, word_held}
-use Rattle.fac_refusal.specs.declared.refusal.NameFault.{NameFault}
-use Rattle.fac_refusal.specs.declared.refusal.NameKind.{NameKind}
+use Rattle.fac_source.specs.declared.refusal.NameFault.{NameFault}
+use Rattle.fac_source.specs.declared.refusal.NameKind.{NameKind}
 use Rattle.fac_items.specs.Written.{Tok, Node, n_lit, n_array, n_name, n_quot, Nodes, nothing, given, Form, f_using, f_define, f_items, more}
-use Rattle.fac_refusal.specs.Toks.{number}
+use Rattle.fac_source.specs.Toks.{number}
 use Rattle.fac_endings.specs.Words.{no_effect}
 use Rattle.fac_names.specs.KnownWords.{known_words}
 use Rattle.fac_names.specs.Resolved.{Known, read_files}

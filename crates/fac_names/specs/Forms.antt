@@ -3,11 +3,11 @@ use Rattle.std.specs.Prelude.{ℕ, zero, suc, ◌+◌, nat_lt, nat_le, List, [],
 use Rattle.std.specs.List.{list_any}
 use Rattle.std.specs.Option.{option_map}
 use Rattle.fac_lang.specs.RunningLaws.{append}
-use Rattle.fac_lang.specs.Signatures.{Signature}
+use Rattle.fac_base.specs.Signatures.{Signature}
 use Rattle.fac_lang.specs.Phrases.{Phrase, end, then as placed, word}
 use Rattle.fac_lang.specs.Whole.{plain_effect}
-use Rattle.fac_lang.specs.declared.limits.TheConstants.{MOST_CLASSES}
-use Rattle.fac_lang.specs.declared.phrase.Place.{Place}
+use Rattle.fac_base.specs.declared.limits.TheConstants.{MOST_CLASSES}
+use Rattle.fac_base.specs.declared.place.Place.{Place}
 use Rattle.fac_lang.specs.declared.program.ClassDef.{ClassDef}
 use Rattle.fac_lang.specs.declared.program.Lit.{Lit}
 use Rattle.fac_lang.specs.declared.program.Sort.{Sort}
@@ -18,9 +18,9 @@ use Rattle.fac_items.specs.Readings.{read_items, read_forms}
 use Rattle.fac_vocab.specs.declared.entry.Entry.{Entry}
 use Rattle.fac_vocab.specs.declared.brought.Brought.TheVariants.{Named as named, Prefixed as prefixed}
 use Rattle.fac_vocab.specs.Scopes.{Scope, exists, word_held, begun, entered, using_vocab, bringing, home, holders, with_entry, now_defined}
-use Rattle.fac_refusal.specs.declared.refusal.NameFault.{NameFault}
-use Rattle.fac_refusal.specs.declared.refusal.NameKind.TheVariants.{Unknown, Twice, NoVocab, TooMany}
-use Rattle.fac_refusal.specs.Refusals.{fault, fault_if, sooner}
+use Rattle.fac_source.specs.declared.refusal.NameFault.{NameFault}
+use Rattle.fac_source.specs.declared.refusal.NameKind.TheVariants.{Unknown, Twice, NoVocab, TooMany}
+use Rattle.fac_source.specs.Refusals.{fault, fault_if, sooner}
 use Rattle.fac_items.specs.Items.{search_fault, search_faults, ref, word_of, is_cond, items_faults, phrase_of}
 use Rattle.fac_endings.specs.Words.{no_effect, plain_word}
 -- words and classes as forms tell them

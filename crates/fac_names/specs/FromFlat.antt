@@ -1,17 +1,17 @@
 -- Trees, which are flat and have all tokens, as they are read for their names.
 use Rattle.std.specs.Prelude.{List, [], ◌∷◌, map, Option, None, Bool, true, false}
 use Rattle.std.specs.Option.{option_map}
-use Rattle.fac_lang.specs.Signatures.{Signature, signature, no_inputs, leaves}
-use Rattle.fac_lang.specs.declared.tree.Element.{Element}
-use Rattle.fac_lang.specs.declared.tree.Form.{Form as Flat}
-use Rattle.fac_lang.specs.declared.tree.Form.TheVariants.{Row, Items}
-use Rattle.fac_lang.specs.declared.tree.FormKind.{FormKind}
-use Rattle.fac_lang.specs.declared.tree.FormKind.TheVariants.{In, Use, Using, From, QualifiedWith, Defer, Symbol, Constant, Private, Public, Main, Define, DefineLocals, Tuple, Union, Singleton, Generic, Method, Maker}
-use Rattle.fac_lang.specs.declared.tree.Mark.{Mark}
-use Rattle.fac_lang.specs.declared.tree.Mark.TheVariants.{Inline, Recursive}
-use Rattle.fac_lang.specs.declared.tree.Parent.{Parent}
-use Rattle.fac_lang.specs.declared.tree.Part.{Part}
-use Rattle.fac_lang.specs.declared.tree.Part.TheVariants as part
+use Rattle.fac_base.specs.Signatures.{Signature, signature, no_inputs, leaves}
+use Rattle.fac_source.specs.declared.tree.Element.{Element}
+use Rattle.fac_source.specs.declared.tree.Form.{Form as Flat}
+use Rattle.fac_source.specs.declared.tree.Form.TheVariants.{Row, Items}
+use Rattle.fac_source.specs.declared.tree.FormKind.{FormKind}
+use Rattle.fac_source.specs.declared.tree.FormKind.TheVariants.{In, Use, Using, From, QualifiedWith, Defer, Symbol, Constant, Private, Public, Main, Define, DefineLocals, Tuple, Union, Singleton, Generic, Method, Maker}
+use Rattle.fac_source.specs.declared.tree.Mark.{Mark}
+use Rattle.fac_source.specs.declared.tree.Mark.TheVariants.{Inline, Recursive}
+use Rattle.fac_source.specs.declared.tree.Parent.{Parent}
+use Rattle.fac_source.specs.declared.tree.Part.{Part}
+use Rattle.fac_source.specs.declared.tree.Part.TheVariants as part
 use Rattle.fac_items.specs.FromElements.{nested, tok}
 use Rattle.fac_names.specs.WrittenInputs.{written_inputs}
 use Rattle.fac_items.specs.Written.{Tok, Node, n_part, Nodes, nothing, more, given, Form, f_in, f_use, f_using, f_from, f_qualified, f_private, f_public, f_defer, f_symbol, f_constant, f_main, f_define, f_locals, f_tuple, f_union, f_single, f_maker, f_generic, f_method, f_items}

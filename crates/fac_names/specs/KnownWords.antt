@@ -1,7 +1,7 @@
 -- The words and classes that there are before a source is read.
 use Rattle.std.specs.Prelude.{ℕ, ◌+◌, List, [], ◌∷◌, ◌++◌, Bool, true, false, codes}
 use Rattle.fac_lang.specs.BuiltInClasses.{BuiltInClass, built_in_classes}
-use Rattle.fac_lang.specs.CoreWords.{CoreWord, built_core_words}
+use Rattle.fac_lang.specs.CoreWords.{WrittenCore, built_core_words}
 use Rattle.fac_lang.specs.PrimitiveWords.{PrimitiveWord, written_effect}
 use Rattle.fac_lang.specs.Primitives.{built_primitive_words}
 use Rattle.fac_lang.specs.Whole.{plain_effect}
@@ -21,10 +21,10 @@ abbrev pub primitives_from : ℕ → List PrimitiveWord → List WordDef
 primitives_from n [] = []
 primitives_from n (row ∷ rows) = row_word row (Prim n) ∷ primitives_from (n + 1) rows
 
--- core words, by their numbers
-abbrev pub core_words_of : List CoreWord → List WordDef
+-- core words
+abbrev pub core_words_of : List WrittenCore → List WordDef
 core_words_of [] = []
-core_words_of (row ∷ rows) = row_word row.word (Core row.number) ∷ core_words_of rows
+core_words_of (row ∷ rows) = row_word row.word (Core row.core) ∷ core_words_of rows
 
 -- the word of a built-in class
 abbrev pub class_word : BuiltInClass → ℕ → WordDef

@@ -2,14 +2,14 @@
 use Rattle.std.specs.Prelude.{ℕ, ◌≡◌, ◌<◌, nat_eq, List, ◌++◌, map, length, slice_get, fold, Option, Some, Ok, Bool, true, false, ◌&&◌, not, is_some, codes}
 use Rattle.std.specs.List.{list_all}
 use Rattle.fac_lang.specs.Whole.{IsWhole, no_two, same_name}
-use Rattle.fac_lang.specs.declared.program.Name.{Name as FullName}
+use Rattle.fac_base.specs.declared.name.Name.{Name as FullName}
 use Rattle.fac_lang.specs.declared.program.Sort.TheVariants.{Past as past, Method as method}
 use Rattle.fac_lang.specs.declared.program.WordDef.{WordDef}
 use Rattle.fac_vocab.specs.declared.entry.Entry.{Entry}
 use Rattle.fac_vocab.specs.Scopes.{word_held}
-use Rattle.fac_refusal.specs.declared.refusal.NameFault.{NameFault}
+use Rattle.fac_source.specs.declared.refusal.NameFault.{NameFault}
 use Rattle.fac_items.specs.Written.{Form}
-use Rattle.fac_refusal.specs.Refusals.{sooner}
+use Rattle.fac_source.specs.Refusals.{sooner}
 use Rattle.fac_endings.specs.declared.draft.Draft.{Draft}
 use Rattle.fac_names.specs.Forms.{Reading, take}
 use Rattle.fac_names.specs.Resolved.{Known, resolved_after}

@@ -3,13 +3,13 @@ use Rattle.std.specs.Prelude.{◌≡◌, List, [], map, None, Result, Ok, Err, f
 use Rattle.fac_lang.specs.Phrases.{end}
 use Rattle.fac_lang.specs.declared.program.Program.{Program}
 use Rattle.fac_lang.specs.declared.program.WordDef.{WordDef}
-use Rattle.fac_lang.specs.declared.tree.Form.{Form as Flat}
+use Rattle.fac_source.specs.declared.tree.Form.{Form as Flat}
 use Rattle.fac_lang.specs.Whole.{IsWhole}
 use Rattle.fac_parse.specs.Trees.{AreWellFormed}
 use Rattle.fac_vocab.specs.Scopes.{first_scope}
-use Rattle.fac_refusal.specs.declared.refusal.NameFault.{NameFault}
-use Rattle.fac_refusal.specs.declared.refusal.ResolveFault.{ResolveFault}
-use Rattle.fac_refusal.specs.declared.refusal.ResolveFault.TheVariants.{Name, Memory}
+use Rattle.fac_source.specs.declared.refusal.NameFault.{NameFault}
+use Rattle.fac_source.specs.declared.refusal.ResolveFault.{ResolveFault}
+use Rattle.fac_source.specs.declared.refusal.ResolveFault.TheVariants.{Name, Memory}
 use Rattle.fac_endings.specs.declared.draft.Draft.{Draft}
 use Rattle.fac_endings.specs.declared.draft.Late.TheVariants.{Settled as settled}
 use Rattle.fac_names.specs.Forms.{Reading}

@@ -6,7 +6,7 @@ use Rattle.fac_lang.specs.declared.program.Program.{Program}
 use Rattle.fac_lang.specs.declared.program.Sort.{Sort}
 use Rattle.fac_lang.specs.declared.program.Sort.TheVariants.{Body as body, Past as past}
 use Rattle.fac_lang.specs.declared.program.WordDef.{WordDef}
-use Rattle.fac_refusal.specs.declared.refusal.NameFault.{NameFault}
+use Rattle.fac_source.specs.declared.refusal.NameFault.{NameFault}
 use Rattle.fac_vocab.specs.Scopes.{Scope}
 use Rattle.fac_items.specs.Written.{Form}
 use Rattle.fac_endings.specs.declared.draft.Draft.{Draft}

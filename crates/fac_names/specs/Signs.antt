@@ -1,23 +1,23 @@
 -- Phrases as they are written: a resolved phrase, printed again, is the elements that it was made of.
 use Rattle.std.specs.Prelude.{◌≡◌, ℕ, suc, nat_eq, List, [], ◌∷◌, ◌++◌, Option, Some, None, if◌then◌else◌}
-use Rattle.fac_lang.specs.Phrases.{Phrase, end, then as placed, Item, lit, lit_arr, int, yes, no, str, wrd, quot, word, call_eff, exec_eff, next_method}
-use Rattle.fac_lang.specs.declared.phrase.Height.{Height}
-use Rattle.fac_lang.specs.declared.phrase.Place.{Place}
+use Rattle.fac_lang.specs.Phrases.{Phrase, end, then as placed, Item, lit, lit_arr, wrd, quot, word, call_eff, exec_eff, next_method}
+use Rattle.fac_base.specs.declared.height.Height.{Height}
+use Rattle.fac_base.specs.declared.place.Place.{Place}
 use Rattle.fac_lang.specs.declared.program.Lit.{Lit}
 use Rattle.fac_lang.specs.declared.program.Lit.TheVariants as literal
-use Rattle.fac_lang.specs.declared.tree.Bracket.{Bracket}
-use Rattle.fac_lang.specs.declared.tree.Bracket.TheVariants.{Quotation, Array, Fry}
-use Rattle.fac_lang.specs.declared.tree.Callee.{Callee}
-use Rattle.fac_lang.specs.declared.tree.Callee.TheVariants.{Callable, Word}
-use Rattle.fac_lang.specs.declared.tree.Element.{Element}
-use Rattle.fac_lang.specs.declared.tree.Element.TheVariants as element
-use Rattle.fac_lang.specs.declared.tree.Term.{Term}
-use Rattle.fac_lang.specs.declared.tree.Term.TheVariants as term
+use Rattle.fac_source.specs.declared.tree.Bracket.{Bracket}
+use Rattle.fac_source.specs.declared.tree.Bracket.TheVariants.{Quotation, Array, Fry}
+use Rattle.fac_source.specs.declared.tree.Callee.{Callee}
+use Rattle.fac_source.specs.declared.tree.Callee.TheVariants.{Callable, Word}
+use Rattle.fac_source.specs.declared.tree.Element.{Element}
+use Rattle.fac_source.specs.declared.tree.Element.TheVariants as element
+use Rattle.fac_source.specs.declared.tree.Term.{Term}
+use Rattle.fac_source.specs.declared.tree.Term.TheVariants as term
 use Rattle.fac_parse.specs.Trees.{AreItems}
 use Rattle.fac_effect.specs.Spellings.{token_text}
 use Rattle.fac_vocab.specs.Scopes.{Scope}
-use Rattle.fac_items.specs.FromElements.{nested, tok}
-use Rattle.fac_items.specs.Items.{word_of}
+use Rattle.fac_items.specs.FromElements.{literal_value, nested, tok}
+use Rattle.fac_items.specs.Items.{literal as element_of, word_of}
 use Rattle.fac_items.specs.Made.{made, nodes_read}
 
 -- What is written: an item at its place, a value directly in an array, or a bracket. What stands directly in an array has no place.
@@ -85,17 +85,11 @@ abbrev pub term_signs : Scope → Bracket → Term → List Sign
 term_signs s Quotation (term.Name t) = one (word (word_of s (tok t))) t.place ∷ []
 term_signs s Quotation (term.Wrapped sign name) = one (lit (wrd (word_of s (tok name)))) sign ∷ []
 term_signs s Quotation (term.EffectCall callee sign tokens height) = one (tested_item callee height) sign ∷ []
-term_signs s Quotation (term.Integer t z) = one (lit (int z)) t.place ∷ []
-term_signs s Quotation (term.Text t) = one (lit (str (token_text t.kind))) t.place ∷ []
-term_signs s Quotation (term.True place) = one (lit yes) place ∷ []
-term_signs s Quotation (term.False place) = one (lit no) place ∷ []
+term_signs s Quotation (term.Literal t l) = one (lit (literal_value (token_text t.kind) l)) t.place ∷ []
 term_signs s Quotation (term.NextMethod place) = one next_method place ∷ []
 term_signs s Array (term.Name t) = value (literal.Wref (word_of s (tok t))) ∷ []
 term_signs s Array (term.Wrapped sign name) = value (literal.Wref (word_of s (tok name))) ∷ []
-term_signs s Array (term.Integer t z) = value (literal.Int z) ∷ []
-term_signs s Array (term.Text t) = value (literal.Str (token_text t.kind)) ∷ []
-term_signs s Array (term.True place) = value literal.True ∷ []
-term_signs s Array (term.False place) = value literal.False ∷ []
+term_signs s Array (term.Literal t l) = value (element_of (literal_value (token_text t.kind) l)) ∷ []
 term_signs s _ _ = []
 
 abbrev pub rest_of : List Bracket → List Bracket

@@ -1,6 +1,6 @@
 -- What forms come to that are taken one behind the other, as they are read.
 use Rattle.std.specs.Prelude.{◌≡◌, List, fold}
-use Rattle.fac_lang.specs.declared.tree.Form.{Form as Flat}
+use Rattle.fac_source.specs.declared.tree.Form.{Form as Flat}
 use Rattle.fac_vocab.specs.Scopes.{begun}
 use Rattle.fac_items.specs.Readings.{read_form}
 use Rattle.fac_names.specs.Forms.{Reading, scoped, take}

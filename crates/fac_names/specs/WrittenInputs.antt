@@ -1,6 +1,6 @@
 -- The inputs of an effect, each where its token stands.
 use Rattle.std.specs.Prelude.{List, [], ◌∷◌, Some}
-use Rattle.fac_lang.specs.declared.token.Token.{Token}
+use Rattle.fac_source.specs.declared.token.Token.{Token}
 use Rattle.fac_effect.specs.SaidEffects.{Ending, outside, read_back}
 use Rattle.fac_effect.specs.WrittenEffects.{written, Entries, no_entries, plain, described, detailed, colon_name, plain_name, values_in}
 use Rattle.fac_items.specs.Written.{Tok}

@@ -9,9 +9,11 @@ ghost use Rattle.fac_names.specs.inner.State.{reading_of};
 use crate::forms::plainly;
 use crate::naming::define_name;
 use crate::so_far::SoFar;
+use fac_base::{Effect, Memory, Name, Place, Text};
 use fac_effect::text;
 use fac_endings::plain_effect;
-use fac_lang::{Effect, Memory, Name, Place, Sort, Text, Token};
+use fac_lang::Sort;
+use fac_source::Token;
 use fac_vocab::Standing;
 use std::alloc::Global;
 

@@ -5,7 +5,7 @@ ghost use Rattle.fac_lang.specs.Phrases.{end, then, word};
 ghost use Rattle.fac_lang.specs.RunningLaws.{append};
 ghost use Rattle.fac_lang.specs.declared.program.Sort.TheVariants.{Body};
 ghost use Rattle.fac_vocab.specs.Scopes.{word_held};
-ghost use Rattle.fac_refusal.specs.Toks.{number};
+ghost use Rattle.fac_source.specs.Toks.{number};
 ghost use Rattle.fac_endings.specs.Words.{no_effect};
 ghost use Rattle.fac_items.specs.FromElements.{AreClosing, nested, tok};
 ghost use Rattle.fac_items.specs.Items.{ref, search_faults};
@@ -19,13 +19,12 @@ use crate::drafts::Told;
 use crate::forms::sole_item;
 use crate::naming::own;
 use crate::so_far::SoFar;
+use fac_base::{Boxed, Effect, Memory, Name, Place, Text};
 use fac_effect::text;
 use fac_endings::{Late, no_effect};
 use fac_items::{NameAt, phrase_of, refer};
-use fac_lang::{
-    Boxed, Effect, Element, Item, Memory, Name, Phrase, Place, Sort, Text, Token, What,
-};
-use fac_refusal::Ref;
+use fac_lang::{Item, Phrase, Sort, What};
+use fac_source::{Element, Ref, Token};
 use std::alloc::Global;
 
 // The phrase of items behind the bindings of inputs.

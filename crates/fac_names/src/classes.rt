@@ -2,8 +2,8 @@
 ghost use Rattle.std.specs.Prelude.{◌≡◌, ◌+◌, ◌++◌, ◌∷◌, ◌&&◌, [], codes, fold, length, map, nat_le, nat_lt, IfOk, OnOk};
 ghost use Rattle.std.specs.Option.{option_copied, option_map};
 ghost use Rattle.fac_lang.specs.declared.program.Sort.TheVariants.{Isa};
-ghost use Rattle.fac_refusal.specs.Refusals.{fault_if, sooner};
-ghost use Rattle.fac_refusal.specs.declared.refusal.NameKind.TheVariants.{TooMany};
+ghost use Rattle.fac_source.specs.Refusals.{fault_if, sooner};
+ghost use Rattle.fac_source.specs.declared.refusal.NameKind.TheVariants.{TooMany};
 ghost use Rattle.fac_vocab.specs.Scopes.{home};
 ghost use Rattle.fac_items.specs.FromElements.{tok};
 ghost use Rattle.fac_items.specs.Items.{ref, search_fault, search_faults};
@@ -16,12 +16,13 @@ ghost use Rattle.fac_names.specs.inner.Tuples.{tuple_form};
 use crate::forms::plainly;
 use crate::naming::{define_name, full_name, own};
 use crate::so_far::SoFar;
+use fac_base::limits::MOST_CLASSES;
+use fac_base::{List, Memory, Name};
 use fac_effect::text;
 use fac_endings::{Named, NewClass, plain_effect};
 use fac_items::{refer, refuse_token, tok_of};
-use fac_lang::limits::MOST_CLASSES;
-use fac_lang::{List, Memory, Name, Sort, Token};
-use fac_refusal::{NameFault, NameKind, Ref, Tok};
+use fac_lang::Sort;
+use fac_source::{NameFault, NameKind, Ref, Tok, Token};
 use fac_vocab::Scope;
 use std::alloc::Global;
 

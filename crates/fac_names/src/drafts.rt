@@ -3,8 +3,9 @@ ghost use Rattle.std.specs.Prelude.{◌≡◌, ◌++◌, ◌∷◌, [], length, 
 ghost use Rattle.fac_names.specs.Forms.{at_place, changed, counted, draft_of, is_class_sort, is_counted, one_more_if, with_told};
 ghost use Rattle.fac_names.specs.inner.Counts.{Recounts};
 
+use fac_base::{Effect, Memory, Name, Place};
 use fac_endings::{Draft, Late, no_effect};
-use fac_lang::{Effect, Memory, Name, Place, Sort, WordDef};
+use fac_lang::{Sort, WordDef};
 use std::alloc::Global;
 use std::marker::Model;
 

@@ -1,7 +1,7 @@
 //! Forms and files, in order.
 ghost use Rattle.std.specs.Prelude.{◌≡◌, fold, OnOk};
-ghost use Rattle.fac_lang.specs.declared.tree.FormKind.TheVariants.{Constant, Define, DefineLocals, Generic, Method, Tuple, Union};
-ghost use Rattle.fac_parse.specs.Rows.{slots_of};
+ghost use Rattle.fac_source.specs.declared.tree.FormKind.TheVariants.{Constant, Define, DefineLocals, Generic, Method, Tuple, Union};
+ghost use Rattle.fac_source.specs.FormRows.{slots_of};
 ghost use Rattle.fac_parse.specs.Trees.{AreForms, FillAll, IsForm};
 ghost use Rattle.fac_items.specs.FromElements.{nested, tok};
 ghost use Rattle.fac_items.specs.Readings.{read_form};
@@ -26,8 +26,9 @@ use crate::parts::{
     marks_inline, marks_recursive, method_parts, sole_name, tuple_parts, two_names, union_parts,
 };
 use crate::so_far::SoFar;
+use fac_base::{Boxed, List, Memory};
 use fac_endings::plain_effect;
-use fac_lang::{Boxed, Form, FormKind, List, Memory, Parent, Part, Token};
+use fac_source::{Form, FormKind, Parent, Part, Token};
 use std::alloc::Global;
 
 // Takes the definition of a word.

@@ -11,11 +11,12 @@ ghost use Rattle.fac_names.specs.inner.State.{reading_of};
 use crate::drafts::Told;
 use crate::naming::{defer, own};
 use crate::so_far::SoFar;
+use fac_base::{Effect, Memory, Place};
 use fac_effect::text;
 use fac_endings::{Late, plain_effect};
 use fac_items::{refuse_token, word_of};
-use fac_lang::{Effect, Item, Memory, Place, Sort, Token, What};
-use fac_refusal::NameKind;
+use fac_lang::{Item, Sort, What};
+use fac_source::{NameKind, Token};
 use fac_vocab::ScopeFault;
 use std::alloc::Global;
 

@@ -1,15 +1,16 @@
 //! The inputs of an effect, as they are written.
 ghost use Rattle.std.specs.Prelude.{◌≡◌, false, fold, map, true, IfOk, MatchOption, OnOk};
-ghost use Rattle.fac_lang.specs.Signatures.{Signature};
+ghost use Rattle.fac_base.specs.Signatures.{Signature};
 ghost use Rattle.fac_effect.specs.WrittenEffects.{IsEffect, is_colon, is_row, without_colon};
 ghost use Rattle.fac_effect.specs.Spellings.{is_described_name};
 ghost use Rattle.fac_items.specs.inner.Behind.{name_tok};
 ghost use Rattle.fac_names.specs.WrittenInputs.{written_inputs};
 ghost use Rattle.fac_names.specs.inner.Walks.{begun, dashes_at_depth, entry_taken, entry_tok, name_at_depth, name_taken, sign_of, sign_taken, token_taken, walk_seen};
 
+use fac_base::Memory;
 use fac_effect::text;
 use fac_items::NameAt;
-use fac_lang::{Memory, Token};
+use fac_source::Token;
 use std::alloc::Global;
 
 // What a token is to an effect.

@@ -1,21 +1,21 @@
 //! The words and classes that there are before a source is read.
 ghost use Rattle.std.specs.Prelude.{◌≡◌, ◌++◌, ◌∷◌, [], map, true, IfOk, OnOk};
 ghost use Rattle.std.specs.Option.{option_map};
-ghost use Rattle.fac_lang.specs.BuiltInClasses.{built_in_classes};
+ghost use Rattle.fac_lang.specs.BuiltInClasses.{built_in_classes, written_class};
 ghost use Rattle.fac_lang.specs.CoreWords.{built_core_words};
-ghost use Rattle.fac_lang.specs.EffectView.{outs_leaving};
+ghost use Rattle.fac_base.specs.EffectView.{outs_leaving};
 ghost use Rattle.fac_lang.specs.PrimitiveWords.{plain_leaving, written_effect};
 ghost use Rattle.fac_lang.specs.Primitives.{built_primitive_words};
-ghost use Rattle.fac_lang.specs.WrittenWords.{written_class, written_word};
+ghost use Rattle.fac_lang.specs.WrittenWords.{written_word};
 ghost use Rattle.fac_endings.specs.Words.{nowhere, plain_word};
 ghost use Rattle.fac_names.specs.KnownWords.{class_word, class_words_from, classes_from, core_words_of, known_classes, known_words, predicates_if, primitives_from, row_word};
 ghost use Rattle.fac_lang.specs.declared.program.Shape.TheVariants.{Kind};
 
 use crate::naming::full_name;
+use fac_base::{Effect, List, Memory, Name, Outs, Place};
 use fac_endings::{inputs, plain_effect, texts};
 use fac_lang::{
-    ClassDef, ClassRow, Effect, List, Memory, Name, Outs, Place, Shape, Sort, WordDef, WordRow,
-    built_in_classes, core_words, primitives,
+    ClassDef, ClassRow, Shape, Sort, WordDef, WordRow, built_in_classes, core_words, primitives,
 };
 use std::alloc::Global;
 
@@ -103,7 +103,7 @@ fn add_core_words(alloc: Global, words: &mut List<WordDef>) -> Result<(), Memory
 {
     let rows = core_words();
     for row in rows {
-        add_word(alloc, words, &row.word, Sort::Core(row.number))?;
+        add_word(alloc, words, &row.word, Sort::Core(row.core))?;
     }
     Ok(())
 }

@@ -15,6 +15,6 @@ mod parts;
 mod resolver;
 mod so_far;
 
-pub use fac_refusal::{NameFault, NameKind, ResolveFault};
+pub use fac_source::{NameFault, NameKind, ResolveFault};
 pub use laws::{phrases_are_written_as_items, resolved_programs_are_whole};
 pub use resolver::Resolver;

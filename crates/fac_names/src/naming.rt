@@ -8,10 +8,10 @@ ghost use Rattle.fac_names.specs.Forms.{deferring};
 ghost use Rattle.fac_names.specs.inner.State.{Owns, Settles, reading_of, tok_at};
 
 use crate::so_far::SoFar;
+use fac_base::{Memory, Name, Place, Text};
 use fac_effect::text;
 use fac_items::refuse_token;
-use fac_lang::{Memory, Name, Place, Text, Token};
-use fac_refusal::{NameKind, refuse_name};
+use fac_source::{NameKind, Token, refuse_name};
 use fac_vocab::{Scope, ScopeFault, Standing};
 use std::alloc::Global;
 

@@ -1,13 +1,14 @@
 //! The parts of rows.
 ghost use Rattle.std.specs.Prelude.{◌≡◌, ◌∷◌, [], drop};
-ghost use Rattle.fac_lang.specs.declared.tree.Key.TheVariants.{Arrow};
-ghost use Rattle.fac_lang.specs.declared.tree.Part.TheVariants as part;
-ghost use Rattle.fac_parse.specs.declared.rows.Slot.TheVariants as slot;
+ghost use Rattle.fac_source.specs.declared.tree.Key.TheVariants.{Arrow};
+ghost use Rattle.fac_source.specs.declared.tree.Part.TheVariants as part;
+ghost use Rattle.fac_source.specs.declared.form_table.Slot.TheVariants as slot;
 ghost use Rattle.fac_parse.specs.Trees.{FillAll};
 ghost use Rattle.fac_names.specs.FromFlat.{is_inline, is_recursive};
 ghost use Rattle.fac_names.specs.inner.Parts.{AreBrought, IsConstant, IsDefinition, IsLocals, IsMethod, IsNamesPart, IsTuple, IsUnion};
 
-use fac_lang::{Boxed, Element, Mark, Parent, Part, Token, WrittenEffect};
+use fac_base::Boxed;
+use fac_source::{Element, Mark, Parent, Part, Token, WrittenEffect};
 
 /// The one name of a row.
 pub fn sole_name(parts: &[Part]) -> &Token

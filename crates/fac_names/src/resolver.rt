@@ -1,7 +1,7 @@
 //! Forms to a program.
 ghost use Rattle.std.specs.Prelude.{◌≡◌, ◌++◌, ◌∷◌, [], map, IfOk, List as Items, OnOk};
 ghost use Rattle.fac_lang.specs.Whole.{IsWhole};
-ghost use Rattle.fac_lang.specs.declared.tree.Form.{Form};
+ghost use Rattle.fac_source.specs.declared.tree.Form.{Form};
 ghost use Rattle.fac_parse.specs.Trees.{AreForms, AreWellFormed};
 ghost use Rattle.fac_names.specs.Resolution.{Resolves, first_reading, settled_draft};
 ghost use Rattle.fac_names.specs.Taken.{HasTaken};
@@ -14,9 +14,10 @@ use crate::files::take_forms;
 use crate::forms::begin_file;
 use crate::known_words::{first_classes, first_words};
 use crate::so_far::SoFar;
+use fac_base::{List, Memory};
 use fac_endings::{Draft, Gathered, Late, ended};
-use fac_lang::{Form, Item, List, Memory, Program, WordDef};
-use fac_refusal::ResolveFault;
+use fac_lang::{Item, Program, WordDef};
+use fac_source::{Form, ResolveFault};
 use fac_vocab::Scope;
 use std::alloc::Global;
 

@@ -1,8 +1,9 @@
 //! What was read so far.
 use crate::drafts::Drafts;
+use fac_base::List;
 use fac_endings::NewClass;
-use fac_lang::{ClassDef, Item, List, Lit};
-use fac_refusal::NameFault;
+use fac_lang::{ClassDef, Item, Lit};
+use fac_source::NameFault;
 use fac_vocab::Scope;
 
 /// What the forms so far come to.

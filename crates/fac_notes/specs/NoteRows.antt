@@ -1,15 +1,11 @@
--- The tables of notes: what is told of each fault, kind of name, rule, run error and trap.
+-- The tables of notes: what is told of each fault, kind of name and rule.
 use Rattle.std.specs.Prelude.{ℕ, List, ◌++◌, codes, decimal}
 use Rattle.fac_parse.specs.declared.reader.Why.{Why}
 use Rattle.fac_parse.specs.declared.reader.Why.TheVariants as why
-use Rattle.fac_refusal.specs.declared.refusal.NameKind.{NameKind}
-use Rattle.fac_refusal.specs.declared.refusal.NameKind.TheVariants as kind
+use Rattle.fac_source.specs.declared.refusal.NameKind.{NameKind}
+use Rattle.fac_source.specs.declared.refusal.NameKind.TheVariants as kind
 use Rattle.fac_abs.specs.declared.rule.Rule.{Rule}
 use Rattle.fac_abs.specs.declared.rule.Rule.TheVariants as rule
-use Rattle.fac_code.specs.declared.names.TrapWhy.{TrapWhy}
-use Rattle.fac_code.specs.declared.names.TrapWhy.TheVariants as trap
-use Rattle.fac_lang.specs.declared.error_name.ErrorName.{ErrorName}
-use Rattle.fac_lang.specs.declared.error_name.ErrorName.TheVariants as error
 use Rattle.fac_notes.specs.declared.report.ByteFault.{ByteFault}
 use Rattle.fac_notes.specs.declared.report.ByteFault.TheVariants as byte
 
@@ -60,30 +56,3 @@ rule_text rule.TooDeep = codes "too-deep"
 rule_text rule.TooLarge = codes "too-large"
 rule_text (rule.Outputs declared found) = two_numbers (codes "outputs, declared ") declared (codes ", found ") found
 rule_text rule.MustReturn = codes "must-return"
-
-abbrev pub error_text : ErrorName → List ℕ
-error_text error.NotInteger = codes "not-integer"
-error_text error.NotSequence = codes "not-sequence"
-error_text error.NotTuple = codes "not-tuple"
-error_text error.NoSlot = codes "no-slot"
-error_text error.NoMethod = codes "no-method"
-error_text error.NoNextMethod = codes "no-next-method"
-error_text error.WrongValues = codes "wrong-values"
-error_text error.Thrown = codes "thrown"
-error_text error.BadText = codes "bad-text"
-error_text error.Overflow = codes "overflow"
-error_text error.ZeroDivisor = codes "zero-divisor"
-error_text error.Bounds = codes "bounds"
-error_text error.Length = codes "length"
-error_text error.NoCond = codes "no-cond"
-error_text error.NoCompare = codes "no-compare"
-error_text error.CompareTooLarge = codes "compare-too-large"
-error_text error.TextTooLong = codes "text-too-long"
-
-abbrev pub trap_text : TrapWhy → List ℕ
-trap_text trap.Stack = codes "stack"
-trap_text trap.Kind = codes "kind"
-trap_text trap.Retain = codes "retain"
-trap_text trap.Frame = codes "frame"
-trap_text trap.Return = codes "return"
-trap_text trap.End = codes "end"

@@ -2,18 +2,20 @@
 use Rattle.std.specs.Prelude.{◌<◌, ℕ, List, length, [], ◌++◌, None, Some, codes, decimal, slice_get}
 use Rattle.std.specs.declared.option.Option.{Option}
 use Rattle.fac_parse.specs.declared.reader.Why.{Why}
-use Rattle.fac_refusal.specs.declared.refusal.NameFault.{NameFault}
-use Rattle.fac_refusal.specs.declared.refusal.NameKind.{NameKind}
-use Rattle.fac_refusal.specs.declared.refusal.NameKind.TheVariants.{Ambiguous}
+use Rattle.fac_source.specs.declared.refusal.NameFault.{NameFault}
+use Rattle.fac_source.specs.declared.refusal.NameKind.{NameKind}
+use Rattle.fac_source.specs.declared.refusal.NameKind.TheVariants.{Ambiguous}
 use Rattle.fac_check.specs.declared.refusal.Refusal.{Refusal}
 use Rattle.fac_code.specs.declared.names.TrapWhy.{TrapWhy}
+use Rattle.fac_lang.specs.ErrorTexts.{error_text}
 use Rattle.fac_lang.specs.declared.error_name.ErrorName.{ErrorName}
-use Rattle.fac_lang.specs.declared.program.Name.{Name}
+use Rattle.fac_base.specs.declared.name.Name.{Name}
 use Rattle.fac_notes.specs.declared.report.ByteFault.{ByteFault}
 use Rattle.fac_notes.specs.declared.report.Report.{Report}
 use Rattle.fac_notes.specs.declared.report.Report.TheVariants as report
 use Rattle.fac_notes.specs.WordNames.{name_text}
-use Rattle.fac_notes.specs.NoteRows.{byte_text, why_text, kind_text, rule_text, error_text, trap_text}
+use Rattle.fac_code.specs.TrapTexts.{trap_text}
+use Rattle.fac_notes.specs.NoteRows.{byte_text, why_text, kind_text, rule_text}
 
 -- the name of a file by its number; nothing where no file has it
 abbrev pub name_if : Option (List ℕ) → List ℕ

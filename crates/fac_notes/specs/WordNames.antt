@@ -1,7 +1,7 @@
 -- How words are named in notes.
 use Rattle.std.specs.Prelude.{◌==◌, ℕ, List, [], ◌∷◌, ◌++◌, None, Some, codes, slice_get, if◌then◌else◌}
 use Rattle.std.specs.declared.option.Option.{Option}
-use Rattle.fac_lang.specs.declared.program.Name.{Name}
+use Rattle.fac_base.specs.declared.name.Name.{Name}
 use Rattle.fac_lang.specs.declared.program.Program.{Program}
 use Rattle.fac_lang.specs.declared.program.WordDef.{WordDef}
 use Rattle.fac_lang.specs.declared.program.ClassDef.{ClassDef}

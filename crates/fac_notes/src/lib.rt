@@ -6,6 +6,7 @@ mod laws;
 mod line;
 mod report;
 mod rows;
+pub mod status;
 mod word_names;
 
 pub use laws::notes_are_not_empty;

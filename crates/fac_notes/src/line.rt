@@ -3,14 +3,15 @@ ghost use Rattle.std.specs.Prelude.{◌≡◌, ◌++◌, IfOk, OnOk};
 ghost use Rattle.fac_notes.specs.Notes.{line_of, file_name as name_of_file, place_text, value_text, words_text};
 ghost use Rattle.fac_notes.specs.Notes.{bytes_line as bytes_line_of, syntax_line as syntax_line_of, name_line as name_line_of, check_line as check_line_of, error_line as error_line_of, trap_line as trap_line_of, too_long_line as too_long_line_of};
 
-use crate::rows::{byte_fault, error, name_kind, push_number, push_rule, trap, why};
+use crate::rows::{byte_fault, name_kind, push_number, push_rule, why};
 use crate::word_names::push_name;
 use crate::{ByteFault, Report};
+use fac_base::{List, Memory, Name, Text};
 use fac_check::Refusal;
 use fac_code::TrapWhy;
-use fac_lang::{ErrorName, List, Memory, Name, Text};
+use fac_lang::ErrorName;
 use fac_parse::Why;
-use fac_refusal::{NameFault, NameKind};
+use fac_source::{NameFault, NameKind};
 use std::alloc::Global;
 
 // The name of a file by its number; nothing where no file has it.
@@ -123,7 +124,7 @@ fn error_line(
     ensures { IfOk result (λ line. line ≡ error_line_of name word.now value.now) }
 {
     let mut line = Text::from_str(alloc, "error: ")?;
-    line.push_str(error(name))?;
+    line.push_str(name.text())?;
     line.push_str(" in ")?;
     push_name(&mut line, word)?;
     push_value(&mut line, value)?;
@@ -138,7 +139,7 @@ fn trap_line(alloc: Global, pc: u32, reason: TrapWhy) -> Result<Text, Memory>
     let mut line = Text::from_str(alloc, "image: trap at ")?;
     push_number(&mut line, u64::from(pc))?;
     line.push_str(": ")?;
-    line.push_str(trap(reason))?;
+    line.push_str(reason.text())?;
     line.push_str("\n")?;
     Ok(line)
 }

@@ -2,11 +2,16 @@
 ghost use Rattle.std.specs.Prelude.{◌≡◌};
 ghost use Rattle.fac_notes.specs.Statuses.{status_of};
 
+use crate::status::{
+    BAD_IMAGE, BUDGET_SPENT, CHECK_REFUSED, FILE_FAULT, NAME_REFUSED, RUN_ERROR, SYNTAX_REFUSED,
+    TOO_LONG,
+};
+use fac_base::{Name, Text};
 use fac_check::Refusal;
 use fac_code::TrapWhy;
-use fac_lang::{ErrorName, Name, Text};
+use fac_lang::ErrorName;
 use fac_parse::Why;
-use fac_refusal::NameFault;
+use fac_source::NameFault;
 
 /// What is wrong with the bytes of a file that has no tokens.
 #[derive(Clone, Copy, Debug, PartialEq, Eq)]
@@ -79,16 +84,16 @@ impl Report {
         ensures { result ≡ status_of self.now }
     {
         match self {
-            Report::Error { .. } => 1,
-            Report::Bytes { .. } => 3,
-            Report::Syntax { .. } => 3,
-            Report::Name(_) => 4,
-            Report::Check { .. } => 5,
-            Report::Spent { .. } => 6,
-            Report::Image { .. } => 7,
-            Report::Trap { .. } => 7,
-            Report::File { .. } => 8,
-            Report::TooLong { .. } => 11,
+            Report::Error { .. } => RUN_ERROR,
+            Report::Bytes { .. } => SYNTAX_REFUSED,
+            Report::Syntax { .. } => SYNTAX_REFUSED,
+            Report::Name(_) => NAME_REFUSED,
+            Report::Check { .. } => CHECK_REFUSED,
+            Report::Spent { .. } => BUDGET_SPENT,
+            Report::Image { .. } => BAD_IMAGE,
+            Report::Trap { .. } => BAD_IMAGE,
+            Report::File { .. } => FILE_FAULT,
+            Report::TooLong { .. } => TOO_LONG,
         }
     }
 }

@@ -1,7 +1,7 @@
 -- Numbers past 128 bits, which the code keeps as the largest one.
 use Rattle.std.proofs.Common.{◌≡◌, ℕ, zero, suc, ◌+◌, ◌-◌, ◌*◌, ◌^◌, ◌≤◌, ◌⊎◌, inl, inr, min, List, [], ◌∷◌, Option, Some, None, Bool, true, false, ◌&&◌, refl, sym, ◌∙◌, ap, arith}
 use Rattle.std.specs.Prelude.{nat_eq}
-use Rattle.fac_lang.specs.Numbers.{digit_of, digit_below, digits_from}
+use Rattle.fac_base.specs.Numbers.{digit_of, digit_below, digits_from}
 use Rattle.fac_num.specs.inner.NumberSteps.{capped, capped_some, grouped_from}
 
 capped_twice : (base n d : ℕ) → min (min (n * base) (2 ^ 128 - 1) + d) (2 ^ 128 - 1) ≡ capped (base * n + d)

@@ -1,7 +1,7 @@
 -- What a caller concludes from an answer, in the words of the language's meaning.
 use Rattle.std.proofs.Common.{◌≡◌, ℕ, ℤ, Bool, true, false, List, Option, Some, None, Ok, Err, refl, ◌∙◌, ap}
 use Rattle.std.specs.Prelude.{int_div, int_rem}
-use Rattle.fac_lang.specs.Numbers.{in_range, is_zero, signed_in, integer_in}
+use Rattle.fac_base.specs.Numbers.{in_range, is_zero, signed_in, integer_in}
 use Rattle.fac_num.specs.declared.read.NumFault.{NumFault}
 use Rattle.fac_num.specs.declared.read.NumFault.TheVariants.{NotNumber, TooWide}
 use Rattle.fac_num.specs.Reading.{ReadsInt}

@@ -3,7 +3,7 @@ use Rattle.std.proofs.Common.{◌≡◌, ℕ, ◌+◌, ◌*◌, ◌^◌, ◌<◌
 use Rattle.std.proofs.Math.ListN.{drop_of_length-le}
 use Rattle.std.specs.Prelude.{nat_eq, if◌then◌else◌}
 use Rattle.std.proofs.lemmas.Bool.Decides.{Decides-eqb}
-use Rattle.fac_lang.specs.Numbers.{digit_of, digit_below, digits_from, digits_in, decimal_from, decimal_in, magnitude_in}
+use Rattle.fac_base.specs.Numbers.{digit_of, digit_below, digits_from, digits_in, decimal_from, decimal_in, magnitude_in}
 use Rattle.fac_num.specs.inner.NumberSteps.{capped, capped_some, grouped_from, base_in}
 use Rattle.fac_num.proofs.Capping.{same_digits, same_groups}
 

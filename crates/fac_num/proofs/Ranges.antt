@@ -2,7 +2,7 @@
 use Rattle.std.proofs.Common.{◌≡◌, ℕ, zero, suc, ℤ, pos, negsuc, ◌^◌, ◌<◌, ◌≢◌, Bool, true, false, List, [], ◌∷◌, Option, Some, None, Result, Err, get_or, drop, length, ◌⊎◌, inl, inr, refl, sym, ◌∙◌, ap, subst, arith}
 use Rattle.std.specs.Prelude.{nat_eq}
 use Rattle.std.proofs.lemmas.Bool.Decides.{nat_tests}
-use Rattle.fac_lang.specs.Numbers.{in_range, is_in_range, signed_in, magnitude_in}
+use Rattle.fac_base.specs.Numbers.{in_range, is_in_range, signed_in, magnitude_in}
 use Rattle.fac_num.specs.declared.read.NumFault.{NumFault}
 use Rattle.fac_num.specs.declared.read.NumFault.TheVariants.{TooWide}
 use Rattle.fac_num.specs.Reading.{ReadsInt}

@@ -1,6 +1,6 @@
 -- Quotients and remainders.
 use Rattle.std.specs.Prelude.{ℤ, int_div, int_rem, Option, Some, None, true, false}
-use Rattle.fac_lang.specs.Numbers.{in_range, is_zero}
+use Rattle.fac_base.specs.Numbers.{in_range, is_zero}
 
 -- the quotient, rounded toward zero; None where b is 0 or it is out of range
 abbrev pub quotient : ℤ → ℤ → Option ℤ

@@ -1,6 +1,6 @@
 -- What reading a text as an integer answers.
 use Rattle.std.specs.Prelude.{◌≡◌, ℕ, ℤ, List, Some, None, Result, Ok, Err}
-use Rattle.fac_lang.specs.Numbers.{signed_in, integer_in, in_range}
+use Rattle.fac_base.specs.Numbers.{signed_in, integer_in, in_range}
 use Rattle.fac_num.specs.declared.read.NumFault.{NumFault}
 use Rattle.fac_num.specs.declared.read.NumFault.TheVariants.{NotNumber, TooWide}
 

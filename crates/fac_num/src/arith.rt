@@ -1,6 +1,6 @@
 //! Sums, differences, products, quotients, remainders and shifts, each None exactly where there is no result of 128 bits.
 ghost use Rattle.std.specs.Prelude.{◌≡◌, ◌+ℤ◌, ◌-ℤ◌, ◌*ℤ◌, false};
-ghost use Rattle.fac_lang.specs.Numbers.{in_range, is_zero, up_shift, down_shift, shifted};
+ghost use Rattle.fac_base.specs.Numbers.{in_range, is_zero, up_shift, down_shift, shifted};
 ghost use Rattle.fac_num.specs.Quotients.{quotient, remainder};
 
 use crate::sign::signed;

@@ -1,6 +1,6 @@
 //! Integers from texts.
 ghost use Rattle.std.specs.Prelude.{◌≡◌, ◌+◌, ◌*◌};
-ghost use Rattle.fac_lang.specs.Numbers.{digit_of, digit_below, digits_in, decimal_in, magnitude_in};
+ghost use Rattle.fac_base.specs.Numbers.{digit_of, digit_below, digits_in, decimal_in, magnitude_in};
 ghost use Rattle.fac_num.specs.Reading.{ReadsInt};
 ghost use Rattle.fac_num.specs.inner.NumberSteps.{capped, capped_some, base_mark, base_in, answer};
 

@@ -1,6 +1,6 @@
 //! Integers from a sign and a magnitude.
 ghost use Rattle.std.specs.Prelude.{◌≡◌, pos};
-ghost use Rattle.fac_lang.specs.Numbers.{in_range, negated};
+ghost use Rattle.fac_base.specs.Numbers.{in_range, negated};
 ghost use Rattle.fac_num.specs.inner.NumberSteps.{with_sign};
 
 fn positive(magnitude: u128) -> Option<i128>

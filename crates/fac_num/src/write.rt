@@ -2,7 +2,7 @@
 ghost use Rattle.std.specs.Prelude.{◌≡◌, ◌++◌, OnOk, OnErr};
 ghost use Rattle.std.specs.Fmt.{signed_decimal};
 
-use fac_lang::{Memory, Text};
+use fac_base::{Memory, Text};
 use itoa::Buffer;
 
 /// Adds the decimal digits of an integer at the end of a text, with a `-` before those of a negative one. Want of memory is the one

@@ -4,7 +4,7 @@
 //! `stdout` was written by hand, from the rules of the language. So it shows that the definitions of integers mean what was meant.
 #![tactic(auto)]
 
-use fac_lang::{Memory, Text};
+use fac_base::{Memory, Text};
 use fac_num::{NumFault, add, mul, quot, read_int, rem, shl, sub, write_int};
 use std::alloc::Global;
 use std::io;

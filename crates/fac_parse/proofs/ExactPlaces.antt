@@ -2,12 +2,12 @@
 use Rattle.fac_parse.specs.inner.Reader.{Half, no_half, binding, heading, wrapping, calling, literal, name, names, tuple_slots, tuple_parent, fixed, effect, items, marks, Open, top, row, row_form, more, with_run, State, start, steps, ended, ended_open, IsHalfRead, IsRead}
 use Rattle.std.proofs.Common.{ℕ, ◌≡◌, ◌+◌, ◌<◌, ◌≤◌, List, [], ◌∷◌, ◌++◌, Option, Some, None, refl, sym, ◌∙◌, ap, subst, append_assoc, append-nil, arith, take, drop, length}
 use Rattle.std.proofs.lemmas.List.{take-append-drop, take-take, take_all}
-use Rattle.fac_lang.specs.declared.token.Token.{Token}
-use Rattle.fac_lang.specs.declared.tree.Element.{Element}
-use Rattle.fac_lang.specs.declared.tree.Element.TheVariants as element
-use Rattle.fac_lang.specs.declared.tree.Part.TheVariants as part
+use Rattle.fac_source.specs.declared.token.Token.{Token}
+use Rattle.fac_source.specs.declared.tree.Element.{Element}
+use Rattle.fac_source.specs.declared.tree.Element.TheVariants as element
+use Rattle.fac_source.specs.declared.tree.Part.TheVariants as part
 use Rattle.fac_parse.specs.declared.context.Context.{Context}
-use Rattle.fac_lang.specs.declared.tree.Form.{Form}
+use Rattle.fac_source.specs.declared.tree.Form.{Form}
 use Rattle.fac_parse.specs.Trees.{items_tokens, flatten, IsWellFormed, Reads, Begins, Refused}
 use Rattle.fac_parse.proofs.StateTokens.{state_tokens, tokens_of, run_fits, run_tokens, GoodHalf, BeginsLiteral, GoodLiteral, GoodOpen, Good}
 use Rattle.fac_parse.proofs.ReaderKeeps.{Known, steps_known, start_good, marked_gone, marked_tokens}

@@ -1,17 +1,19 @@
 -- Literal arrays, computed.
 use Rattle.std.specs.Prelude.{◌≡◌, ℕ, List, [], ◌∷◌, Option, Some, None, codes}
 use Rattle.std.proofs.Common.{refl, replicate}
-use Rattle.fac_lang.specs.declared.phrase.Place.{Place}
-use Rattle.fac_lang.specs.declared.token.Token.{Token}
-use Rattle.fac_lang.specs.declared.tree.Bracket.TheVariants as bracket
-use Rattle.fac_lang.specs.declared.tree.Element.{Element}
-use Rattle.fac_lang.specs.declared.tree.Element.TheVariants.{Item, Opens, Closes}
-use Rattle.fac_lang.specs.declared.tree.Term.TheVariants.{True}
-use Rattle.fac_lang.specs.declared.tree.Form.{Form}
-use Rattle.fac_lang.specs.declared.tree.Form.TheVariants.{Items}
+use Rattle.fac_base.specs.declared.place.Place.{Place}
+use Rattle.fac_source.specs.declared.token.Token.{Token}
+use Rattle.fac_source.specs.declared.tree.Bracket.TheVariants as bracket
+use Rattle.fac_source.specs.declared.tree.Element.{Element}
+use Rattle.fac_source.specs.declared.tree.Element.TheVariants.{Item, Opens, Closes}
+use Rattle.fac_source.specs.declared.tree.Literal.TheVariants.{True}
+use Rattle.fac_source.specs.declared.tree.Term.TheVariants.{Literal}
+use Rattle.fac_source.specs.declared.tree.Form.{Form}
+use Rattle.fac_source.specs.declared.tree.Form.TheVariants.{Items}
 use Rattle.fac_parse.specs.declared.context.Around.TheVariants as around
 use Rattle.fac_parse.specs.declared.context.Context.{Context}
-use Rattle.fac_effect.specs.Spellings.{plain_token, spelling_of, has_integer_form, word_spelling, sign_spelling}
+use Rattle.fac_source.specs.FormRows.{kind_begun}
+use Rattle.fac_effect.specs.Spellings.{plain_token, spelling_of, has_integer_form, word_spelling, sign_spelling, reserved_spelling}
 use Rattle.fac_parse.specs.Contexts.{items_in, behind}
 use Rattle.fac_parse.specs.inner.Reader.{State, start, steps, ended}
 
@@ -30,7 +32,7 @@ abbrev pub tree : List Token → Option (List Form)
 tree tokens = forms_read (steps (Some start) tokens)
 
 abbrev item : Element
-item = Item (True here)
+item = Item (Literal (w (codes "t")) True)
 
 -- a quotation, and an array with so many elements, where no local is in scope and no fry is around
 abbrev pub plain : Context
@@ -42,12 +44,12 @@ array n = record { around = around.Array n; locals = None; holes = None }
 -- { t [ t ] { } }
 nested : tree (w (codes "{") ∷ w (codes "t") ∷ w (codes "[") ∷ w (codes "t") ∷ w (codes "]") ∷ w (codes "{") ∷ w (codes "}") ∷ w (codes "}") ∷ []) ≡
     Some (Items (Opens bracket.Array here ∷ item ∷ Opens bracket.Quotation here ∷ item ∷ Closes bracket.Quotation here ∷ Opens bracket.Array here ∷ Closes bracket.Array here ∷ Closes bracket.Array here ∷ []) ∷ [])
-unfolding spelling_of has_integer_form word_spelling sign_spelling
+unfolding spelling_of has_integer_form word_spelling sign_spelling kind_begun reserved_spelling
 nested = refl
 
 -- { [ } ]
 crossed : tree (w (codes "{") ∷ w (codes "[") ∷ w (codes "}") ∷ w (codes "]") ∷ []) ≡ None
-unfolding spelling_of has_integer_form word_spelling sign_spelling
+unfolding spelling_of has_integer_form word_spelling sign_spelling kind_begun reserved_spelling
 crossed = refl
 
 -- Each item and each bracket that opens is an element of the array around it, and what stands in a quotation is none.

@@ -1,15 +1,16 @@
 -- Locals, fries and holes, computed.
 use Rattle.std.specs.Prelude.{◌≡◌, ℕ, List, [], ◌∷◌, map, Option, Some, None, codes}
 use Rattle.std.proofs.Common.{refl, replicate}
-use Rattle.fac_lang.specs.declared.token.Token.{Token}
-use Rattle.fac_lang.specs.declared.tree.Bracket.TheVariants as bracket
-use Rattle.fac_lang.specs.declared.tree.Element.{Element}
-use Rattle.fac_lang.specs.declared.tree.Element.TheVariants.{Item, Opens, OpensLocals, Closes}
-use Rattle.fac_lang.specs.declared.tree.Form.{Form}
-use Rattle.fac_lang.specs.declared.tree.Form.TheVariants.{Items}
-use Rattle.fac_lang.specs.declared.tree.Term.TheVariants.{Bind, Hole, CalledHole}
+use Rattle.fac_source.specs.declared.token.Token.{Token}
+use Rattle.fac_source.specs.declared.tree.Bracket.TheVariants as bracket
+use Rattle.fac_source.specs.declared.tree.Element.{Element}
+use Rattle.fac_source.specs.declared.tree.Element.TheVariants.{Item, Opens, OpensLocals, Closes}
+use Rattle.fac_source.specs.declared.tree.Form.{Form}
+use Rattle.fac_source.specs.declared.tree.Form.TheVariants.{Items}
+use Rattle.fac_source.specs.declared.tree.Term.TheVariants.{Bind, Hole, CalledHole}
 use Rattle.fac_effect.specs.declared.spelling.Spelling.TheVariants as spelled
-use Rattle.fac_effect.specs.Spellings.{spelling_of, has_integer_form, word_spelling, sign_spelling, is_reserved, is_reserved_sign, is_reserved_form, is_reserved_word, is_left_out}
+use Rattle.fac_source.specs.FormRows.{kind_begun}
+use Rattle.fac_effect.specs.Spellings.{spelling_of, has_integer_form, word_spelling, sign_spelling, reserved_spelling}
 use Rattle.fac_parse.specs.declared.context.Around.TheVariants as around
 use Rattle.fac_parse.specs.declared.context.Context.{Context}
 use Rattle.fac_parse.specs.Contexts.{items_in, behind}
@@ -47,21 +48,21 @@ array_in n = record { around = around.Array 0; locals = Some n; holes = None }
 
 -- [| x | :> x ]
 quotation_with_locals : read (codes "[|" ∷ codes "x" ∷ codes "|" ∷ codes ":>" ∷ codes "x" ∷ codes "]" ∷ []) ≡ Some (Items (OpensLocals here (x ∷ []) here ∷ bind ∷ Closes bracket.Quotation here ∷ []) ∷ [])
-unfolding spelling_of has_integer_form word_spelling sign_spelling is_reserved is_reserved_sign is_reserved_form is_reserved_word is_left_out
+unfolding spelling_of has_integer_form word_spelling sign_spelling kind_begun reserved_spelling
 quotation_with_locals = refl
 
 -- '[ _ [ @ ] ]
 fry_with_holes : read (codes "'[" ∷ codes "_" ∷ codes "[" ∷ codes "@" ∷ codes "]" ∷ codes "]" ∷ []) ≡ Some (Items (Opens bracket.Fry here ∷ hole ∷ Opens bracket.Quotation here ∷ Item (CalledHole here) ∷ Closes bracket.Quotation here ∷ Closes bracket.Quotation here ∷ []) ∷ [])
-unfolding spelling_of has_integer_form word_spelling sign_spelling
+unfolding spelling_of has_integer_form word_spelling sign_spelling kind_begun reserved_spelling
 fry_with_holes = refl
 
 -- `:>` stands neither in `:` nor at the top level, nor directly in an array: : x ( -- ) :> and [ :> and :: x ( -- ) { :>
 no_local_in_word : reaches (codes ":" ∷ codes "x" ∷ codes "(" ∷ codes "--" ∷ codes ")" ∷ codes ":>" ∷ []) ≡ None
-unfolding spelling_of has_integer_form word_spelling sign_spelling is_reserved is_reserved_sign is_reserved_form is_reserved_word is_left_out
+unfolding spelling_of has_integer_form word_spelling sign_spelling kind_begun reserved_spelling
 no_local_in_word = refl
 
 no_local_outside : reaches (codes "[" ∷ codes ":>" ∷ []) ≡ None
-unfolding spelling_of has_integer_form word_spelling sign_spelling
+unfolding spelling_of has_integer_form word_spelling sign_spelling kind_begun reserved_spelling
 no_local_outside = refl
 
 no_local_in_array : behind (array_in 3 ∷ locals 3 ∷ []) bind ≡ None
@@ -102,11 +103,11 @@ no_bang_in_heading = refl
 
 -- :: x ( x! and :: x ( x!: and :: x ( q: ( x! -- ) -- x! ) ;
 no_bang_in_input : reaches (codes "::" ∷ codes "x" ∷ codes "(" ∷ codes "x!" ∷ []) ≡ None
-unfolding spelling_of has_integer_form word_spelling sign_spelling is_reserved is_reserved_sign is_reserved_form is_reserved_word is_left_out
+unfolding spelling_of has_integer_form word_spelling sign_spelling kind_begun reserved_spelling
 no_bang_in_input = refl
 
 no_bang_before_colon : reaches (codes "::" ∷ codes "x" ∷ codes "(" ∷ codes "x!:" ∷ []) ≡ None
-unfolding spelling_of has_integer_form word_spelling sign_spelling is_reserved is_reserved_sign is_reserved_form is_reserved_word is_left_out
+unfolding spelling_of has_integer_form word_spelling sign_spelling kind_begun reserved_spelling
 no_bang_before_colon = refl
 
 -- Two dots begin a row variable, which is no local: :: x ( ..x! q: ( x! -- ) -- x! ) :> x ;
@@ -119,7 +120,7 @@ is_some_state None = None
 is_some_state (Some s) = Some 0
 
 bang_elsewhere : is_some_state (reaches with_bangs) ≡ Some 0
-unfolding spelling_of has_integer_form word_spelling sign_spelling is_reserved is_reserved_sign is_reserved_form is_reserved_word is_left_out
+unfolding spelling_of has_integer_form word_spelling sign_spelling kind_begun reserved_spelling
 bang_elsewhere = refl
 
 -- In an array are the locals around it, and no holes. Holes stand in a fry and in the quotations of one.

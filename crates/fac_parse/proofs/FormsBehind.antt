@@ -2,19 +2,19 @@
 use Rattle.fac_parse.specs.inner.Reader.{Half, Grown, stuck, begun_as, grown, Within, name, names, tuple_slots, tuple_parent, fixed, effect, items, literal, marks, Begun, begun, Open, top, row, State, in_state, outside, no_half, row_form, at_slot, go_on, more, with_part, with_run, may_end, begin_row, with_element, with_grown, grow, begins, begin_or_add, top_step, name_step, names_step, sign_step, sign_or_slot, slots_step, parent_step, key_step, fixed_step, written, effect_with, may_take, effect_step, row_items, end_items, is_semi, end_or_add, is_open, begins_literal, is_literal_half, literal_with, literal_grown, mark_of, may_follow, mark_step, row_step, open_step, step, ended, ended_open}
 use Rattle.std.proofs.Common.{◌≡◌, Bool, true, false, cond, List, [], ◌∷◌, ◌++◌, Option, Some, None, refl, ap, ◌∙◌, append_assoc, length}
 use Rattle.std.specs.Prelude.{nat_lt, slice_get, ◌||◌}
-use Rattle.fac_lang.specs.declared.phrase.Place.{Place}
-use Rattle.fac_lang.specs.declared.token.Token.{Token}
-use Rattle.fac_lang.specs.declared.tree.Element.{Element}
-use Rattle.fac_lang.specs.declared.tree.Mark.{Mark}
-use Rattle.fac_lang.specs.declared.tree.FormKind.{FormKind}
-use Rattle.fac_lang.specs.declared.tree.Key.{Key}
-use Rattle.fac_lang.specs.declared.tree.Key.TheVariants.{Arrow}
-use Rattle.fac_lang.specs.declared.tree.Part.{Part}
-use Rattle.fac_lang.specs.declared.tree.Part.TheVariants as part
-use Rattle.fac_lang.specs.declared.tree.Parent.{Parent}
-use Rattle.fac_lang.specs.declared.tree.Form.{Form}
+use Rattle.fac_base.specs.declared.place.Place.{Place}
+use Rattle.fac_source.specs.declared.token.Token.{Token}
+use Rattle.fac_source.specs.declared.tree.Element.{Element}
+use Rattle.fac_source.specs.declared.tree.Mark.{Mark}
+use Rattle.fac_source.specs.declared.tree.FormKind.{FormKind}
+use Rattle.fac_source.specs.declared.tree.Key.{Key}
+use Rattle.fac_source.specs.declared.tree.Key.TheVariants.{Arrow}
+use Rattle.fac_source.specs.declared.tree.Part.{Part}
+use Rattle.fac_source.specs.declared.tree.Part.TheVariants as part
+use Rattle.fac_source.specs.declared.tree.Parent.{Parent}
+use Rattle.fac_source.specs.declared.tree.Form.{Form}
 use Rattle.fac_parse.specs.declared.context.Context.{Context}
-use Rattle.fac_parse.specs.declared.rows.Slot.{Slot}
+use Rattle.fac_source.specs.declared.form_table.Slot.{Slot}
 use Rattle.fac_parse.specs.declared.rows.Naming.{Naming}
 use Rattle.fac_parse.specs.declared.rows.Marked.{Marked}
 use Rattle.fac_parse.specs.declared.rows.Taking.{Taking}
@@ -24,7 +24,7 @@ use Rattle.fac_effect.specs.declared.effect_reader.EffectReader.{EffectReader}
 use Rattle.fac_effect.specs.EffectReading.{Progress, reads as reading, whole, refused, step as token_step}
 use Rattle.fac_effect.specs.Spellings.{token_spelling}
 use Rattle.fac_parse.specs.Contexts.{behind}
-use Rattle.fac_parse.specs.Rows.{slots_of}
+use Rattle.fac_source.specs.FormRows.{slots_of}
 use Rattle.fac_parse.specs.Trees.{named, most_slots, is_parent_sign}
 use Rattle.fac_parse.specs.Handed.{behind_forms}
 

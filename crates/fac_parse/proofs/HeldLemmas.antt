@@ -1,8 +1,8 @@
 -- Items are held at the top level or in a row.
 use Rattle.std.proofs.Common.{◌≡◌, Bool, false, Option, None, Result, sym, subst}
-use Rattle.fac_lang.specs.declared.memory.Memory.{Memory}
-use Rattle.fac_lang.specs.declared.token.Token.{Token}
-use Rattle.fac_lang.specs.declared.tree.FormKind.{FormKind}
+use Rattle.fac_base.specs.declared.memory.Memory.{Memory}
+use Rattle.fac_source.specs.declared.token.Token.{Token}
+use Rattle.fac_source.specs.declared.tree.FormKind.{FormKind}
 use Rattle.fac_parse.specs.declared.reader.At.{At}
 use Rattle.fac_parse.specs.declared.reader.At.TheVariants as at
 use Rattle.fac_parse.specs.declared.reader.Head.{Head}

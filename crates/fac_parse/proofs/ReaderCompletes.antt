@@ -4,35 +4,36 @@ use Rattle.fac_parse.specs.Contexts.{items_in, most_levels, most_elements, most_
 use Rattle.fac_parse.proofs.ReaderKeeps.{name_fills, names_fill, effect_fills, items_fill, inside_more, inside_ends, inside_open, Lead-more}
 use Rattle.fac_parse.proofs.StateTokens.{Inside, open_inside, GoodHalf, BeginsLiteral, GoodLiteral, NamesLocals, locals_before, Filled, filled_more, first_of, next_slot, slot_of, GoodWithin, GoodOpen, Good}
 use Rattle.fac_parse.proofs.ReaderReads.{AllTaken, both, literal_part_read, adds_literal, grown_to, Takes, taken, heading_read, declared_read, element_read, held_takes, literal_takes, named_name, name_read, names_end, slots_end, chain, effect_read, one, by_spelling, HoldsItems, top_holds_items, row_holds_items}
-use Rattle.fac_lang.specs.declared.tree.Term.TheVariants as term
+use Rattle.fac_source.specs.declared.tree.Term.TheVariants as term
 use Rattle.std.proofs.Common.{◌≡◌, ◌≤◌, ℕ, ◌+◌, Bool, true, false, cond, ◌&&◌, List, [], ◌∷◌, ◌++◌, length, Option, Some, None, refl, ap, sym, ◌∙◌, subst, append-nil, arith}
 use Rattle.std.specs.Prelude.{codes, nat_lt, nat_le}
-use Rattle.fac_lang.specs.declared.phrase.Place.{Place}
-use Rattle.fac_lang.specs.declared.token.Token.{Token}
-use Rattle.fac_lang.specs.declared.tree.Element.{Element}
-use Rattle.fac_lang.specs.declared.tree.Element.TheVariants as element
-use Rattle.fac_lang.specs.declared.tree.Bracket.{Bracket}
-use Rattle.fac_lang.specs.declared.tree.Bracket.TheVariants.{Quotation, Array, Fry}
-use Rattle.fac_lang.specs.declared.tree.Key.{Key}
-use Rattle.fac_lang.specs.declared.tree.Key.TheVariants.{Arrow}
-use Rattle.fac_lang.specs.declared.tree.Part.{Part}
-use Rattle.fac_lang.specs.declared.tree.Part.TheVariants as part
-use Rattle.fac_lang.specs.declared.tree.Parent.{Parent}
-use Rattle.fac_lang.specs.declared.tree.Form.{Form}
+use Rattle.fac_base.specs.declared.place.Place.{Place}
+use Rattle.fac_source.specs.declared.token.Token.{Token}
+use Rattle.fac_source.specs.declared.tree.Element.{Element}
+use Rattle.fac_source.specs.declared.tree.Element.TheVariants as element
+use Rattle.fac_source.specs.declared.tree.Bracket.{Bracket}
+use Rattle.fac_source.specs.declared.tree.Bracket.TheVariants.{Quotation, Array, Fry}
+use Rattle.fac_source.specs.declared.tree.Key.{Key}
+use Rattle.fac_source.specs.declared.tree.Key.TheVariants.{Arrow}
+use Rattle.fac_source.specs.declared.tree.Part.{Part}
+use Rattle.fac_source.specs.declared.tree.Part.TheVariants as part
+use Rattle.fac_source.specs.declared.tree.Parent.{Parent}
+use Rattle.fac_source.specs.declared.tree.Form.{Form}
 use Rattle.fac_parse.specs.declared.context.Context.{Context}
 use Rattle.fac_parse.specs.declared.context.Around.{Around}
 use Rattle.fac_parse.specs.declared.context.Around.TheVariants as around
 use Rattle.fac_parse.specs.declared.rows.Taking.{Taking}
 use Rattle.fac_parse.specs.declared.rows.Taking.TheVariants.{Values, Locals}
-use Rattle.fac_lang.specs.declared.tree.Term.{Term}
+use Rattle.fac_source.specs.declared.tree.Term.{Term}
 use Rattle.fac_effect.specs.LocalNames.{all_may_stand, name_locals}
 use Rattle.fac_effect.proofs.LocalNameLemmas.{inputs_are_named, locals_go_on, names_append}
-use Rattle.fac_parse.specs.declared.rows.Slot.{Slot}
-use Rattle.fac_parse.specs.declared.rows.Slot.TheVariants as slot
+use Rattle.fac_source.specs.declared.form_table.Slot.{Slot}
+use Rattle.fac_source.specs.declared.form_table.Slot.TheVariants as slot
 use Rattle.fac_parse.specs.declared.rows.Naming.{Naming}
 use Rattle.fac_parse.specs.declared.rows.Naming.TheVariants as naming
 use Rattle.fac_parse.specs.declared.rows.Marked.TheVariants as marked
-use Rattle.fac_effect.specs.declared.spelling.Spelling.TheVariants.{Fixed, Semi, Name}
+use Rattle.fac_source.specs.declared.tree.Literal.TheVariants.{True}
+use Rattle.fac_effect.specs.declared.spelling.Spelling.TheVariants.{Fixed, Semi, Literal, Name}
 use Rattle.fac_effect.specs.declared.effect_reader.EffectReader.{EffectReader}
 use Rattle.fac_effect.specs.EffectReading.{Progress, reads as reading, whole, start as no_tokens, opened as opened_effect, all_pass, run, after}
 use Rattle.fac_effect.specs.SaidEffects.{effect_of}
@@ -40,8 +41,8 @@ use Rattle.fac_effect.specs.RowlessEffects.{opened_tokens, is_no_row, have_no_ro
 use Rattle.fac_effect.proofs.RowlessLemmas.{whole_is_rowless, completes_rowless, none_append}
 use Rattle.fac_effect.proofs.EffectRuns.{run_append}
 use Rattle.fac_effect.proofs.EffectLemmas.{effect_is_whole, read_goes_on}
-use Rattle.fac_parse.specs.Rows.{slots_of}
-use Rattle.fac_effect.specs.Spellings.{token_spelling, spelling_of, has_integer_form, word_spelling, sign_spelling, is_reserved, is_reserved_sign, is_reserved_form, is_reserved_word, is_left_out, plain_token}
+use Rattle.fac_source.specs.FormRows.{slots_of, kind_begun}
+use Rattle.fac_effect.specs.Spellings.{token_spelling, spelling_of, has_integer_form, word_spelling, sign_spelling, reserved_spelling, plain_token}
 use Rattle.fac_parse.specs.Trees.{IsElement, IsLiteralBracket, element_tokens, Lead, Fills, named, IsName, AreNames, most_slots, AreSlots, IsParent}
 use Rattle.fac_effect.proofs.SpellingLemmas.{sign_is}
 
@@ -53,7 +54,7 @@ abbrev some_name : Token
 some_name = plain_token somewhere (codes "x")
 
 is_name : token_spelling some_name.kind ≡ Name
-unfolding spelling_of has_integer_form word_spelling sign_spelling is_reserved is_reserved_sign is_reserved_form is_reserved_word is_left_out
+unfolding spelling_of has_integer_form word_spelling sign_spelling kind_begun reserved_spelling
 is_name = refl
 
 -- tokens that lead to where the tokens may end
@@ -432,9 +433,9 @@ closes_literal_in forms b bracket place es c d contexts (calling callee sign ts 
 closes_literal_outside : (forms : List Form) (b : Begun) (h : Half) → BeginsLiteral h → ClosesPart forms b (literal [] outside h)
 closes_literal_outside forms b no_half begins = record {
   tokens = plain_token somewhere (codes "t") ∷ [];
-  whole = part.Literal (element.Item (term.True somewhere) ∷ []);
-  fills = tt;
-  reads = literal_part_read forms b (element.Item (term.True somewhere) ∷ []) tt;
+  whole = part.Literal (element.Item (term.Literal (plain_token somewhere (codes "t")) True) ∷ []);
+  fills = sign_is (Literal True) tt;
+  reads = literal_part_read forms b (element.Item (term.Literal (plain_token somewhere (codes "t")) True) ∷ []) (sign_is (Literal True) tt);
 }
 closes_literal_outside forms b (wrapping sign) begins = record {
   tokens = some_name ∷ [];

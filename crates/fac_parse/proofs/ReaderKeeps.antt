@@ -1,37 +1,38 @@
 -- A token that is taken is behind those before it, and what is known stays known.
-use Rattle.fac_lang.specs.declared.tree.Element.TheVariants as element
-use Rattle.fac_lang.specs.declared.tree.Term.TheVariants as term
+use Rattle.fac_source.specs.declared.tree.Element.TheVariants as element
+use Rattle.fac_source.specs.declared.tree.Term.TheVariants as term
 use Rattle.std.proofs.Common.{◌≡◌, ℕ, ◌≤◌, Bool, true, false, cond, ◌&&◌, List, [], ◌∷◌, ◌++◌, Option, Some, None, refl, ap, sym, ◌∙◌, subst, append_assoc, append-nil, arith, length}
 use Rattle.std.proofs.lemmas.Bool.Decides.{Decides-ltb}
 use Rattle.std.proofs.lemmas.List.{length_push}
 use Rattle.std.proofs.lemmas.Slice.Eq.{bytes_eq-Decides}
 use Rattle.std.specs.Prelude.{nat_lt, codes}
-use Rattle.fac_lang.specs.declared.phrase.Place.{Place}
-use Rattle.fac_lang.specs.declared.token.Token.{Token}
-use Rattle.fac_lang.specs.declared.tree.Element.{Element}
-use Rattle.fac_lang.specs.declared.tree.Bracket.{Bracket}
-use Rattle.fac_lang.specs.declared.tree.Bracket.TheVariants.{Quotation, Array, Fry}
+use Rattle.fac_base.specs.declared.place.Place.{Place}
+use Rattle.fac_source.specs.declared.token.Token.{Token}
+use Rattle.fac_source.specs.declared.tree.Element.{Element}
+use Rattle.fac_source.specs.declared.tree.Bracket.{Bracket}
+use Rattle.fac_source.specs.declared.tree.Bracket.TheVariants.{Quotation, Array, Fry}
 use Rattle.fac_parse.specs.declared.rows.Taking.{Taking}
 use Rattle.fac_parse.specs.declared.rows.Taking.TheVariants.{Values, Locals}
-use Rattle.fac_lang.specs.declared.tree.Callee.{Callee}
-use Rattle.fac_lang.specs.declared.tree.Mark.{Mark}
-use Rattle.fac_lang.specs.declared.tree.Mark.TheVariants as mark
-use Rattle.fac_lang.specs.declared.tree.FormKind.{FormKind}
-use Rattle.fac_lang.specs.declared.tree.Key.{Key}
-use Rattle.fac_lang.specs.declared.tree.Key.TheVariants.{Arrow}
-use Rattle.fac_lang.specs.declared.tree.Part.{Part}
-use Rattle.fac_lang.specs.declared.tree.Part.TheVariants as part
-use Rattle.fac_lang.specs.declared.tree.Parent.{Parent}
-use Rattle.fac_lang.specs.declared.tree.Form.{Form}
+use Rattle.fac_source.specs.declared.tree.Callee.{Callee}
+use Rattle.fac_source.specs.declared.tree.Mark.{Mark}
+use Rattle.fac_source.specs.declared.tree.Mark.TheVariants as mark
+use Rattle.fac_source.specs.declared.tree.FormKind.{FormKind}
+use Rattle.fac_source.specs.declared.tree.Key.{Key}
+use Rattle.fac_source.specs.declared.tree.Key.TheVariants.{Arrow}
+use Rattle.fac_source.specs.declared.tree.Part.{Part}
+use Rattle.fac_source.specs.declared.tree.Part.TheVariants as part
+use Rattle.fac_source.specs.declared.tree.Parent.{Parent}
+use Rattle.fac_source.specs.declared.tree.Form.{Form}
 use Rattle.fac_parse.specs.declared.context.Context.{Context}
-use Rattle.fac_parse.specs.declared.rows.Slot.{Slot}
-use Rattle.fac_parse.specs.declared.rows.Slot.TheVariants as slot
+use Rattle.fac_source.specs.declared.form_table.Slot.{Slot}
+use Rattle.fac_source.specs.declared.form_table.Slot.TheVariants as slot
 use Rattle.fac_parse.specs.declared.rows.Naming.{Naming}
 use Rattle.fac_parse.specs.declared.rows.Naming.TheVariants as naming
 use Rattle.fac_parse.specs.declared.rows.Marked.{Marked}
 use Rattle.fac_parse.specs.declared.rows.Marked.TheVariants as marked
 use Rattle.fac_effect.specs.declared.spelling.Spelling.{Spelling}
-use Rattle.fac_effect.specs.declared.spelling.Spelling.TheVariants.{Begins, Fixed, Semi, OpensBracket, ClosesBracket, OpensLocals, Bar, Binds, Hole, CalledHole, True, False, Inline, Recursive, NextMethod, Wraps, Calls, Integer, String, Name}
+use Rattle.fac_source.specs.declared.tree.Literal.TheVariants.{True, False}
+use Rattle.fac_effect.specs.declared.spelling.Spelling.TheVariants.{Begins, Fixed, Semi, OpensBracket, ClosesBracket, OpensLocals, Bar, Binds, Hole, CalledHole, Inline, Recursive, NextMethod, Wraps, Calls, Literal, Name}
 use Rattle.fac_effect.specs.declared.effect_reader.EffectReader.{EffectReader}
 use Rattle.fac_effect.specs.EffectReading.{Progress, reads as reading, whole, refused, opened, step as token_step, all_pass, go_on, after}
 use Rattle.fac_effect.proofs.EffectLemmas.{whole_is_effect, after_more}
@@ -42,8 +43,8 @@ use Rattle.fac_effect.proofs.EffectRuns.{run_append}
 use Rattle.fac_effect.proofs.RowlessLemmas.{whole_is_rowless, none_append}
 use Rattle.fac_effect.proofs.LocalNameLemmas.{inputs_are_named, names_append}
 use Rattle.fac_parse.specs.Contexts.{items_in, counted, uncounted, bound, opened_locals, behind}
-use Rattle.fac_effect.specs.Spellings.{head_of, wrap_text, call_text, token_spelling, token_text, plain_token}
-use Rattle.fac_parse.specs.Rows.{slots_of}
+use Rattle.fac_effect.specs.Spellings.{wrap_text, call_text, token_spelling, token_text, plain_token}
+use Rattle.fac_source.specs.FormRows.{head_of, slots_of}
 use Rattle.fac_parse.specs.Trees.{element_tokens, items_tokens, mark_token, marks_tokens, parent_tokens, part_tokens, parts_tokens, flatten, named, IsName, AreNames, most_slots, is_parent_sign, AreSlots, AreLocalNames, IsLiteralBracket, AreMarks, IsElement, Lead, Encloses, Fills, IsWellFormed}
 use Rattle.fac_parse.specs.inner.Reader.{Half, no_half, binding, heading, wrapping, calling, Grown, stuck, begun_as, grown, Within, name, names, tuple_slots, tuple_parent, fixed, effect, items, literal, marks, Begun, begun, Open, top, row, State, in_state, outside, start, row_form, last_inputs, more, with_part, with_run, may_end, begin_row, element_of, grown_if, half_where, is_local, begin_element, bind_step, heading_step, wrap_step, call_with, call_step, grow, with_element, with_grown, begins, begin_or_add, top_step, name_step, names_step, sign_step, sign_or_slot, slots_step, parent_step, key_step, fixed_step, written, effect_with, may_take, effect_step, row_items, end_items, is_semi, end_or_add, is_open, literal_with, literal_grown, mark_of, may_follow, with_mark, mark_step, row_step, open_step, step, steps}
 use Rattle.fac_effect.proofs.SpellingLemmas.{sign_token, name_token}
@@ -95,8 +96,8 @@ within_taken forms b w v t fits g same good e =
 
 named_sign : (k : Naming) (s : Spelling) → named k s ≡ Semi → s ≡ Semi
 named_sign naming.Any s h = h
-named_sign naming.Class True h = cc
-named_sign naming.Class False h = cc
+named_sign naming.Class (Literal True) h = cc
+named_sign naming.Class (Literal False) h = cc
 named_sign naming.Class _ h = h
 
 pub name_fills : (n : ℕ) (k : Naming) (t : Token) → IsName k t → Fills n (slot_of (name k)) (part.Name t)
@@ -205,11 +206,8 @@ IsGrown contexts h t (begun_as next) = GoodHalf contexts next × (half_tokens ne
 IsGrown contexts h t (grown e) = IsElement e × (element_tokens e ≡ half_tokens h ++ t ∷ [])
 
 element_is : (contexts : List Context) (t : Token) (s : Spelling) → token_spelling t.kind ≡ s → IsGrown contexts no_half t (grown_if (element_of s t))
-element_is contexts t (Integer z) h = (h, refl)
-element_is contexts t String h = (h, refl)
+element_is contexts t (Literal l) h = (h, refl)
 element_is contexts t Name h = (h, refl)
-element_is contexts t True h = (tt, alone t _ (sign_token t True h tt))
-element_is contexts t False h = (tt, alone t _ (sign_token t False h tt))
 element_is contexts t NextMethod h = (tt, alone t _ (sign_token t NextMethod h tt))
 element_is contexts t Hole h = (tt, alone t _ (sign_token t Hole h tt))
 element_is contexts t CalledHole h = (tt, alone t _ (sign_token t CalledHole h tt))
@@ -424,10 +422,7 @@ literal_begins : (forms : List Form) (b : Begun) (t : Token) (e : Element) → I
 literal_begins forms b t (element.Item (term.Name n)) fits g is spelled = tt
 literal_begins forms b t (element.Item (term.Wrapped sign n)) fits g is spelled = literal_alone forms b t (element.Item (term.Wrapped sign n)) fits g is spelled
 literal_begins forms b t (element.Item (term.EffectCall callee sign ts height)) fits g is spelled = tt
-literal_begins forms b t (element.Item (term.Integer n z)) fits g is spelled = literal_alone forms b t (element.Item (term.Integer n z)) fits g is spelled
-literal_begins forms b t (element.Item (term.Text n)) fits g is spelled = literal_alone forms b t (element.Item (term.Text n)) fits g is spelled
-literal_begins forms b t (element.Item (term.True place)) fits g is spelled = literal_alone forms b t (element.Item (term.True place)) fits g is spelled
-literal_begins forms b t (element.Item (term.False place)) fits g is spelled = literal_alone forms b t (element.Item (term.False place)) fits g is spelled
+literal_begins forms b t (element.Item (term.Literal n l)) fits g is spelled = literal_alone forms b t (element.Item (term.Literal n l)) fits g is spelled
 literal_begins forms b t (element.Item (term.NextMethod place)) fits g is spelled = tt
 literal_begins forms b t (element.Item (term.Bind sign n)) fits g is spelled = tt
 literal_begins forms b t (element.Item (term.Hole place)) fits g is spelled = tt

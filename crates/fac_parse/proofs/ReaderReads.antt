@@ -6,35 +6,35 @@ use Rattle.fac_parse.proofs.StateTokens.{open_inside, Filled, filled_more, input
 use Rattle.std.proofs.Common.{◌≡◌, ℕ, ◌≤◌, Bool, true, false, cond, List, [], ◌∷◌, ◌++◌, Option, Some, None, refl, ap, sym, ◌∙◌, subst, append_assoc, append-nil, arith, length, length-append, le-leb, leb-true}
 use Rattle.std.specs.Prelude.{codes, nat_lt, nat_le, ◌&&◌, ◌+◌}
 use Rattle.std.proofs.lemmas.Bool.Decides.{Decides-ltb}
-use Rattle.fac_lang.specs.declared.phrase.Place.{Place}
-use Rattle.fac_lang.specs.declared.token.Token.{Token}
-use Rattle.fac_lang.specs.declared.token.TokKind.TheVariants.{Plain}
-use Rattle.fac_lang.specs.declared.tree.Term.TheVariants as term
-use Rattle.fac_lang.specs.declared.tree.Element.{Element}
-use Rattle.fac_lang.specs.declared.tree.Element.TheVariants as element
-use Rattle.fac_lang.specs.declared.tree.Mark.{Mark}
-use Rattle.fac_lang.specs.declared.tree.Mark.TheVariants as mark
-use Rattle.fac_lang.specs.declared.tree.FormKind.{FormKind}
-use Rattle.fac_lang.specs.declared.tree.Key.{Key}
-use Rattle.fac_lang.specs.declared.tree.Key.TheVariants.{Arrow}
-use Rattle.fac_lang.specs.declared.tree.Part.{Part}
-use Rattle.fac_lang.specs.declared.tree.Part.TheVariants as part
-use Rattle.fac_lang.specs.declared.tree.Parent.{Parent}
-use Rattle.fac_lang.specs.declared.tree.Form.{Form}
-use Rattle.fac_lang.specs.declared.tree.Form.TheVariants.{Row, Items}
+use Rattle.fac_base.specs.declared.place.Place.{Place}
+use Rattle.fac_source.specs.declared.token.Token.{Token}
+use Rattle.fac_source.specs.declared.token.TokKind.TheVariants.{Plain}
+use Rattle.fac_source.specs.declared.tree.Term.TheVariants as term
+use Rattle.fac_source.specs.declared.tree.Element.{Element}
+use Rattle.fac_source.specs.declared.tree.Element.TheVariants as element
+use Rattle.fac_source.specs.declared.tree.Mark.{Mark}
+use Rattle.fac_source.specs.declared.tree.Mark.TheVariants as mark
+use Rattle.fac_source.specs.declared.tree.FormKind.{FormKind}
+use Rattle.fac_source.specs.declared.tree.Key.{Key}
+use Rattle.fac_source.specs.declared.tree.Key.TheVariants.{Arrow}
+use Rattle.fac_source.specs.declared.tree.Part.{Part}
+use Rattle.fac_source.specs.declared.tree.Part.TheVariants as part
+use Rattle.fac_source.specs.declared.tree.Parent.{Parent}
+use Rattle.fac_source.specs.declared.tree.Form.{Form}
+use Rattle.fac_source.specs.declared.tree.Form.TheVariants.{Row, Items}
 use Rattle.fac_parse.specs.declared.context.Context.{Context}
-use Rattle.fac_parse.specs.declared.rows.Slot.{Slot}
-use Rattle.fac_parse.specs.declared.rows.Slot.TheVariants as slot
+use Rattle.fac_source.specs.declared.form_table.Slot.{Slot}
+use Rattle.fac_source.specs.declared.form_table.Slot.TheVariants as slot
 use Rattle.fac_parse.specs.declared.rows.Naming.{Naming}
 use Rattle.fac_parse.specs.declared.rows.Naming.TheVariants as naming
 use Rattle.fac_parse.specs.declared.rows.Marked.{Marked}
 use Rattle.fac_parse.specs.declared.rows.Marked.TheVariants as marked
 use Rattle.fac_effect.specs.declared.spelling.Spelling.{Spelling}
-use Rattle.fac_effect.specs.declared.spelling.Spelling.TheVariants.{Begins, Fixed, Semi, OpensBracket, ClosesBracket, OpensLocals, Bar, Binds, Hole, CalledHole, True, False, Inline, Recursive, NextMethod, Wraps, Calls, Integer, String, Name}
-use Rattle.fac_lang.specs.declared.phrase.Height.{Height}
-use Rattle.fac_lang.specs.declared.tree.Callee.{Callee}
-use Rattle.fac_lang.specs.Effects.{effect_height}
-use Rattle.fac_lang.specs.Signatures.{Signature}
+use Rattle.fac_effect.specs.declared.spelling.Spelling.TheVariants.{Begins, Fixed, Semi, OpensBracket, ClosesBracket, OpensLocals, Bar, Binds, Hole, CalledHole, Inline, Recursive, NextMethod, Wraps, Calls, Literal, Name}
+use Rattle.fac_base.specs.declared.height.Height.{Height}
+use Rattle.fac_source.specs.declared.tree.Callee.{Callee}
+use Rattle.fac_base.specs.Effects.{effect_height}
+use Rattle.fac_base.specs.Signatures.{Signature}
 use Rattle.fac_effect.specs.declared.effect_reader.EffectReader.{EffectReader}
 use Rattle.fac_effect.specs.declared.effect_reader.EffectWhy.{EffectWhy}
 use Rattle.fac_effect.specs.declared.effect_reader.EffectWhy.TheVariants.{Form as bad_form}
@@ -45,13 +45,13 @@ use Rattle.fac_effect.specs.LocalNames.{may_stand, all_may_stand}
 use Rattle.fac_effect.specs.RowlessEffects.{is_no_row}
 use Rattle.fac_effect.proofs.RowlessLemmas.{rowless_is_whole}
 use Rattle.fac_effect.proofs.LocalNameLemmas.{inputs_are_named}
-use Rattle.fac_lang.specs.declared.tree.Bracket.{Bracket}
-use Rattle.fac_lang.specs.declared.tree.Bracket.TheVariants.{Quotation, Array, Fry}
+use Rattle.fac_source.specs.declared.tree.Bracket.{Bracket}
+use Rattle.fac_source.specs.declared.tree.Bracket.TheVariants.{Quotation, Array, Fry}
 use Rattle.fac_parse.specs.declared.rows.Taking.{Taking}
 use Rattle.fac_parse.specs.declared.rows.Taking.TheVariants.{Values, Locals}
 use Rattle.fac_effect.specs.WrittenEffects.{IsEffect}
-use Rattle.fac_effect.specs.Spellings.{head_of, wrap_text, call_text, opening_text, token_spelling, plain_token, spelling_of, has_integer_form, word_spelling, sign_spelling, is_reserved, is_reserved_sign, is_reserved_form, is_reserved_word, is_left_out}
-use Rattle.fac_parse.specs.Rows.{slots_of}
+use Rattle.fac_source.specs.FormRows.{kind_begun, head_of, slots_of}
+use Rattle.fac_effect.specs.Spellings.{wrap_text, call_text, opening_text, token_spelling, plain_token, spelling_of, has_integer_form, word_spelling, sign_spelling, reserved_spelling}
 use Rattle.fac_effect.proofs.SpellingLemmas.{sign_is}
 
 none_steps : (ts : List Token) → steps None ts ≡ None
@@ -119,7 +119,7 @@ all_slots_read forms b p ns ends h few =
     chain (in_state forms (row b (tuple_slots p []))) (in_state forms (row b (tuple_slots p ns))) ns (plain_token ends (codes ";") ∷ []) _ (slots_read forms b p [] ns h few) (slots_end forms b p ns ends)
 
 sign_is_name : token_spelling (Plain (codes "<")) ≡ Name
-unfolding spelling_of has_integer_form word_spelling sign_spelling is_reserved is_reserved_sign is_reserved_form is_reserved_word is_left_out
+unfolding spelling_of has_integer_form word_spelling sign_spelling kind_begun reserved_spelling
 sign_is_name = refl
 
 sign_read : (forms : List Form) (b : Begun) (place : Place) → step (in_state forms (row b (tuple_slots None []))) (plain_token place (codes "<")) ≡ Some (in_state forms (row b (tuple_parent place)))
@@ -303,14 +303,11 @@ call_read contexts state put takes callee sign ts height next h e =
 
 pub element_read : (contexts : List Context) (state : Half → State) (put : Element → Option State) → Takes contexts state put → (e : Element) (next : List Context) → IsElement e → behind contexts e ≡ Some next → steps (Some (state no_half)) (element_tokens e) ≡ put e
 element_read contexts state put takes (element.Item (term.Name t)) next h k = alone_read contexts state put takes t Name _ h (refl, refl) refl
-element_read contexts state put takes (element.Item (term.Integer t z)) next h k = alone_read contexts state put takes t (Integer z) _ h (refl, refl) refl
-element_read contexts state put takes (element.Item (term.Text t)) next h k = alone_read contexts state put takes t String _ h (refl, refl) refl
+element_read contexts state put takes (element.Item (term.Literal t l)) next h k = alone_read contexts state put takes t (Literal l) _ h (refl, refl) refl
 element_read contexts state put takes (element.Item (term.Bind sign t)) next h k = bind_read contexts state put takes sign t next h.0 h.1 k
 element_read contexts state put takes (element.Item (term.Wrapped sign t)) next h k = wrap_read contexts state put takes sign t next h k
 element_read contexts state put takes (element.Item (term.EffectCall callee sign ts height)) next h k = call_read contexts state put takes callee sign ts height next h k
 element_read contexts state put takes (element.OpensLocals opens ns bar) next h k = locals_read contexts state put takes opens bar ns next h k
-element_read contexts state put takes (element.Item (term.True place)) next h k = alone_read contexts state put takes (plain_token place (codes "t")) True _ (sign_is True tt) (refl, refl) refl
-element_read contexts state put takes (element.Item (term.False place)) next h k = alone_read contexts state put takes (plain_token place (codes "f")) False _ (sign_is False tt) (refl, refl) refl
 element_read contexts state put takes (element.Item (term.NextMethod place)) next h k = alone_read contexts state put takes (plain_token place (codes "call-next-method")) NextMethod _ (sign_is NextMethod tt) (refl, refl) refl
 element_read contexts state put takes (element.Item (term.Hole place)) next h k = alone_read contexts state put takes (plain_token place (codes "_")) Hole _ (sign_is Hole tt) (refl, refl) refl
 element_read contexts state put takes (element.Item (term.CalledHole place)) next h k = alone_read contexts state put takes (plain_token place (codes "@")) CalledHole _ (sign_is CalledHole tt) (refl, refl) refl
@@ -333,14 +330,11 @@ unmarked_by e t ts s are h none = record { first = t; rest = ts; are = are; unma
 
 begins_unmarked : (e : Element) → IsElement e → BeginsUnmarked e
 begins_unmarked (element.Item (term.Name t)) h = unmarked_by (element.Item (term.Name t)) t [] Name refl h refl
-begins_unmarked (element.Item (term.Integer t z)) h = unmarked_by (element.Item (term.Integer t z)) t [] (Integer z) refl h refl
-begins_unmarked (element.Item (term.Text t)) h = unmarked_by (element.Item (term.Text t)) t [] String refl h refl
+begins_unmarked (element.Item (term.Literal t l)) h = unmarked_by (element.Item (term.Literal t l)) t [] (Literal l) refl h refl
 begins_unmarked (element.Item (term.Bind sign t)) h = unmarked_by (element.Item (term.Bind sign t)) (plain_token sign (codes ":>")) (t ∷ []) Binds refl (sign_is Binds tt) refl
 begins_unmarked (element.Item (term.Wrapped sign t)) h = unmarked_by (element.Item (term.Wrapped sign t)) (plain_token sign wrap_text) (t ∷ []) Wraps refl (sign_is Wraps tt) refl
 begins_unmarked (element.Item (term.EffectCall callee sign ts height)) h = unmarked_by (element.Item (term.EffectCall callee sign ts height)) (plain_token sign (call_text callee)) ts (Calls callee) refl (sign_is (Calls callee) tt) refl
 begins_unmarked (element.OpensLocals opens ns bar) h = unmarked_by (element.OpensLocals opens ns bar) (plain_token opens (codes "[|")) (ns ++ plain_token bar (codes "|") ∷ []) OpensLocals refl (sign_is OpensLocals tt) refl
-begins_unmarked (element.Item (term.True place)) h = unmarked_by (element.Item (term.True place)) (plain_token place (codes "t")) [] True refl (sign_is True tt) refl
-begins_unmarked (element.Item (term.False place)) h = unmarked_by (element.Item (term.False place)) (plain_token place (codes "f")) [] False refl (sign_is False tt) refl
 begins_unmarked (element.Item (term.NextMethod place)) h = unmarked_by (element.Item (term.NextMethod place)) (plain_token place (codes "call-next-method")) [] NextMethod refl (sign_is NextMethod tt) refl
 begins_unmarked (element.Item (term.Hole place)) h = unmarked_by (element.Item (term.Hole place)) (plain_token place (codes "_")) [] Hole refl (sign_is Hole tt) refl
 begins_unmarked (element.Item (term.CalledHole place)) h = unmarked_by (element.Item (term.CalledHole place)) (plain_token place (codes "@")) [] CalledHole refl (sign_is CalledHole tt) refl
@@ -458,10 +452,7 @@ literal_part_read forms b (element.Item (term.EffectCall callee sign ts height) 
 literal_part_read forms b (element.Item (term.Wrapped sign t) ∷ []) h =
     one (in_state forms (row b (literal [] outside no_half))) (in_state forms (row b (literal [] outside (wrapping sign)))) (plain_token sign wrap_text) (t ∷ []) _
     (by_spelling forms (row b (literal [] outside no_half)) (plain_token sign wrap_text) Wraps (sign_is Wraps tt)) (by_spelling forms (row b (literal [] outside (wrapping sign))) t Name h)
-literal_part_read forms b (element.Item (term.Integer t z) ∷ []) h = by_spelling forms (row b (literal [] outside no_half)) t (Integer z) h
-literal_part_read forms b (element.Item (term.Text t) ∷ []) h = by_spelling forms (row b (literal [] outside no_half)) t String h
-literal_part_read forms b (element.Item (term.True place) ∷ []) h = by_spelling forms (row b (literal [] outside no_half)) (plain_token place (codes "t")) True (sign_is True tt)
-literal_part_read forms b (element.Item (term.False place) ∷ []) h = by_spelling forms (row b (literal [] outside no_half)) (plain_token place (codes "f")) False (sign_is False tt)
+literal_part_read forms b (element.Item (term.Literal t l) ∷ []) h = by_spelling forms (row b (literal [] outside no_half)) t (Literal l) h
 literal_part_read forms b (element.Item (term.NextMethod place) ∷ []) h = absurd h
 literal_part_read forms b (element.Item (term.Bind sign t) ∷ []) h = absurd h
 literal_part_read forms b (element.Item (term.Hole place) ∷ []) h = absurd h

@@ -2,20 +2,19 @@
 use Rattle.fac_parse.specs.Contexts.{items_in, counted, uncounted, bound, inside, opened_locals, behind}
 use Rattle.fac_parse.specs.Trees.{IsElement, element_tokens, items_tokens, marks_tokens, parent_tokens, part_tokens, parts_tokens, form_tokens, flatten, most_slots, AreNames, AreSlots, IsParent, AreLocalNames, Lead, AreItems, IsLiteralBracket, AreMarks, inputs_of, Fills, FillFrom, IsForm, MayStandBefore, IsWellFormed}
 use Rattle.fac_parse.specs.declared.context.Context.{Context}
-use Rattle.std.proofs.Common.{◌≡◌, ◌≤◌, ℕ, true, List, [], ◌∷◌, ◌++◌, length, Option, Some, None, refl, ap, sym, ◌∙◌, subst, append_assoc, append-nil, arith}
-use Rattle.std.specs.Prelude.{slice_get, codes}
-use Rattle.fac_lang.specs.declared.phrase.Place.{Place}
-use Rattle.fac_lang.specs.declared.token.Token.{Token}
-use Rattle.fac_lang.specs.declared.tree.Element.{Element}
-use Rattle.fac_lang.specs.declared.tree.Element.TheVariants as element
-use Rattle.fac_lang.specs.declared.tree.Bracket.{Bracket}
-use Rattle.fac_lang.specs.declared.tree.FormKind.{FormKind}
-use Rattle.fac_lang.specs.declared.tree.FormKind.TheVariants.{In, Use, Using, From, QualifiedWith, Defer, Symbol, Constant, Private, Public, Main, Define, DefineLocals, Tuple, Union, Singleton, Generic, Method, Maker}
-use Rattle.fac_lang.specs.declared.tree.Part.{Part}
-use Rattle.fac_lang.specs.declared.tree.Form.{Form}
-use Rattle.fac_lang.specs.declared.tree.Form.TheVariants.{Row, Items}
-use Rattle.fac_parse.specs.declared.rows.Slot.{Slot}
-use Rattle.fac_parse.specs.declared.rows.Slot.TheVariants as slot
+use Rattle.std.proofs.Common.{◌≡◌, ◌≤◌, ℕ, Bool, true, false, List, [], ◌∷◌, ◌++◌, length, Option, Some, None, refl, ap, sym, ◌∙◌, subst, append_assoc, append-nil, arith}
+use Rattle.std.specs.Prelude.{suc, zero, slice_get, codes, not, ◌&&◌, ◌||◌}
+use Rattle.fac_base.specs.declared.place.Place.{Place}
+use Rattle.fac_source.specs.declared.token.Token.{Token}
+use Rattle.fac_source.specs.declared.tree.Element.{Element}
+use Rattle.fac_source.specs.declared.tree.Element.TheVariants as element
+use Rattle.fac_source.specs.declared.tree.Bracket.{Bracket}
+use Rattle.fac_source.specs.declared.tree.FormKind.{FormKind}
+use Rattle.fac_source.specs.declared.tree.Part.{Part}
+use Rattle.fac_source.specs.declared.tree.Form.{Form}
+use Rattle.fac_source.specs.declared.tree.Form.TheVariants.{Row, Items}
+use Rattle.fac_source.specs.declared.form_table.Slot.{Slot}
+use Rattle.fac_source.specs.declared.form_table.Slot.TheVariants as slot
 use Rattle.fac_parse.specs.declared.rows.Naming.{Naming}
 use Rattle.fac_parse.specs.declared.rows.Naming.TheVariants as naming
 use Rattle.fac_parse.specs.declared.rows.Marked.{Marked}
@@ -25,8 +24,11 @@ use Rattle.fac_effect.specs.LocalNames.{name_locals}
 use Rattle.fac_effect.specs.RowlessEffects.{behind_opens, have_no_row}
 use Rattle.fac_parse.specs.declared.rows.Taking.{Taking}
 use Rattle.fac_parse.specs.declared.rows.Taking.TheVariants.{Values, Locals}
-use Rattle.fac_effect.specs.Spellings.{head_of, wrap_text, call_text, plain_token}
-use Rattle.fac_parse.specs.Rows.{slots_of}
+use Rattle.fac_effect.specs.Spellings.{wrap_text, call_text, plain_token}
+use denote.Enum.Declared.{tag_of}
+use Rattle.fac_source.specs.contracts.tree.FormKind.{the_type}
+use Rattle.fac_source.specs.declared.form_table.TheConstants.{FORMS}
+use Rattle.fac_source.specs.FormRows.{Row as TableRow, head_of, slots_in, slots_of}
 use Rattle.fac_parse.specs.inner.Reader.{Half, no_half, binding, heading, wrapping, calling, Within, name, names, tuple_slots, tuple_parent, fixed, effect, items, literal, marks, Begun, Open, top, row, State, outside, begin, last_inputs, row_form, row_ended, at_slot, go_on, with_run}
 
 -- The tokens of what is open.
@@ -129,26 +131,50 @@ filled_last n slots [] rest h l = subst MarksLast h l
 filled_last n [] (p ∷ ps) rest h l = absurd h
 filled_last n (s ∷ slots) (p ∷ ps) rest h l = filled_last (inputs_of p) slots ps rest h.1 l.1
 
+abbrev is_marks : Slot → Bool
+is_marks slot.Marks = true
+is_marks slot.MethodMark = true
+is_marks _ = false
+
+abbrev is_empty : List Slot → Bool
+is_empty [] = true
+is_empty (s ∷ rest) = false
+
+abbrev marks_stand_last : List Slot → Bool
+marks_stand_last [] = true
+marks_stand_last (s ∷ rest) = (not (is_marks s) || is_empty rest) && marks_stand_last rest
+
+empty_is : (rest : List Slot) → is_empty rest ≡ true → rest ≡ []
+empty_is [] h = refl
+empty_is (s ∷ rest) h = cc
+
+mark_last : (s : Slot) (rest : List Slot) → (not (is_marks s) || is_empty rest) ≡ true → LastMarks s rest
+mark_last slot.Marks rest h = empty_is rest h
+mark_last slot.MethodMark rest h = empty_is rest h
+mark_last _ rest h = tt
+
+both_hold : (a b : Bool) → (a && b) ≡ true → (a ≡ true) × (b ≡ true)
+both_hold true b h = (refl, h)
+both_hold false b h = cc
+
+slots_last : (slots : List Slot) → marks_stand_last slots ≡ true → MarksLast slots
+slots_last [] h = tt
+slots_last (s ∷ rest) h =
+    let both = both_hold (not (is_marks s) || is_empty rest) (marks_stand_last rest) h in
+    (mark_last s rest both.0, slots_last rest both.1)
+
+-- marks stand last in each row of the table
+abbrev all_last : List TableRow → Bool
+all_last [] = true
+all_last (r ∷ rs) = marks_stand_last r.slots.now && all_last rs
+
+last_at : (rows : List TableRow) (n : ℕ) → all_last rows ≡ true → marks_stand_last (slots_in (slice_get rows n)) ≡ true
+last_at [] n h = refl
+last_at (r ∷ rs) zero h = (both_hold (marks_stand_last r.slots.now) (all_last rs) h).0
+last_at (r ∷ rs) (suc n) h = last_at rs n (both_hold (marks_stand_last r.slots.now) (all_last rs) h).1
+
 pub marks_last : (kind : FormKind) → MarksLast (slots_of kind)
-marks_last In = (tt, tt)
-marks_last Use = (tt, tt)
-marks_last Using = (tt, tt)
-marks_last From = (tt, (tt, (tt, tt)))
-marks_last QualifiedWith = (tt, (tt, tt))
-marks_last Defer = (tt, tt)
-marks_last Symbol = (tt, tt)
-marks_last Constant = (tt, (tt, tt))
-marks_last Private = tt
-marks_last Public = tt
-marks_last Main = (tt, tt)
-marks_last Define = (tt, (tt, (tt, (refl, tt))))
-marks_last DefineLocals = (tt, (tt, (tt, (refl, tt))))
-marks_last Tuple = (tt, (tt, tt))
-marks_last Union = (tt, (tt, tt))
-marks_last Singleton = (tt, tt)
-marks_last Generic = (tt, (tt, tt))
-marks_last Method = (tt, (tt, (tt, (refl, tt))))
-marks_last Maker = (tt, (tt, tt))
+marks_last kind = slots_last (slots_of kind) (last_at FORMS (tag_of the_type kind) refl)
 
 -- What is known of what is open.
 

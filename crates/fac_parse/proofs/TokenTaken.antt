@@ -1,7 +1,7 @@
 -- A token that is taken where a row has an effect or items.
 use Rattle.std.proofs.Common.{◌≡◌, Bool, Result, sym, subst}
-use Rattle.fac_lang.specs.declared.memory.Memory.{Memory}
-use Rattle.fac_lang.specs.declared.token.Token.{Token}
+use Rattle.fac_base.specs.declared.memory.Memory.{Memory}
+use Rattle.fac_source.specs.declared.token.Token.{Token}
 use Rattle.fac_effect.specs.declared.spelling.Spelling.{Spelling}
 use Rattle.fac_effect.specs.Spellings.{token_spelling}
 use Rattle.fac_parse.specs.declared.reader.At.{At}

@@ -1,12 +1,12 @@
 -- What elements stand in, and what counts there. The innermost context comes first, and the last one is that of the items as a whole.
 use Rattle.std.specs.Prelude.{ℕ, ◌+◌, nat_lt, nat_le, ◌&&◌, Option, Some, None, List, [], ◌∷◌, length, if◌then◌else◌}
-use Rattle.fac_lang.specs.declared.limits.TheConstants.{MOST_LEVELS, MOST_ELEMENTS, MOST_LOCALS, MOST_HOLES}
-use Rattle.fac_lang.specs.declared.tree.Term.{Term}
-use Rattle.fac_lang.specs.declared.tree.Term.TheVariants as term
-use Rattle.fac_lang.specs.declared.tree.Element.{Element}
-use Rattle.fac_lang.specs.declared.tree.Element.TheVariants as element
-use Rattle.fac_lang.specs.declared.tree.Bracket.{Bracket}
-use Rattle.fac_lang.specs.declared.tree.Bracket.TheVariants as bracket
+use Rattle.fac_base.specs.declared.limits.TheConstants.{MOST_LEVELS, MOST_ELEMENTS, MOST_LOCALS, MOST_HOLES}
+use Rattle.fac_source.specs.declared.tree.Term.{Term}
+use Rattle.fac_source.specs.declared.tree.Term.TheVariants as term
+use Rattle.fac_source.specs.declared.tree.Element.{Element}
+use Rattle.fac_source.specs.declared.tree.Element.TheVariants as element
+use Rattle.fac_source.specs.declared.tree.Bracket.{Bracket}
+use Rattle.fac_source.specs.declared.tree.Bracket.TheVariants as bracket
 use Rattle.fac_parse.specs.declared.context.Around.{Around}
 use Rattle.fac_parse.specs.declared.context.Around.TheVariants.{Items, Fry, Array}
 use Rattle.fac_parse.specs.declared.context.Context.{Context}

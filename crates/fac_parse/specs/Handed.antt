@@ -1,7 +1,7 @@
 -- A tree that is handed out form by form.
 use Rattle.std.specs.Prelude.{◌≡◌, ◌≤◌, ◌<◌, ◌^◌, ℕ, suc, Bool, true, false, List, ◌++◌, length, take, drop, Option, Some, None, Result, Ok, Err}
-use Rattle.fac_lang.specs.declared.token.Token.{Token}
-use Rattle.fac_lang.specs.declared.tree.Form.{Form}
+use Rattle.fac_source.specs.declared.token.Token.{Token}
+use Rattle.fac_source.specs.declared.tree.Form.{Form}
 use Rattle.fac_parse.specs.declared.reader.ParseFault.{ParseFault}
 use Rattle.fac_parse.specs.declared.parser.Parser.{Parser}
 use Rattle.fac_parse.specs.Trees.{AreForms, Parses, Reads}

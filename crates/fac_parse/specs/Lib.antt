@@ -1,4 +1,3 @@
-pub mod Rows
 pub mod Contexts
 pub mod Trees
 pub mod Handed

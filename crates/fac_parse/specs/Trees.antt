@@ -1,24 +1,25 @@
 -- Trees, their tokens, and which trees are well-formed.
 use Rattle.std.specs.Prelude.{◌≡◌, ◌≤◌, ◌<◌, ◌+◌, ◌⊎◌, ℕ, Bool, true, false, Option, Some, None, List, [], ◌∷◌, ◌++◌, length, take, codes, Result, Ok, Err}
 use Rattle.std.specs.Str.{bytes_eq}
-use Rattle.fac_lang.specs.declared.limits.TheConstants.{MOST_SLOTS}
-use Rattle.fac_lang.specs.declared.phrase.Place.{Place}
-use Rattle.fac_lang.specs.declared.phrase.Height.{Height}
-use Rattle.fac_lang.specs.declared.token.Token.{Token}
-use Rattle.fac_lang.specs.declared.tree.Tree.{Tree}
-use Rattle.fac_lang.specs.declared.tree.Term.{Term}
-use Rattle.fac_lang.specs.declared.tree.Term.TheVariants as term
-use Rattle.fac_lang.specs.declared.tree.Element.{Element}
-use Rattle.fac_lang.specs.declared.tree.Element.TheVariants as element
-use Rattle.fac_lang.specs.declared.tree.Bracket.{Bracket}
-use Rattle.fac_lang.specs.declared.tree.Bracket.TheVariants.{Fry}
-use Rattle.fac_lang.specs.declared.tree.Mark.{Mark}
-use Rattle.fac_lang.specs.declared.tree.Mark.TheVariants.{Inline, Recursive}
-use Rattle.fac_lang.specs.declared.tree.Form.{Form}
-use Rattle.fac_lang.specs.declared.tree.Form.TheVariants.{Row, Items}
-use Rattle.fac_lang.specs.declared.tree.Part.{Part}
-use Rattle.fac_lang.specs.declared.tree.Part.TheVariants as part
-use Rattle.fac_lang.specs.declared.tree.Parent.{Parent}
+use Rattle.fac_base.specs.declared.limits.TheConstants.{MOST_SLOTS}
+use Rattle.fac_base.specs.declared.place.Place.{Place}
+use Rattle.fac_base.specs.declared.height.Height.{Height}
+use Rattle.fac_source.specs.declared.token.Token.{Token}
+use Rattle.fac_source.specs.declared.tree.Tree.{Tree}
+use Rattle.fac_source.specs.declared.tree.Term.{Term}
+use Rattle.fac_source.specs.declared.tree.Term.TheVariants as term
+use Rattle.fac_source.specs.declared.tree.Literal.TheVariants.{True, False}
+use Rattle.fac_source.specs.declared.tree.Element.{Element}
+use Rattle.fac_source.specs.declared.tree.Element.TheVariants as element
+use Rattle.fac_source.specs.declared.tree.Bracket.{Bracket}
+use Rattle.fac_source.specs.declared.tree.Bracket.TheVariants.{Fry}
+use Rattle.fac_source.specs.declared.tree.Mark.{Mark}
+use Rattle.fac_source.specs.declared.tree.Mark.TheVariants.{Inline, Recursive}
+use Rattle.fac_source.specs.declared.tree.Form.{Form}
+use Rattle.fac_source.specs.declared.tree.Form.TheVariants.{Row, Items}
+use Rattle.fac_source.specs.declared.tree.Part.{Part}
+use Rattle.fac_source.specs.declared.tree.Part.TheVariants as part
+use Rattle.fac_source.specs.declared.tree.Parent.{Parent}
 use Rattle.fac_effect.specs.declared.spelling.Spelling.{Spelling}
 use Rattle.fac_effect.specs.declared.spelling.Spelling.TheVariants as spelled
 use Rattle.fac_parse.specs.declared.reader.ParseFault.{ParseFault}
@@ -26,29 +27,26 @@ use Rattle.fac_parse.specs.declared.reader.ParseFault.TheVariants.{Syntax, Memor
 use Rattle.fac_parse.specs.declared.reader.Why.{Why}
 use Rattle.fac_parse.specs.declared.reader.Why.TheVariants.{End, Other}
 use Rattle.fac_parse.specs.declared.context.Context.{Context}
-use Rattle.fac_parse.specs.declared.rows.Slot.{Slot}
-use Rattle.fac_parse.specs.declared.rows.Slot.TheVariants as slot
+use Rattle.fac_source.specs.declared.form_table.Slot.{Slot}
+use Rattle.fac_source.specs.declared.form_table.Slot.TheVariants as slot
 use Rattle.fac_parse.specs.declared.rows.Naming.{Naming}
 use Rattle.fac_parse.specs.declared.rows.Naming.TheVariants as naming
 use Rattle.fac_parse.specs.declared.rows.Marked.{Marked}
 use Rattle.fac_parse.specs.declared.rows.Marked.TheVariants as marked
-use Rattle.fac_lang.specs.Signatures.{Signature}
-use Rattle.fac_lang.specs.Effects.{effect_height}
-use Rattle.fac_effect.specs.Spellings.{head_of, key_text, wrap_text, call_text, opening_text, closing_text, plain_token, token_text, token_spelling}
+use Rattle.fac_base.specs.Signatures.{Signature}
+use Rattle.fac_base.specs.Effects.{effect_height}
+use Rattle.fac_effect.specs.Spellings.{key_text, wrap_text, call_text, opening_text, closing_text, plain_token, token_text, token_spelling}
 use Rattle.fac_effect.specs.WrittenEffects.{IsEffect}
 use Rattle.fac_effect.specs.LocalNames.{is_local_name, takes_locals}
 use Rattle.fac_effect.specs.RowlessEffects.{IsRowless}
-use Rattle.fac_parse.specs.Rows.{slots_of}
+use Rattle.fac_source.specs.FormRows.{head_of, slots_of}
 use Rattle.fac_parse.specs.Contexts.{items_in, inside, behind}
 
 abbrev pub term_tokens : Term → List Token
 term_tokens (term.Name token) = token ∷ []
 term_tokens (term.Wrapped sign name) = plain_token sign wrap_text ∷ name ∷ []
 term_tokens (term.EffectCall callee sign tokens height) = plain_token sign (call_text callee) ∷ tokens
-term_tokens (term.Integer token value) = token ∷ []
-term_tokens (term.Text token) = token ∷ []
-term_tokens (term.True place) = plain_token place (codes "t") ∷ []
-term_tokens (term.False place) = plain_token place (codes "f") ∷ []
+term_tokens (term.Literal token l) = token ∷ []
 term_tokens (term.NextMethod place) = plain_token place (codes "call-next-method") ∷ []
 term_tokens (term.Bind sign name) = plain_token sign (codes ":>") ∷ name ∷ []
 term_tokens (term.Hole place) = plain_token place (codes "_") ∷ []
@@ -105,8 +103,8 @@ flatten (form ∷ forms) = form_tokens form ++ flatten forms
 
 -- what a token is where a name stands: `t` and `f` are names of classes
 abbrev pub named : Naming → Spelling → Spelling
-named naming.Class spelled.True = spelled.Name
-named naming.Class spelled.False = spelled.Name
+named naming.Class (spelled.Literal True) = spelled.Name
+named naming.Class (spelled.Literal False) = spelled.Name
 named _ s = s
 
 abbrev pub IsName : Naming → Token → Type 0
@@ -147,10 +145,7 @@ abbrev pub IsTerm : Term → Type 0
 IsTerm (term.Name token) = token_spelling token.kind ≡ spelled.Name
 IsTerm (term.Wrapped sign name) = token_spelling name.kind ≡ spelled.Name
 IsTerm (term.EffectCall callee sign tokens height) = IsDeclared sign tokens height
-IsTerm (term.Integer token value) = token_spelling token.kind ≡ spelled.Integer value
-IsTerm (term.Text token) = token_spelling token.kind ≡ spelled.String
-IsTerm (term.True place) = Unit {0}
-IsTerm (term.False place) = Unit {0}
+IsTerm (term.Literal token l) = token_spelling token.kind ≡ spelled.Literal l
 IsTerm (term.NextMethod place) = Unit {0}
 IsTerm (term.Bind sign name) = IsLocalName name
 IsTerm (term.Hole place) = Unit {0}

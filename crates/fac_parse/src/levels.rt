@@ -4,8 +4,9 @@ ghost use Rattle.fac_parse.specs.Contexts.{behind, item_behind, items_in, inside
 ghost use Rattle.fac_parse.specs.inner.Reader.{contexts_of, is_open as open_there, is_there, Passes};
 
 use crate::context::{Around, Context};
-use fac_lang::limits::{MOST_ELEMENTS, MOST_HOLES, MOST_LEVELS, MOST_LOCALS};
-use fac_lang::{Bracket, Element, Memory, Stack, Term};
+use fac_base::limits::{MOST_ELEMENTS, MOST_HOLES, MOST_LEVELS, MOST_LOCALS};
+use fac_base::{Memory, Stack};
+use fac_source::{Bracket, Element, Term};
 use std::alloc::Global;
 
 /// The contexts of an element.

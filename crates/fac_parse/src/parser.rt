@@ -1,14 +1,15 @@
 //! The tree of a source's tokens, form by form.
 ghost use Rattle.std.specs.Prelude.{◌≡◌, ◌++◌, ◌<◌, ◌≤◌, List as Items, [], length, IfOk, IfSome, OnOk};
-ghost use Rattle.fac_lang.specs.declared.token.Token.{Token as Read};
-ghost use Rattle.fac_lang.specs.declared.tree.Form.{Form as Whole};
+ghost use Rattle.fac_source.specs.declared.token.Token.{Token as Read};
+ghost use Rattle.fac_source.specs.declared.tree.Form.{Form as Whole};
 ghost use Rattle.fac_parse.specs.Handed.{HandsOut, HasHandedOut, IsTaking, calls_left};
 ghost use Rattle.fac_parse.specs.Trees.{AreForms};
 ghost use Rattle.fac_parse.specs.inner.Reader.{state_of};
 ghost use Rattle.fac_parse.specs.inner.Handing.{Ends, FallsIf, GoesOn, TakesMore, TakesNext};
 
 use crate::reader::{ParseFault, Reader, Why, syntax};
-use fac_lang::{Form, List, Queue, Token};
+use fac_base::{List, Queue};
+use fac_source::{Form, Token};
 use std::alloc::Global;
 use std::mem;
 

@@ -8,17 +8,18 @@ ghost use Rattle.fac_parse.specs.inner.Reader.{top_step, name_step, names_step, 
 ghost use Rattle.fac_parse.specs.inner.Reader.{key_step, fixed_step, may_take as fits_taking, effect_step, items_step, literal_step};
 ghost use Rattle.fac_parse.specs.inner.Reader.{may_follow as may_stand_behind, with_mark, marks_step, step, ended, ended_top, start};
 ghost use Rattle.fac_parse.specs.inner.Reader.{contexts_of, half_of, run_ends, open_of, state_of, IsHalfRead, IsRead, Goes, Finishes, IsSyntax};
-ghost use Rattle.fac_lang.specs.declared.tree.Part.TheVariants as part;
+ghost use Rattle.fac_source.specs.declared.tree.Part.TheVariants as part;
 ghost use Rattle.fac_effect.specs.Spellings.{token_spelling};
 ghost use Rattle.fac_effect.specs.EffectReading.{reads as reading, whole, after};
 
-use crate::rows::{Marked, Naming, Slot, Taking, slot_at};
+use crate::rows::{Marked, Naming, Taking};
 use crate::run::{Growth, Run, Unfinished};
+use fac_base::limits::MOST_SLOTS;
+use fac_base::{Boxed, List, Memory, Place};
 use fac_effect::{EffectReader, Spelling, Taken, classify, effect_from, may_stand, text};
-use fac_lang::limits::MOST_SLOTS;
-use fac_lang::{
-    Boxed, Bracket, Element, Form, FormKind, Key, List, Mark, Memory, Parent, Part, Place, Term,
-    Token, WrittenEffect,
+use fac_source::{
+    Bracket, Element, Form, FormKind, Key, Literal, Mark, Parent, Part, Slot, Term, Token,
+    WrittenEffect, slot_at,
 };
 use std::alloc::Global;
 use std::mem;
@@ -131,8 +132,8 @@ fn named(naming: Naming, spelling: Spelling) -> Spelling
     match naming {
         Naming::Any => spelling,
         Naming::Class => match spelling {
-            Spelling::True => Spelling::Name,
-            Spelling::False => Spelling::Name,
+            Spelling::Literal(Literal::True) => Spelling::Name,
+            Spelling::Literal(Literal::False) => Spelling::Name,
             _ => spelling,
         },
     }
@@ -151,10 +152,7 @@ fn begins_literal(element: &Element) -> bool
 {
     match element {
         Element::Item(term) => match term {
-            Term::Integer(..) => true,
-            Term::Text(_) => true,
-            Term::True(_) => true,
-            Term::False(_) => true,
+            Term::Literal(..) => true,
             Term::Wrapped { .. } => true,
             _ => false,
         },

@@ -1,7 +1,7 @@
 //! Items as far as they are read.
 ghost use Rattle.std.specs.Prelude.{◌≡◌, ◌∷◌, [], Ok, IfOk, OnOk};
 ghost use Rattle.fac_parse.specs.Contexts.{behind, items_in};
-ghost use Rattle.fac_lang.specs.declared.tree.Element.TheVariants.{OpensLocals};
+ghost use Rattle.fac_source.specs.declared.tree.Element.TheVariants.{OpensLocals};
 ghost use Rattle.fac_effect.specs.declared.spelling.Spelling.TheVariants.{Name};
 ghost use Rattle.fac_effect.specs.Spellings.{token_spelling};
 ghost use Rattle.fac_effect.specs.EffectReading.{reads as reading, whole as whole_effect};
@@ -10,8 +10,9 @@ ghost use Rattle.fac_parse.specs.inner.Reader.{element_of, grown, grown_if, is_l
 ghost use Rattle.fac_parse.specs.inner.Reader.{may_end as ends_there, is_literal_half, contexts_of, half_of, IsHalfRead, IsGrowth, Grows, Adds, Holds};
 
 use crate::levels::Levels;
+use fac_base::{List, Memory, Place};
 use fac_effect::{EffectReader, Spelling, Taken, declared_height, is_local_name, is_no_row, text};
-use fac_lang::{Bracket, Callee, Element, Integer, List, Memory, Place, Term, Token};
+use fac_source::{Bracket, Callee, Element, Term, Token};
 use std::alloc::Global;
 use std::mem;
 
@@ -61,11 +62,8 @@ fn element(spelling: Spelling, token: Token) -> Option<Element>
     ensures { result ≡ element_of spelling token }
 {
     match spelling {
-        Spelling::Integer(value) => Some(Element::Item(Term::Integer(token, Integer::new(value)))),
-        Spelling::String => Some(Element::Item(Term::Text(token))),
+        Spelling::Literal(literal) => Some(Element::Item(Term::Literal(token, literal.kept()))),
         Spelling::Name => Some(Element::Item(Term::Name(token))),
-        Spelling::True => Some(Element::Item(Term::True(token.place))),
-        Spelling::False => Some(Element::Item(Term::False(token.place))),
         Spelling::NextMethod => Some(Element::Item(Term::NextMethod(token.place))),
         Spelling::Hole => Some(Element::Item(Term::Hole(token.place))),
         Spelling::CalledHole => Some(Element::Item(Term::CalledHole(token.place))),

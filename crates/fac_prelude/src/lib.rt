@@ -5,10 +5,7 @@ ghost use Rattle.std.specs.Prelude.{◌≡◌};
 ghost use Rattle.fac_prelude.specs.PreludeText.{prelude_text};
 
 /// The text of the prelude, as a file has it.
-pub fn text() -> &'static str
-    ensures { result.now ≡ prelude_text }
-{
-    "\
+pub const PRELUDE: &str = "\
 IN: kernel
 : 2dip ( x y quot -- x y ) swap [ dip ] dip ; inline
 : 3dip ( x y z quot -- x y z ) swap [ 2dip ] dip ; inline
@@ -67,5 +64,11 @@ USING: math math.private arrays ;
 : reduce ( ..a seq id quot: ( ..a prev x -- ..a next ) -- ..a result )
     swapd each ; inline
 : sum ( seq -- n ) 0 [ + ] reduce ;
-"
+";
+
+/// The text of the prelude.
+pub fn text() -> &'static str
+    ensures { result.now ≡ prelude_text }
+{
+    PRELUDE
 }

@@ -3,8 +3,8 @@ use Rattle.std.proofs.Common.{◌≡◌, ◌≤◌, ℕ, ◌+◌, ◌-◌, List,
 use Rattle.std.specs.Prelude.{nat_eq, nat_lt, ◌&&◌, not}
 use Rattle.std.proofs.lemmas.Bool.{eqb-true, eq-eqb, ltb-true, lt-ltb}
 use Rattle.fac_lang.specs.Phrases.{Mark}
-use Rattle.fac_lang.specs.Signatures.{Signature, signature, Inputs, Leaving, never}
-use Rattle.fac_lang.specs.RowVariables.{Row, hidden, named_row, row_eq, row_of, leaving_row, row_name, effect_leaving, has_rows, outer_in, outer_out}
+use Rattle.fac_base.specs.Signatures.{Signature, signature, Inputs, Leaving, never}
+use Rattle.fac_abs.specs.RowVariables.{Row, hidden, named_row, row_eq, row_of, leaving_row, row_name, effect_leaving, has_rows, outer_in, outer_out}
 use Rattle.fac_abs.specs.InTurn.{under}
 use Rattle.fac_abs.specs.Marks.{AbstractStack, dead, on, base_eq, cover_marks, covered}
 use Rattle.fac_abs.specs.MarkTrees.{Naming}

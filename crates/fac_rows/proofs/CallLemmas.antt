@@ -3,12 +3,12 @@ use Rattle.std.proofs.Common.{◌≡◌, ◌⊎◌, inl, inr, ◌<◌, ◌≤◌
 use Rattle.std.specs.Prelude.{nat_eq, nat_lt, ◌&&◌, ◌||◌, not}
 use Rattle.std.specs.Str.{bytes_eq}
 use Rattle.std.proofs.lemmas.Bool.{eq-eqb, ltb-true, lt-ltb}
-use Rattle.fac_lang.specs.declared.effect.Input.{Input}
-use Rattle.fac_lang.specs.EffectView.{inputs_tree}
+use Rattle.fac_base.specs.declared.effect.Input.{Input}
+use Rattle.fac_base.specs.EffectView.{inputs_tree}
 use Rattle.fac_lang.specs.Phrases.{Mark}
-use Rattle.fac_lang.specs.Signatures.{Signature, signature, Inputs, no_inputs, value, quoted, Leaving, never, leaves}
-use Rattle.fac_lang.specs.Effects.{inputs_count}
-use Rattle.fac_lang.specs.RowVariables.{Row, named_row, row_name, row_of, leaving_row, effect_inputs, effect_leaving, outer_in, outer_out, input_effect}
+use Rattle.fac_base.specs.Signatures.{Signature, signature, Inputs, no_inputs, value, quoted, Leaving, never, leaves}
+use Rattle.fac_base.specs.Effects.{inputs_count}
+use Rattle.fac_abs.specs.RowVariables.{Row, named_row, row_name, row_of, leaving_row, effect_inputs, effect_leaving, outer_in, outer_out, input_effect}
 use Rattle.fac_abs.specs.InTurn.{under}
 use Rattle.fac_abs.specs.Marks.{base_eq}
 use Rattle.fac_abs.specs.MarkTrees.{Naming}

@@ -1,8 +1,8 @@
 -- How rows are bound and numbered, and what calls inside a row word come to, computed.
 use Rattle.std.specs.Prelude.{◌≡◌, ℕ, List, [], ◌∷◌, codes, true, false, Some, None, refl}
 use Rattle.fac_lang.specs.Phrases.{Mark, any, wrd_mark, par_mark}
-use Rattle.fac_lang.specs.Signatures.{Signature, signature, no_inputs, value, quoted, never, leaves}
-use Rattle.fac_lang.specs.RowVariables.{Row, hidden, named_row}
+use Rattle.fac_base.specs.Signatures.{Signature, signature, no_inputs, value, quoted, never, leaves}
+use Rattle.fac_abs.specs.RowVariables.{Row, hidden, named_row}
 use Rattle.fac_abs.specs.Marks.{mark_eq, AbstractStack, dead, on}
 use Rattle.fac_abs.specs.declared.rule.Rule.TheVariants.{Underflow, RecursiveInput, Rows}
 use Rattle.fac_rows.specs.RowBinding.{Binding, Tied, tied, untied, tie, start_row, inputs_known, call_breaks, call_leaves, calls_own, own_call, row_binding, row_result, inputs_marks}

@@ -1,3 +1,4 @@
+pub mod BoundRowLemmas
 pub mod BindingLemmas
 mod CallLemmas
 mod TakingLemmas

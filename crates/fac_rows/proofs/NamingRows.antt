@@ -3,8 +3,8 @@ use Rattle.std.proofs.Common.{◌≡◌, ◌+◌, ◌≤◌, ℕ, zero, suc, Lis
 use Rattle.std.specs.Prelude.{nat_eq}
 use Rattle.std.proofs.lemmas.Bool.{eqb-true, eq-eqb}
 use Rattle.std.proofs.lemmas.Slice.Eq.{bytes_eq-Decides}
-use Rattle.fac_lang.specs.Signatures.{Signature}
-use Rattle.fac_lang.specs.RowVariables.{Row, hidden, named_row}
+use Rattle.fac_base.specs.Signatures.{Signature}
+use Rattle.fac_abs.specs.RowVariables.{Row, hidden, named_row}
 use Rattle.fac_abs.specs.MarkTrees.{Naming}
 use Rattle.fac_rows.specs.RowNumbers.{sides, is_named, is_among, side_number, NamesOwn}
 

@@ -1,9 +1,9 @@
 -- How a use of a row word binds its rows, and what they are inside the row word.
 use Rattle.std.specs.Prelude.{ℕ, suc, ◌+◌, List, [], ◌∷◌, length, drop, Bool, true, false, ◌&&◌, not, nat_eq, nat_lt, Option, Some, None}
 use Rattle.fac_lang.specs.Phrases.{Mark, any, par_mark}
-use Rattle.fac_lang.specs.Signatures.{Signature, signature, Inputs, no_inputs, value, quoted, Leaving, never, leaves}
-use Rattle.fac_lang.specs.Effects.{inputs_count}
-use Rattle.fac_lang.specs.RowVariables.{Row, named_row, row_eq, leaving_row, effect_inputs, effect_leaving, outer_in, outer_out, input_effect}
+use Rattle.fac_base.specs.Signatures.{Signature, signature, Inputs, no_inputs, value, quoted, Leaving, never, leaves}
+use Rattle.fac_base.specs.Effects.{inputs_count}
+use Rattle.fac_abs.specs.RowVariables.{Row, named_row, row_eq, leaving_row, effect_inputs, effect_leaving, outer_in, outer_out, input_effect}
 use Rattle.fac_abs.specs.Marks.{AbstractStack, dead, on, base_eq, mark_eq, unknowns, popped, cover_marks, is_callable}
 use Rattle.fac_abs.specs.declared.rule.Rule.{Rule}
 use Rattle.fac_abs.specs.declared.rule.Rule.TheVariants.{Underflow, RecursiveInput, Rows}

@@ -1,8 +1,8 @@
 -- Which number a row of an effect has, where a row is the base of a stack.
 use Rattle.std.specs.Prelude.{ℕ, suc, List, [], ◌∷◌, Bool, true, false, ◌||◌, Option, Some, None, ◌≡◌}
 use Rattle.std.specs.Str.{bytes_eq}
-use Rattle.fac_lang.specs.Signatures.{Signature, signature, Inputs, no_inputs, value, quoted, Leaving, never, leaves}
-use Rattle.fac_lang.specs.RowVariables.{Row, hidden, named_row, row_name, effect_leaving}
+use Rattle.fac_base.specs.Signatures.{Signature, signature, Inputs, no_inputs, value, quoted, Leaving, never, leaves}
+use Rattle.fac_abs.specs.RowVariables.{Row, hidden, named_row, row_name, effect_leaving}
 use Rattle.fac_abs.specs.MarkTrees.{Naming}
 
 -- the row variable of an output side

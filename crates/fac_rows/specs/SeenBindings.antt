@@ -1,9 +1,9 @@
 -- Rows that are bound to stacks by their numbers, and calls inside a row word, as contracts see them.
 use Rattle.std.specs.Prelude.{ℕ, List, [], ◌∷◌, Option, Some, None, ◌≡◌}
 use Rattle.fac_lang.specs.Phrases.{Mark}
-use Rattle.fac_lang.specs.Signatures.{Signature}
-use Rattle.fac_lang.specs.Effects.{inputs_count}
-use Rattle.fac_lang.specs.RowVariables.{Row, effect_inputs, effect_leaving, row_name}
+use Rattle.fac_base.specs.Signatures.{Signature}
+use Rattle.fac_base.specs.Effects.{inputs_count}
+use Rattle.fac_abs.specs.RowVariables.{Row, effect_inputs, effect_leaving, row_name}
 use Rattle.fac_abs.specs.Marks.{dead, on, unknowns, popped}
 use Rattle.fac_abs.specs.MarkTrees.{Naming}
 use Rattle.fac_abs.specs.SeenMarks.{MarksSeen, stack_of, base_seen, reached_seen, IsStack, IsReached}

@@ -1,3 +1,4 @@
+pub mod BoundRows
 pub mod Bounds
 pub mod InputCalls
 pub mod Ties

@@ -2,8 +2,8 @@
 ghost use Rattle.std.specs.Prelude.{◌≡◌, ◌∷◌, [], ℕ, List, Some, None, length, reverse, IfOk, OnOk, OnErr};
 ghost use Rattle.std.specs.declared.option.Option.{Option};
 ghost use Rattle.std.specs.Option.{option_copied};
-ghost use Rattle.fac_lang.specs.Signatures.{never, leaves};
-ghost use Rattle.fac_lang.specs.RowVariables.{Row, outer_in, outer_out, named_row, row_eq};
+ghost use Rattle.fac_base.specs.Signatures.{never, leaves};
+ghost use Rattle.fac_abs.specs.RowVariables.{Row, outer_in, outer_out, named_row, row_eq};
 ghost use Rattle.fac_abs.specs.declared.rule.Rule.TheVariants.{Rows};
 ghost use Rattle.fac_abs.specs.MarkTrees.{Naming};
 ghost use Rattle.fac_abs.specs.MarkPromises.{IsReachedWhere};
@@ -13,11 +13,11 @@ ghost use Rattle.fac_rows.specs.SeenBindings.{IsBinding, binding_seen, IsStart, 
 ghost use Rattle.fac_rows.specs.inner.Bounds.{bound_seen, all_seen};
 ghost use Rattle.fac_rows.specs.inner.Ties.{row_by, covers_rest, IsTieBy, IsTieOfRow};
 
+use crate::has_rows;
 use crate::leaving::leave;
 use crate::numbers::{count_inputs, row_out, rows, sum};
 use fac_abs::{Marks, Reached, Rule};
-use fac_effect::has_rows;
-use fac_lang::{Effect, Memory, Outs, Text};
+use fac_base::{Effect, Memory, Outs, Text};
 use std::alloc::Global;
 use std::marker::Model;
 
@@ -36,7 +36,7 @@ pub struct Binding<'a> {
 
 impl<'a> Model for Binding<'a> {
     ghost use Rattle.std.specs.Prelude.{List, reverse};
-    ghost use Rattle.fac_lang.specs.RowVariables.{Row};
+    ghost use Rattle.fac_abs.specs.RowVariables.{Row};
     ghost use Rattle.fac_abs.specs.declared.reached.Reached.{Reached};
 
     ghost Value = { List (Row × Reached) };

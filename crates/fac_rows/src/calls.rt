@@ -1,10 +1,11 @@
 //! Calls inside a row word: the own recursive call, and calls of its quotation inputs.
 ghost use Rattle.std.specs.Prelude.{◌≡◌, ◌≤◌, ◌∷◌, length, Some, IfOk};
 ghost use Rattle.std.specs.Option.{option_copied};
-ghost use Rattle.fac_lang.specs.EffectView.{inputs_tree};
-ghost use Rattle.fac_lang.specs.Effects.{effect_height};
+ghost use Rattle.fac_base.specs.declared.limits.TheConstants.{MOST_EFFECT_NAMES};
+ghost use Rattle.fac_base.specs.EffectView.{inputs_tree};
+ghost use Rattle.fac_base.specs.Effects.{effect_height};
 ghost use Rattle.fac_lang.specs.Phrases.{par_mark};
-ghost use Rattle.fac_lang.specs.RowVariables.{effect_inputs, input_effect};
+ghost use Rattle.fac_abs.specs.RowVariables.{effect_inputs, input_effect};
 ghost use Rattle.fac_abs.specs.Marks.{mark_eq};
 ghost use Rattle.fac_abs.specs.MarkTrees.{Naming};
 ghost use Rattle.fac_abs.specs.SeenMarks.{IsMark, IsStack, Grows, base_seen, mark_of, stack_of};
@@ -18,7 +19,7 @@ use crate::leaving::leave;
 use crate::numbers::{counted_inputs, outer_in, outer_out, row_number, row_out, rows, word_inputs};
 use crate::taking::take_inputs;
 use fac_abs::{MarkNode, Marks, Rule, same_base};
-use fac_lang::{Effect, Input, Memory};
+use fac_base::{Effect, Input, Memory};
 
 // Whether a mark is that of the input with this number.
 fn is_input(marks: &Marks, mark: u32, number: u32) -> bool
@@ -37,7 +38,7 @@ fn is_input(marks: &Marks, mark: u32, number: u32) -> bool
 
 // The first quotation input that isn't the word's own input of that place.
 fn other(marks: &Marks, list: &[Input], inputs: u32) -> Option<u32>
-    requires few { length list.now ≤ 65 }
+    requires few { length list.now ≤ MOST_EFFECT_NAMES }
     requires inputs { IsStack marks.now inputs }
     ensures { (N : Naming) → result ≡ other_input 1 (inputs_tree list.now) (stack_of N marks.now inputs) }
 {
@@ -84,14 +85,14 @@ fn own_rest(
 
 /// The own recursive call of the row word with this effect. It needs the word's own inputs, as they were handed in, on its outer input row, and
 /// leaves what the word declares on its outer output row.
-#[tactic(auto, using(fac_lang::proofs::EffectLemmas::inputs_counted))]
+#[tactic(auto, using(fac_base::proofs::EffectLemmas::inputs_counted))]
 pub fn own_call(
     marks: &mut Marks,
     effect: &Effect,
     base: Option<u32>,
     stack: u32,
 ) -> Result<Called, Memory>
-    requires few { (effect_height effect.now).ins ≤ 65 }
+    requires few { (effect_height effect.now).ins ≤ MOST_EFFECT_NAMES }
     requires stack { IsStack marks.old stack }
     ensures grows { Grows marks.old marks.new }
     ensures there { IfOk result (λ c. IsCalled marks.new c) }

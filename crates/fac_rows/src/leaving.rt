@@ -1,12 +1,12 @@
 //! What an effect leaves on a stack.
 ghost use Rattle.std.specs.Prelude.{◌≡◌, IfOk};
-ghost use Rattle.fac_lang.specs.EffectView.{outs_leaving};
+ghost use Rattle.fac_base.specs.EffectView.{outs_leaving};
 ghost use Rattle.fac_abs.specs.MarkTrees.{Naming};
 ghost use Rattle.fac_abs.specs.SeenMarks.{IsStack, IsReached, Grows, base_seen, stack_of, reached_seen};
 ghost use Rattle.fac_rows.specs.RowBinding.{leaving_on};
 
 use fac_abs::{Marks, Reached};
-use fac_lang::{Memory, Outs};
+use fac_base::{Memory, Outs};
 
 /// The stack with the outputs on it, or none where the effect never returns.
 pub fn leave(

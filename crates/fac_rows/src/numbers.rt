@@ -1,17 +1,18 @@
 //! The numbers of the rows of an effect, as bases of stacks have them, and numbers of values.
 ghost use Rattle.std.specs.Prelude.{◌≡◌, ◌≤◌, ◌+◌, suc, length, Some, IfOk};
 ghost use Rattle.std.specs.Option.{option_copied};
-ghost use Rattle.fac_lang.specs.EffectView.{inputs_tree, outs_leaving};
-ghost use Rattle.fac_lang.specs.Effects.{inputs_count, effect_height};
-ghost use Rattle.fac_lang.specs.RowVariables.{effect_inputs, outer_in, outer_out, named_row};
+ghost use Rattle.fac_base.specs.declared.limits.TheConstants.{MOST_EFFECT_NAMES};
+ghost use Rattle.fac_base.specs.EffectView.{inputs_tree, outs_leaving};
+ghost use Rattle.fac_base.specs.Effects.{inputs_count, effect_height};
+ghost use Rattle.fac_abs.specs.RowVariables.{effect_inputs, outer_in, outer_out, named_row};
 ghost use Rattle.fac_abs.specs.declared.rule.Rule.TheVariants.{Rows};
 ghost use Rattle.fac_abs.specs.MarkTrees.{Naming};
 ghost use Rattle.fac_abs.specs.SeenMarks.{IsStack, base_seen, stack_of};
 ghost use Rattle.fac_rows.specs.RowNumbers.{NamesRows, leaving_name, is_named, inputs_sides, side_number, row_number};
 
+use crate::has_rows;
 use fac_abs::{Marks, Rule};
-use fac_effect::has_rows;
-use fac_lang::{Effect, Input, Memory, Outs, Text};
+use fac_base::{Effect, Input, Memory, Outs, Text};
 
 // A number of values as 32 bits have it. A larger one is want of memory.
 fn counted(count: usize) -> Result<u32, Memory>
@@ -24,7 +25,7 @@ fn counted(count: usize) -> Result<u32, Memory>
 }
 
 /// The number of inputs of an effect.
-#[tactic(auto, using(fac_lang::proofs::EffectLemmas::inputs_counted))]
+#[tactic(auto, using(fac_base::proofs::EffectLemmas::inputs_counted))]
 pub fn count_inputs(effect: &Effect) -> usize
     ensures { result ≡ inputs_count (effect_inputs effect.now) }
 {
@@ -32,9 +33,9 @@ pub fn count_inputs(effect: &Effect) -> usize
 }
 
 /// The number of inputs of a word's effect, which are few.
-#[tactic(auto, using(fac_lang::proofs::EffectLemmas::inputs_counted))]
+#[tactic(auto, using(fac_base::proofs::EffectLemmas::inputs_counted))]
 pub fn word_inputs(effect: &Effect) -> u32
-    requires few { (effect_height effect.now).ins ≤ 65 }
+    requires few { (effect_height effect.now).ins ≤ MOST_EFFECT_NAMES }
     ensures { result ≡ inputs_count (effect_inputs effect.now) }
 {
     effect.ins.len() as u32

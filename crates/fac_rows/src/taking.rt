@@ -1,8 +1,9 @@
 //! The inputs of a row word: their marks are taken off a stack, tested, and put on one for the walk of the word itself.
 ghost use Rattle.std.specs.Prelude.{◌≡◌, ◌≤◌, ◌∷◌, [], length, IfOk};
-ghost use Rattle.fac_lang.specs.EffectView.{inputs_tree};
-ghost use Rattle.fac_lang.specs.Effects.{inputs_count, effect_height};
-ghost use Rattle.fac_lang.specs.RowVariables.{effect_inputs};
+ghost use Rattle.fac_base.specs.declared.limits.TheConstants.{MOST_EFFECT_NAMES};
+ghost use Rattle.fac_base.specs.EffectView.{inputs_tree};
+ghost use Rattle.fac_base.specs.Effects.{inputs_count, effect_height};
+ghost use Rattle.fac_abs.specs.RowVariables.{effect_inputs};
 ghost use Rattle.fac_abs.specs.SeenMarks.{IsStack, Grows, stack_of};
 ghost use Rattle.fac_abs.specs.MarkPromises.{IsStackOf};
 ghost use Rattle.fac_abs.specs.MarkTrees.{Naming};
@@ -12,7 +13,7 @@ ghost use Rattle.fac_rows.specs.SeenBindings.{IsTaken};
 use crate::Taken;
 use crate::numbers::count_inputs;
 use fac_abs::Marks;
-use fac_lang::{Effect, Input, Memory};
+use fac_base::{Effect, Input, Memory};
 
 /// Takes so many values off a stack. None where there are fewer.
 pub fn take(marks: &mut Marks, stack: u32, count: usize) -> Result<Option<Taken>, Memory>
@@ -90,7 +91,7 @@ fn put_input(marks: &mut Marks, stack: u32, input: &Input, number: u32) -> Resul
 
 // The marks of these inputs on an empty stack.
 fn put_inputs(marks: &mut Marks, list: &[Input]) -> Result<u32, Memory>
-    requires { length list.now ≤ 65 }
+    requires { length list.now ≤ MOST_EFFECT_NAMES }
     ensures grows { Grows marks.old marks.new }
     ensures made { IfOk result (λ s. IsStackOf marks.new s (λ N. inputs_marks 1 (inputs_tree list.now) [])) }
 {
@@ -104,9 +105,9 @@ fn put_inputs(marks: &mut Marks, list: &[Input]) -> Result<u32, Memory>
 }
 
 /// The stack from which a row word is walked, without its row: a mark of its own for each quotation input, and unknown values for the others.
-#[tactic(auto, using(fac_lang::proofs::EffectLemmas::inputs_counted))]
+#[tactic(auto, using(fac_base::proofs::EffectLemmas::inputs_counted))]
 pub fn inputs_marks(marks: &mut Marks, effect: &Effect) -> Result<u32, Memory>
-    requires { (effect_height effect.now).ins ≤ 65 }
+    requires { (effect_height effect.now).ins ≤ MOST_EFFECT_NAMES }
     ensures grows { Grows marks.old marks.new }
     ensures made { IfOk result (λ s. IsStackOf marks.new s (λ N. inputs_marks 1 (effect_inputs effect.now) [])) }
 {

@@ -13,9 +13,9 @@ ghost use Rattle.fac_show.specs.inner.StoredForms.{head_of, tail_of, object_of, 
 use crate::ShowFault;
 use crate::escaping::add_quoted;
 use crate::line::add;
+use fac_base::Text;
+use fac_base::limits::MOST_PRINTED_LEVELS;
 use fac_code::Image;
-use fac_lang::Text;
-use fac_lang::limits::MOST_PRINTED_LEVELS;
 use fac_store::{Store, Value, iota_length};
 use itoa::Buffer;
 use std::alloc::Global;

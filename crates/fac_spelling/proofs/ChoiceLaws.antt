@@ -1,10 +1,10 @@
 -- The laws of rows behind a tag.
-use Rattle.std.proofs.Common.{◌≡◌, ℕ, zero, suc, ◌+◌, ◌^◌, ◌≤◌, ◌<◌, Bool, true, false, List, [], ◌∷◌, length, get_or, drop, refl, ap, subst, ◌∙◌, arith, inl, inr}
+use Rattle.std.proofs.Common.{◌≡◌, ℕ, zero, suc, ◌+◌, ◌^◌, ◌≤◌, ◌<◌, Bool, true, false, List, [], ◌∷◌, length, get_or, drop, refl, subst, arith, inl, inr}
 use Rattle.std.specs.Prelude.{nat_eq}
 use Rattle.std.proofs.lemmas.Bool.{cases_lt, eq-eqb, ne_eqb}
 use Rattle.fac_spelling.specs.Formats.{Exact, follow}
 use Rattle.fac_spelling.specs.Numbers.{IsWithin, number}
-use Rattle.fac_spelling.specs.Choices.{operands, Row, row_at, choice, bit, plain, with_number, with_numbers, with_flag, number_and_flag, numbers_and_flag}
+use Rattle.fac_spelling.specs.Choices.{operands, Row, row_at, choice, bit, plain, with_number, with_numbers}
 use Rattle.fac_spelling.proofs.FormatLaws.{follow_exact, seen_exact, run_exact}
 use Rattle.fac_spelling.proofs.NumberLaws.{number_exact}
 
@@ -79,33 +79,6 @@ number_holds parts k m f lt e = record { below = (lt, tt); back = go }
     go [] h = absurd h
     go (x ∷ []) h = e x
     go (x ∷ y ∷ xs) h = absurd h.1
-
-pub flag_holds : {A : Type 0} (parts : A → ℕ × List ℕ) (k : ℕ) (f : Bool → A) → ((t : Bool) → parts (f t) ≡ (k, bit t ∷ [])) → RowHolds parts k (with_flag f)
-flag_holds parts k f e = record { below = (omega arith, tt); back = go }
-  where
-    go : (xs : List ℕ) → (operands (1 ∷ [])).Fits xs → parts ((with_flag f).make xs) ≡ (k, xs)
-    go [] h = absurd h
-    go (t ∷ []) h = e (nat_eq t 1) ∙ ap (λ (z : ℕ). (k, z ∷ [])) (flag_back t h.0.below)
-    go (t ∷ y ∷ xs) h = absurd h.1
-
-pub number_flag_holds : {A : Type 0} (parts : A → ℕ × List ℕ) (k m : ℕ) (f : ℕ → Bool → A) → m < 2 ^ 128 → ((x : ℕ) (t : Bool) → parts (f x t) ≡ (k, x ∷ bit t ∷ [])) → RowHolds parts k (number_and_flag m f)
-number_flag_holds parts k m f lt e = record { below = (lt, (omega arith, tt)); back = go }
-  where
-    go : (xs : List ℕ) → (operands (m ∷ 1 ∷ [])).Fits xs → parts ((number_and_flag m f).make xs) ≡ (k, xs)
-    go [] h = absurd h
-    go (x ∷ []) h = absurd h.1
-    go (x ∷ t ∷ []) h = e x (nat_eq t 1) ∙ ap (λ (z : ℕ). (k, x ∷ z ∷ [])) (flag_back t h.1.0.below)
-    go (x ∷ t ∷ y ∷ xs) h = absurd h.1.1
-
-pub numbers_flag_holds : {A : Type 0} (parts : A → ℕ × List ℕ) (k m n : ℕ) (f : ℕ → ℕ → Bool → A) → m < 2 ^ 128 → n < 2 ^ 128 → ((x y : ℕ) (t : Bool) → parts (f x y t) ≡ (k, x ∷ y ∷ bit t ∷ [])) → RowHolds parts k (numbers_and_flag m n f)
-numbers_flag_holds parts k m n f lt le e = record { below = (lt, (le, (omega arith, tt))); back = go }
-  where
-    go : (xs : List ℕ) → (operands (m ∷ n ∷ 1 ∷ [])).Fits xs → parts ((numbers_and_flag m n f).make xs) ≡ (k, xs)
-    go [] h = absurd h
-    go (x ∷ []) h = absurd h.1
-    go (x ∷ y ∷ []) h = absurd h.1.1
-    go (x ∷ y ∷ t ∷ []) h = e x y (nat_eq t 1) ∙ ap (λ (z : ℕ). (k, x ∷ y ∷ z ∷ [])) (flag_back t h.1.1.0.below)
-    go (x ∷ y ∷ t ∷ z ∷ xs) h = absurd h.1.1.1
 
 pub numbers_hold : {A : Type 0} (parts : A → ℕ × List ℕ) (k m n : ℕ) (f : ℕ → ℕ → A) → m < 2 ^ 128 → n < 2 ^ 128 → ((x y : ℕ) → parts (f x y) ≡ (k, x ∷ y ∷ [])) → RowHolds parts k (with_numbers m n f)
 numbers_hold parts k m n f lt le e = record { below = (lt, (le, tt)); back = go }

@@ -11,9 +11,6 @@ written a b c d e = ap (λ (z : List ℕ). z ++ d) e ∙ (append_assoc a c d ∙
 pub written_three : (a b c d e f : List ℕ) → b ≡ a ++ c → d ≡ b ++ e → d ++ f ≡ a ++ (c ++ (e ++ (f ++ [])))
 written_three a b c d e f p q = ap (λ (z : List ℕ). z ++ f) q ∙ append_assoc b e f ∙ ap (λ (z : List ℕ). b ++ (e ++ z)) (sym (append-nil f)) ∙ ap (λ (z : List ℕ). z ++ (e ++ (f ++ []))) p ∙ append_assoc a c (e ++ (f ++ []))
 
-pub written_four : (a b c d e f g h : List ℕ) → b ≡ a ++ c → d ≡ b ++ e → f ≡ d ++ g → f ++ h ≡ a ++ (c ++ (e ++ (g ++ (h ++ []))))
-written_four a b c d e f g h p q r = written_three b d e f g h q r ∙ ap (λ (z : List ℕ). z ++ (e ++ (g ++ (h ++ [])))) p ∙ append_assoc a c (e ++ (g ++ (h ++ [])))
-
 -- what is left completes the list's bytes, and has a spelling
 pub record Completes {A : Type 0} (f : Format A) (xs : List A) (i : ℕ) (out total : List ℕ) : Type 0 where
   pub fits : (each (length xs - i) f).Fits (drop i xs)

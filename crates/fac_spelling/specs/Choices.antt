@@ -1,5 +1,5 @@
 -- The cases of a type: a tag, and the numbers behind it.
-use Rattle.std.specs.Prelude.{ℕ, List, [], ◌∷◌, length, get_or, drop, Bool, true, false, nat_eq}
+use Rattle.std.specs.Prelude.{ℕ, List, [], ◌∷◌, length, get_or, drop, Bool, true, false}
 use Rattle.fac_spelling.specs.Formats.{Format, follow, seen, run}
 use Rattle.fac_spelling.specs.Numbers.{number}
 
@@ -28,9 +28,6 @@ bit false = 0
 abbrev pub operand_at : ℕ → List ℕ → ℕ
 operand_at k xs = get_or xs k 0
 
-abbrev pub flag_at : ℕ → List ℕ → Bool
-flag_at k xs = nat_eq (get_or xs k 0) 1
-
 -- no number
 abbrev pub plain : {A : Type 0} → A → Row A
 plain x = record { greatest = []; make = λ _. x }
@@ -41,13 +38,3 @@ with_number greatest f = record { greatest = greatest ∷ []; make = λ xs. f (o
 
 abbrev pub with_numbers : {A : Type 0} → ℕ → ℕ → (ℕ → ℕ → A) → Row A
 with_numbers one two f = record { greatest = one ∷ two ∷ []; make = λ xs. f (operand_at 0 xs) (operand_at 1 xs) }
-
--- a flag is a number up to 1
-abbrev pub with_flag : {A : Type 0} → (Bool → A) → Row A
-with_flag f = record { greatest = 1 ∷ []; make = λ xs. f (flag_at 0 xs) }
-
-abbrev pub number_and_flag : {A : Type 0} → ℕ → (ℕ → Bool → A) → Row A
-number_and_flag greatest f = record { greatest = greatest ∷ 1 ∷ []; make = λ xs. f (operand_at 0 xs) (flag_at 1 xs) }
-
-abbrev pub numbers_and_flag : {A : Type 0} → ℕ → ℕ → (ℕ → ℕ → Bool → A) → Row A
-numbers_and_flag one two f = record { greatest = one ∷ two ∷ 1 ∷ []; make = λ xs. f (operand_at 0 xs) (operand_at 1 xs) (flag_at 2 xs) }

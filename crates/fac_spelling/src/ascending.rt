@@ -6,7 +6,7 @@ ghost use Rattle.fac_spelling.specs.Lists.{ascend, ascend_by, ascending, ascendi
 ghost use Rattle.fac_spelling.specs.Reads.{Gives};
 
 use crate::{ReadFault, Spelled, Writes, read_number, write_each, write_number};
-use fac_lang::{Bytes, List, Memory};
+use fac_base::{Bytes, List, Memory};
 use std::alloc::Global;
 
 // So many numbers, each above those before it and with room for those after it.

@@ -5,7 +5,7 @@ ghost use Rattle.fac_spelling.specs.Bytes.{byte, fixed};
 ghost use Rattle.fac_spelling.specs.Reads.{Gives, NoMemory};
 
 use crate::ReadFault;
-use fac_lang::{Bytes, Memory};
+use fac_base::{Bytes, Memory};
 
 /// The byte at the front, from `low` to `high`, and the bytes behind it.
 pub fn read_byte(bytes: &[u8], low: u8, high: u8) -> Result<(u8, &[u8]), ReadFault>

@@ -1,7 +1,7 @@
 //! Why a reader gives no value.
 ghost use Rattle.std.specs.Prelude.{◌≡◌};
 
-use fac_lang::Memory;
+use fac_base::Memory;
 
 /// Why a reader gives no value.
 #[derive(Clone, Copy, Debug, PartialEq, Eq)]

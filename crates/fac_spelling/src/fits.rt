@@ -6,7 +6,7 @@ ghost use Rattle.fac_spelling.specs.Integers.{integer};
 ghost use Rattle.fac_spelling.specs.Lists.{ascending};
 ghost use Rattle.fac_spelling.specs.Texts.{text as text_format};
 
-use fac_lang::Text;
+use fac_base::Text;
 
 /// A number of 32 bits has a spelling. A row behind a reference doesn't tell a proof that its numbers have 32 bits, and a call of this at a
 /// field does.

@@ -6,7 +6,7 @@ ghost use Rattle.fac_spelling.specs.inner.TakenBehind.{taken_behind, Differ, cou
 ghost use Rattle.fac_spelling.specs.Reads.{Gives};
 
 use crate::{ReadFault, read_number};
-use fac_lang::Memory;
+use fac_base::Memory;
 use indexmap::IndexSet;
 use std::alloc::Global;
 use std::marker::Model;

@@ -3,7 +3,7 @@ ghost use Rattle.std.specs.Prelude.{◌≡◌, ◌<◌, ◌^◌};
 ghost use Rattle.fac_spelling.specs.Integers.{zigzag as zigzag_of, unzigzag as unzigzag_of, integer};
 
 use crate::{ReadFault, Spelled, Writes, read_wide, write_number};
-use fac_lang::{Bytes, Memory};
+use fac_base::{Bytes, Memory};
 use std::alloc::Global;
 
 /// The number of an integer.

@@ -5,7 +5,7 @@ ghost use Rattle.fac_spelling.specs.Lists.{counted, optional};
 ghost use Rattle.fac_spelling.specs.Reads.{Gives};
 
 use crate::{ReadFault, Spelled, Writes, read_number, write_number};
-use fac_lang::{Bytes, List, Memory};
+use fac_base::{Bytes, List, Memory};
 use std::alloc::Global;
 
 /// So many values one behind another. The list grows as they are read, so where each takes a byte at least, a wrong count takes no more

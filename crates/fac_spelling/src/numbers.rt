@@ -4,7 +4,7 @@ ghost use Rattle.fac_spelling.specs.Numbers.{number_at, shortest, IsWithin};
 ghost use Rattle.fac_spelling.specs.Reads.{Gives, NoMemory};
 
 use crate::ReadFault;
-use fac_lang::{Bytes, Memory};
+use fac_base::{Bytes, Memory};
 
 /// The number at the front, from `low` to `high`, and the bytes behind it. It calls itself for each further digit, at most 18 times.
 pub fn read_wide(bytes: &[u8], low: u128, high: u128) -> Result<(u128, &[u8]), ReadFault>

@@ -5,7 +5,7 @@ ghost use Rattle.fac_spelling.specs.Numbers.{number32};
 ghost use Rattle.fac_spelling.specs.Reads.{Gives};
 
 use crate::{ReadFault, read_number, write_number};
-use fac_lang::{Bytes, Memory};
+use fac_base::{Bytes, Memory};
 use std::alloc::Global;
 
 /// A type whose values are spelled as bytes.

@@ -3,7 +3,7 @@ ghost use Rattle.std.specs.Prelude.{◌≡◌};
 ghost use Rattle.fac_spelling.specs.Texts.{text};
 
 use crate::{ReadFault, Spelled, Writes, read_characters, read_number, write_number};
-use fac_lang::{Bytes, Memory, Text};
+use fac_base::{Bytes, Memory, Text};
 use std::alloc::Global;
 
 impl Spelled for Text {

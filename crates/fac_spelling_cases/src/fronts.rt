@@ -2,7 +2,7 @@
 use crate::stop::{Stop, place};
 use crate::telling::{tell, tell_again, tell_left};
 use crate::wholes::number_is_exact;
-use fac_lang::{Bytes, List, Memory, Text};
+use fac_base::{Bytes, List, Memory, Text};
 use fac_spelling::{
     Taken, ascending_numbers_are_exact, ascending_pairs_are_exact, read_ascending,
     read_ascending_by, read_fixed, write_ascending, write_ascending_by, write_fixed, write_number,

@@ -23,7 +23,7 @@ mod stop;
 mod telling;
 mod wholes;
 
-use fac_lang::{Bytes, Memory, Text};
+use fac_base::{Bytes, Memory, Text};
 use fac_num::write_int;
 use std::alloc::Global;
 use std::io;

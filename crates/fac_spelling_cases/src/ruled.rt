@@ -4,7 +4,7 @@ ghost use Rattle.fac_spelling.specs.Numbers.{number32};
 use crate::stop::Stop;
 use crate::telling::{tell, tell_again};
 use crate::wholes::number_is_exact;
-use fac_lang::{Bytes, Text};
+use fac_base::{Bytes, Text};
 use fac_spelling::{ReadFault, Ruled, Spelled, read_all_ruled, read_number, write_number};
 use std::alloc::Global;
 use std::marker::Model;

@@ -1,5 +1,5 @@
 //! Why a case has no value.
-use fac_lang::Memory;
+use fac_base::Memory;
 use fac_spelling::{ReadFault, WholeFault};
 
 /// Why a case has no value.

@@ -1,5 +1,5 @@
 //! How what was read is told.
-use fac_lang::{Bytes, List, Memory, Text};
+use fac_base::{Bytes, List, Memory, Text};
 use fac_num::write_int;
 use std::alloc::Global;
 

@@ -4,7 +4,7 @@ ghost use Rattle.fac_spelling.specs.Numbers.{number32};
 
 use crate::stop::Stop;
 use crate::telling::{Told, tell, tell_again};
-use fac_lang::{Bytes, List, Text};
+use fac_base::{Bytes, List, Text};
 use fac_spelling::{
     Writes, integers_are_exact, lists_are_exact, numbers_are_exact, options_are_exact,
     pairs_are_exact, read_all, texts_are_exact,

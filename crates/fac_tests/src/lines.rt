@@ -2,8 +2,8 @@
 ghost use Rattle.std.specs.Prelude.{◌≡◌, Some, false, IfOk};
 ghost use Rattle.fac_lines.specs.LineAnswers.{AtEnd};
 
+use fac_base::{Bytes, List, Memory};
 use fac_io::MemSource;
-use fac_lang::{Bytes, List, Memory};
 use fac_lines::{LineFault, Lines};
 use std::alloc::Global;
 use std::test::Fail;

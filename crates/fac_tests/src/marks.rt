@@ -1,6 +1,6 @@
 //! A test of the checker's marks that no program of today makes: they are made where there is memory.
 use fac_abs::Marks;
-use fac_lang::Memory;
+use fac_base::Memory;
 use std::test::Fail;
 
 // Makes the mark of a word and that of an input.

@@ -1,6 +1,6 @@
 //! Tests of the files and streams in memory.
+use fac_base::{Bytes, List, Memory, Text};
 use fac_io::{Asked, Files, LoadFault, MemFiles, MemSink, MemSource, SaveFault, Sink, Source};
-use fac_lang::{Bytes, List, Memory, Text};
 use std::alloc::Global;
 use std::test::Fail;
 

@@ -1,5 +1,5 @@
 //! Tests of the small types: that they grow and are copied where there is memory.
-use fac_lang::{Bytes, Duplicate, List, Memory, Text};
+use fac_base::{Bytes, Duplicate, List, Memory, Text};
 use std::alloc::Global;
 use std::test::Fail;
 

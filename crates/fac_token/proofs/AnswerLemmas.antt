@@ -2,7 +2,7 @@
 use Rattle.std.proofs.Common.{◌≡◌, ℕ, List, ◌⊎◌, inl, inr, Result, Ok, Err, refl, sym, ◌∙◌, ap}
 use Rattle.std.specs.Str.{IsUtf8, IsValidUpTo}
 use Rattle.std.proofs.lemmas.Str.{encodes_same, utf8_valid_len-IsValidUpTo}
-use Rattle.fac_lang.specs.declared.token.Token.{Token}
+use Rattle.fac_source.specs.declared.token.Token.{Token}
 use Rattle.fac_token.specs.declared.fault.TokenFault.{TokenFault}
 use Rattle.fac_token.specs.declared.fault.TokenFault.TheVariants.{NotUtf8, OpenString, BadEscape, StuckQuote, Memory}
 use Rattle.fac_token.specs.Lexemes.{open_string, bad_escape, stuck_quote}

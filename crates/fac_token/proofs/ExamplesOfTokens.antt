@@ -2,7 +2,7 @@
 use Rattle.std.proofs.Common.{◌≡◌, ℕ, List, [], ◌∷◌, Result, Ok, Err, refl}
 use Rattle.std.specs.Prelude.{codes}
 use Rattle.std.specs.Char.{encode_utf8}
-use Rattle.fac_lang.specs.declared.token.TokKind.TheVariants.{Plain, Str}
+use Rattle.fac_source.specs.declared.token.TokKind.TheVariants.{Plain, Str}
 use Rattle.fac_token.specs.Lexemes.{StringPart, itself, escape, Lexeme, white, comment, plain, string, Reading, Fault, open_string, bad_escape, stuck_quote, inside_token, FirstFault}
 use Rattle.fac_token.specs.inner.Scan.{lexemes}
 use Rattle.fac_token.specs.Tokens.{content, kinds, numbered, token_at}

@@ -4,7 +4,7 @@ use Rattle.std.proofs.Math.Nat.{eq-or-lt_of_le}
 use Rattle.std.specs.Str.{IsUtf8, IsValidUpTo, is_utf8}
 use Rattle.std.proofs.lemmas.Str.{IsUtf8-nil, IsUtf8-from_is_utf8, is_utf8-from_IsUtf8}
 use Rattle.std.proofs.lemmas.List.{take_all}
-use Rattle.fac_lang.specs.declared.token.Token.{Token}
+use Rattle.fac_source.specs.declared.token.Token.{Token}
 use Rattle.fac_token.specs.declared.fault.TokenFault.{TokenFault}
 use Rattle.fac_token.specs.declared.fault.TokenFault.TheVariants.{NotUtf8, OpenString, BadEscape, StuckQuote}
 use Rattle.fac_token.specs.Lexemes.{Lexeme, Reading, Fault, open_string, bad_escape, stuck_quote, FirstFault}

@@ -5,10 +5,10 @@ use Rattle.std.specs.Char.{encode_utf8, len_utf8}
 use Rattle.std.proofs.lemmas.List.{append-nil, at_drop_more, at_drop_all}
 use Rattle.std.proofs.lemmas.Str.{encodes-append, encodes_same, encode_ascii, length-encode, encodes-chars, scalars-chars}
 use Rattle.std.proofs.lemmas.Grind.{common_steps}
-use Rattle.fac_lang.proofs.WholeLemmas.{same_bytes}
-use Rattle.fac_lang.specs.declared.token.Token.{Token}
-use Rattle.fac_lang.specs.declared.token.TokKind.{TokKind}
-use Rattle.fac_lang.specs.declared.token.TokKind.TheVariants.{Plain, Str}
+use Rattle.fac_base.proofs.SameBytes.{same_bytes}
+use Rattle.fac_source.specs.declared.token.Token.{Token}
+use Rattle.fac_source.specs.declared.token.TokKind.{TokKind}
+use Rattle.fac_source.specs.declared.token.TokKind.TheVariants.{Plain, Str}
 use Rattle.fac_token.specs.declared.fault.TokenFault.{TokenFault}
 use Rattle.fac_token.specs.declared.fault.TokenFault.TheVariants.{NotUtf8, OpenString, BadEscape, StuckQuote, Memory}
 use Rattle.fac_token.specs.declared.scanner.Mode.{Mode}

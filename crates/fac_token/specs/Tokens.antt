@@ -1,9 +1,9 @@
 -- The tokens of a file: those of the lexemes of its characters.
 use Rattle.std.specs.Prelude.{◌≡◌, ℕ, ◌+◌, List, [], ◌∷◌, ◌++◌, length, true, Option, Some, None, Result, Ok, Err}
 use Rattle.std.specs.Str.{encode_utf8_all, all_scalars, IsUtf8, IsValidUpTo}
-use Rattle.fac_lang.specs.declared.token.Token.{Token}
-use Rattle.fac_lang.specs.declared.token.TokKind.{TokKind}
-use Rattle.fac_lang.specs.declared.token.TokKind.TheVariants.{Plain, Str}
+use Rattle.fac_source.specs.declared.token.Token.{Token}
+use Rattle.fac_source.specs.declared.token.TokKind.{TokKind}
+use Rattle.fac_source.specs.declared.token.TokKind.TheVariants.{Plain, Str}
 use Rattle.fac_token.specs.declared.fault.TokenFault.{TokenFault}
 use Rattle.fac_token.specs.declared.fault.TokenFault.TheVariants.{NotUtf8, OpenString, BadEscape, StuckQuote, Memory}
 use Rattle.fac_token.specs.Lexemes.{escaped, StringPart, itself, escape, Lexeme, white, comment, plain, string, Reading, Fault, open_string, bad_escape, stuck_quote, FirstFault}

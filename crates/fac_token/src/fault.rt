@@ -1,7 +1,7 @@
 //! Why a file has no tokens.
 ghost use Rattle.std.specs.Prelude.{◌≡◌};
 
-use fac_lang::Memory;
+use fac_base::Memory;
 use thiserror::Error;
 
 /// Why a file has no tokens. `at` counts bytes of the file, from 0.

@@ -7,7 +7,8 @@ ghost use Rattle.fac_token.specs.Tokens.{Tokenizes};
 ghost use Rattle.fac_token.specs.inner.TokenSteps.{with_token, hold_plain_end, hold_white, hold_quote, hold_inner, hold_char, hold_end, hold_from, held, Holds, Ends};
 
 use crate::TokenFault;
-use fac_lang::{List, Memory, Place, Text, TokKind, Token};
+use fac_base::{List, Memory, Place, Text};
+use fac_source::{TokKind, Token};
 use std::alloc::Global;
 
 /// What the next character stands in. Offsets count bytes from 0.

@@ -14,12 +14,12 @@ use Rattle.fac_code.specs.Images.{tables_of}
 use Rattle.fac_code.specs.ImageNames.{text_of}
 use Rattle.fac_store.specs.MachineValues.{MValue}
 use Rattle.fac_vm.specs.declared.machine.StopKind.TheVariants as stop
-use Rattle.fac_vm.specs.Machine.{Machine, End, done, failed, spent, trap, Ends}
-use Rattle.fac_vm.specs.MachineLaws.{RunsHaveOneEnd}
+use Rattle.fac_machine.specs.Machine.{Machine, End, done, failed, spent, trap, Ends}
+use Rattle.fac_machine.specs.MachineLaws.{RunsHaveOneEnd}
 use Rattle.fac_vm.specs.Runs.{begun}
-use Rattle.fac_emit.specs.Carries.{image_full_name, full_name_of}
-use Rattle.fac_emit.specs.MachineView.{template_phrases, state_view, world_view, error_view, option_view}
-use Rattle.fac_emit.specs.PrintedForms.{PrintedFormsAreEqual}
+use Rattle.fac_carry.specs.Carries.{image_full_name, full_name_of}
+use Rattle.fac_carry.specs.MachineView.{template_phrases, state_view, world_view, error_view, option_view}
+use Rattle.fac_carry.specs.PrintedForms.{PrintedFormsAreEqual}
 use Rattle.fac_notes.specs.declared.report.Report.{Report}
 use Rattle.fac_notes.specs.declared.report.Report.TheVariants as report
 use Rattle.fac_notes.specs.WordNames.{defined_or, defined_as, name_in, image_word_name}

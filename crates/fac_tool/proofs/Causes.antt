@@ -2,19 +2,19 @@
 use Rattle.std.proofs.Common.{◌≡◌, ◌≢◌, ℕ, List, None, Some, ◌⊎◌, inl, inr, refl, ap, sym, subst, ◌∙◌, arith}
 use Rattle.std.specs.declared.option.Option.{Option}
 use Rattle.fac_io.specs.Faults.{Rose}
-use Rattle.fac_command.specs.declared.command.Command.{Command}
 use Rattle.fac_tool.specs.declared.ended.Ended.{Ended}
 use Rattle.fac_tool.specs.SeenObjects.{SinkSeen, FilesSeen, InputSeen}
-use Rattle.fac_command.specs.declared.command.Command.TheVariants as command
-use Rattle.fac_command.specs.Command.{names_of, name_at}
+use Rattle.fac_command.specs.Command.{Command, files_of}
+use Rattle.fac_command.specs.Command as command
 use Rattle.fac_lang.specs.declared.program.Program.{Program}
 use Rattle.fac_code.specs.declared.image.Image.{Image}
-use Rattle.fac_tool.specs.Answer.{Answer, answer_on, come_to, accepted}
+use Rattle.fac_tool.specs.Answer.{Answer, Sources, answer_on, come_to, accepted}
 use Rattle.fac_tool.specs.Ends.{ending_of, EndsBy, EndsAs, Work, idle, work_of}
-use Rattle.fac_tool.specs.ImageLoads.{ImageLoadEnds}
+use Rattle.fac_tool.specs.Loads.{LoadsEnd}
 use Rattle.fac_tool.specs.Saved.{since, Saves}
-use Rattle.fac_tool.specs.Executed.{BadImage, NoImageMemory, ExecutesBy, Executes, ExecutesBytes, not_run, run, ListsBytes, not_listed, listed, listed_answer}
-use Rattle.fac_tool.specs.Answers.{Tells, LoadsEnd, ReachesBy, ReachesAs, Builds, ExecutesImage, ListsImage, AnswersBy, TellsUsage, numbered_names}
+use Rattle.fac_tool.specs.Executed.{BadImage, NoImageMemory, ExecutesBy, Executes, OnImage, DoesOnBytes, not_decoded, decoded, executed, listed, listed_answer}
+use Rattle.fac_tool.specs.Plans.{Task, SavesTask, DoesOnSources, DoesOnImage, checking, running, running_stack, saving, plan_of}
+use Rattle.fac_tool.specs.Answers.{Tells, ReachesBy, AnswersBy, TellsUsage, numbered_names}
 
 -- a status that is neither a write fault nor want of memory is the one that was reached
 status-Tells : (n : ℕ) (names : List (List ℕ)) (reached : Ended) (notes : SinkSeen) (ended : Ended) → n ≢ 10 → n ≢ 12 → Tells names reached notes ended → ended.status ≡ n → reached.status ≡ n
@@ -81,86 +81,82 @@ of_execution M budget input left files seen out ended h = record {
 }
 
 -- loads that end the call
-of_loads : (names : List (List ℕ)) (files : FilesSeen) (seen : InputSeen) (out : SinkSeen) (ended : Ended) → LoadsEnd names files ended → Causes files seen out ended
-of_loads names files seen out ended (inl none) = no_memory files seen out ended none.status
-of_loads names files seen out ended (inr (inl fails)) = file_failed files seen out ended fails.status fails.rose
-of_loads names files seen out ended (inr (inr long)) = too_long files seen out ended long.status
-
-of_image_load : (name : List ℕ) (files : FilesSeen) (seen : InputSeen) (out : SinkSeen) (ended : Ended) → ImageLoadEnds name files ended → Causes files seen out ended
-of_image_load name files seen out ended (inl none) = no_memory files seen out ended none.status
-of_image_load name files seen out ended (inr (inl fails)) = file_failed files seen out ended fails.status fails.rose
-of_image_load name files seen out ended (inr (inr long)) = too_long files seen out ended long.status
+of_loads : (names : List (List ℕ)) (limit : ℕ) (files : FilesSeen) (seen : InputSeen) (out : SinkSeen) (ended : Ended) → LoadsEnd names limit files ended → Causes files seen out ended
+of_loads names limit files seen out ended (inl none) = no_memory files seen out ended none.status
+of_loads names limit files seen out ended (inr (inl fails)) = file_failed files seen out ended fails.status fails.rose
+of_loads names limit files seen out ended (inr (inr long)) = too_long files seen out ended long.status
 
 -- bytes that weren't decoded
 of_bytes : (bytes : List ℕ) (files : FilesSeen) (seen : InputSeen) (out : SinkSeen) (ended : Ended) → BadImage bytes ended ⊎ NoImageMemory ended → Causes files seen out ended
 of_bytes bytes files seen out ended (inl bad) = no_cause 7 files seen out ended (omega arith) (omega arith) (omega arith) (omega arith) bad.status
 of_bytes bytes files seen out ended (inr none) = no_memory files seen out ended none.status
 
--- the work of each command
-of_files : (names : List (List ℕ)) (c : Command) (files : FilesSeen) (seen : InputSeen) (out : SinkSeen) (ended : Ended) → ReachesBy names c files seen out ended → Causes files seen out ended
-of_files names c files seen out ended (inl none) = of_loads names files seen out ended none.ends
-of_files names c files seen out ended (inr h) = of_ends (answer_on c (come_to h.sources) h.ends.input) (work_of c (accepted (come_to h.sources)) h.ends.input) files seen out h.ends.left ended h.ends.holds.ends
-
+-- what is done with sources
 of_save : (P : Program) (name : List ℕ) (files : FilesSeen) (seen : InputSeen) (out : SinkSeen) (ended : Ended) → Saves P name files ended → Causes files seen out ended
 of_save P name files seen out ended (inl saved) = no_cause 0 files seen out ended (omega arith) (omega arith) (omega arith) (omega arith) saved.status
 of_save P name files seen out ended (inr (inl fails)) = file_failed files seen out ended fails.status fails.rose
 of_save P name files seen out ended (inr (inr none)) = no_memory files seen out ended none.status
 
+of_saves : (saves : Option (List ℕ)) (sources : Sources) (files : FilesSeen) (seen : InputSeen) (out : SinkSeen) (ended : Ended) → SavesTask saves sources files seen out ended → Causes files seen out ended
+of_saves None sources files seen out ended h = absurd h
+of_saves (Some image) sources files seen out ended h = of_save h.P image files seen out ended h.saves
+
+of_sources : (task : Task) (texts : List (List ℕ)) (files : FilesSeen) (seen : InputSeen) (out : SinkSeen) (ended : Ended) → DoesOnSources task texts files seen out ended → Causes files seen out ended
+of_sources task texts files seen out ended does =
+    let sources = come_to does.sources in
+    elim does.ends [
+      | inl told ↦ of_ends (answer_on task.answer sources told.ends.input) (work_of task.work (accepted sources) told.ends.input) files seen out told.ends.left ended told.ends.holds.ends
+      | inr saved ↦ of_saves task.saves sources files seen out ended saved
+    ]
+
+-- what is done with an image, by the causes of that
+of_decoded :
+    (On : OnImage) (bytes : List ℕ) (files : FilesSeen) (seen : InputSeen) (out : SinkSeen) (ended : Ended) → ((M : Image) (input left : List ℕ) → On M seen out ended input left → Causes files seen out ended) →
+    DoesOnBytes On bytes seen out ended → Causes files seen out ended
+of_decoded On bytes files seen out ended causes (not_decoded none unread) = of_bytes bytes files seen out ended none.why
+of_decoded On bytes files seen out ended causes (decoded M spelled on) = causes M on.input on.left on.holds
+
+of_image :
+    (On : OnImage) (texts : List (List ℕ)) (files : FilesSeen) (seen : InputSeen) (out : SinkSeen) (ended : Ended) → ((M : Image) (input left : List ℕ) → On M seen out ended input left → Causes files seen out ended) →
+    DoesOnImage On texts files seen out ended → Causes files seen out ended
+of_image On texts files seen out ended causes does = of_decoded On does.bytes files seen out ended causes does.does
+
+-- the row of each command
+of_plan : (c : Command) (texts : List (List ℕ)) (files : FilesSeen) (seen : InputSeen) (out : SinkSeen) (ended : Ended) → (plan_of c).Does texts files seen out ended → Causes files seen out ended
+of_plan (command.check names) texts files seen out ended does = of_sources checking texts files seen out ended does
+of_plan (command.run budget names) texts files seen out ended does = of_sources (running budget) texts files seen out ended does
+of_plan (command.run_stack budget names) texts files seen out ended does = of_sources (running_stack budget) texts files seen out ended does
+of_plan (command.build names image) texts files seen out ended does = of_sources (saving image) texts files seen out ended does
+of_plan (command.exec budget image) texts files seen out ended does = of_image (executed budget) texts files seen out ended (λ M input left h. of_execution M budget input left files seen out ended h) does
+of_plan (command.list image) texts files seen out ended does = of_image listed texts files seen out ended (λ M input left h. of_ends (listed_answer M input) idle files seen out left ended h.ends) does
+
 -- files that nothing but this part of the work failed on
 earlier : (before mid now : ℕ) → mid ≡ before → Rose mid now → Rose before now
 earlier before mid now same rose = subst (λ (n : ℕ). Rose n now) same rose
 
-of_build : (names : List (List ℕ)) (image : List ℕ) (c : Command) (files : FilesSeen) (seen : InputSeen) (out : SinkSeen) (ended : Ended) → Builds names image c files seen out ended → Causes files seen out ended
-of_build names image c files seen out ended (inl none) = of_loads names files seen out ended none.ends
-of_build names image c files seen out ended (inr built) =
-    elim built.ends [
-      | inl not ↦ of_ends (answer_on c (come_to built.sources) not.ends.input) idle files seen out not.ends.left ended not.ends.holds.ends
-      | inr builds ↦
-          let causes = of_save builds.P image (since files built.loaded) seen out ended builds.saves in
-          record { usage = causes.usage; file = λ e. earlier files.faults_before built.loaded.faults files.faults_now built.loads.faults (causes.file e); input = causes.input; write = causes.write }
-    ]
+of_command : (c : Command) (files : FilesSeen) (seen : InputSeen) (out : SinkSeen) (ended : Ended) → ReachesBy (plan_of c) files seen out ended → Causes files seen out ended
+of_command c files seen out ended (inl none) = of_loads (plan_of c).files (plan_of c).limit files seen out ended none.ends
+of_command c files seen out ended (inr loaded) =
+    let causes = of_plan c loaded.texts (since files loaded.loaded) seen out ended loaded.does in
+    record { usage = causes.usage; file = λ e. earlier files.faults_before loaded.loaded.faults files.faults_now loaded.loads.faults (causes.file e); input = causes.input; write = causes.write }
 
-of_executed : (bytes : List ℕ) (budget : ℕ) (files : FilesSeen) (seen : InputSeen) (out : SinkSeen) (ended : Ended) → ExecutesBytes bytes budget seen out ended → Causes files seen out ended
-of_executed bytes budget files seen out ended (not_run none unread) = of_bytes bytes files seen out ended none.why
-of_executed bytes budget files seen out ended (run M spelled on) = of_execution M budget on.input on.left files seen out ended on.holds
+pub file_cause : (c : Option Command) (files : FilesSeen) (seen : InputSeen) (out notes : SinkSeen) (ended : Ended) → AnswersBy c files seen out notes ended → ended.status ≡ 8 → Rose files.faults_before files.faults_now
+file_cause None files seen out notes ended h e = elim (of_usage notes ended h.1) [ inl r ↦ absurd (omega (arith, r, e)) | inr r ↦ absurd (omega (arith, r.0, e)) ]
+file_cause (Some c) files seen out notes ended h e =
+    (of_command c files seen out h.0 h.1.ending).file (status-Tells 8 (numbered_names (files_of c)) h.0 notes ended (omega arith) (omega arith) h.2 e)
 
-of_listed : (bytes : List ℕ) (files : FilesSeen) (seen : InputSeen) (out : SinkSeen) (ended : Ended) → ListsBytes bytes seen out ended → Causes files seen out ended
-of_listed bytes files seen out ended (not_listed none unread) = of_bytes bytes files seen out ended none.why
-of_listed bytes files seen out ended (listed M spelled on) = of_ends (listed_answer M on.input) idle files seen out on.left ended on.holds.ends
-
-of_exec : (name : List ℕ) (budget : ℕ) (files : FilesSeen) (seen : InputSeen) (out : SinkSeen) (ended : Ended) → ExecutesImage name budget files seen out ended → Causes files seen out ended
-of_exec name budget files seen out ended (inl none) = of_image_load name files seen out ended none.ends
-of_exec name budget files seen out ended (inr on) = of_executed on.bytes budget files seen out ended on.does
-
-of_list : (name : List ℕ) (files : FilesSeen) (seen : InputSeen) (out : SinkSeen) (ended : Ended) → ListsImage name files seen out ended → Causes files seen out ended
-of_list name files seen out ended (inl none) = of_image_load name files seen out ended none.ends
-of_list name files seen out ended (inr on) = of_listed on.bytes files seen out ended on.does
-
-of_command : (words : List (List ℕ)) (c : Command) (files : FilesSeen) (seen : InputSeen) (out : SinkSeen) (ended : Ended) → ReachesAs words c files seen out ended → Causes files seen out ended
-of_command words (command.Check first end) files seen out ended h = of_files (names_of words (command.Check first end)) (command.Check first end) files seen out ended h
-of_command words (command.Run steps first end) files seen out ended h = of_files (names_of words (command.Run steps first end)) (command.Run steps first end) files seen out ended h
-of_command words (command.RunStack steps first end) files seen out ended h = of_files (names_of words (command.RunStack steps first end)) (command.RunStack steps first end) files seen out ended h
-of_command words (command.Build first end image) files seen out ended h = of_build (names_of words (command.Build first end image)) (name_at words image) (command.Build first end image) files seen out ended h
-of_command words (command.Exec steps image) files seen out ended h = of_exec (name_at words image) steps files seen out ended h
-of_command words (command.List image) files seen out ended h = of_list (name_at words image) files seen out ended h
-
-pub file_cause : (c : Option Command) (words : List (List ℕ)) (files : FilesSeen) (seen : InputSeen) (out notes : SinkSeen) (ended : Ended) → AnswersBy c words files seen out notes ended → ended.status ≡ 8 → Rose files.faults_before files.faults_now
-file_cause None words files seen out notes ended h e = elim (of_usage notes ended h.1) [ inl r ↦ absurd (omega (arith, r, e)) | inr r ↦ absurd (omega (arith, r.0, e)) ]
-file_cause (Some c) words files seen out notes ended h e =
-    (of_command words c files seen out h.0 h.1.ending).file (status-Tells 8 (numbered_names (names_of words c)) h.0 notes ended (omega arith) (omega arith) h.2 e)
-
-pub input_cause : (c : Option Command) (words : List (List ℕ)) (files : FilesSeen) (seen : InputSeen) (out notes : SinkSeen) (ended : Ended) → AnswersBy c words files seen out notes ended → ended.status ≡ 9 → Rose seen.faults_before seen.faults_now
-input_cause None words files seen out notes ended h e = elim (of_usage notes ended h.1) [ inl r ↦ absurd (omega (arith, r, e)) | inr r ↦ absurd (omega (arith, r.0, e)) ]
-input_cause (Some c) words files seen out notes ended h e =
-    (of_command words c files seen out h.0 h.1.ending).input (status-Tells 9 (numbered_names (names_of words c)) h.0 notes ended (omega arith) (omega arith) h.2 e)
+pub input_cause : (c : Option Command) (files : FilesSeen) (seen : InputSeen) (out notes : SinkSeen) (ended : Ended) → AnswersBy c files seen out notes ended → ended.status ≡ 9 → Rose seen.faults_before seen.faults_now
+input_cause None files seen out notes ended h e = elim (of_usage notes ended h.1) [ inl r ↦ absurd (omega (arith, r, e)) | inr r ↦ absurd (omega (arith, r.0, e)) ]
+input_cause (Some c) files seen out notes ended h e =
+    (of_command c files seen out h.0 h.1.ending).input (status-Tells 9 (numbered_names (files_of c)) h.0 notes ended (omega arith) (omega arith) h.2 e)
 
 pub write_cause :
-    (c : Option Command) (words : List (List ℕ)) (files : FilesSeen) (seen : InputSeen) (out notes : SinkSeen) (ended : Ended) → AnswersBy c words files seen out notes ended → ended.status ≡ 10 → Rose out.faults_before out.faults_now ⊎ Rose notes.faults_before notes.faults_now
-write_cause None words files seen out notes ended h e = elim (of_usage notes ended h.1) [ inl r ↦ absurd (omega (arith, r, e)) | inr r ↦ inr r.1 ]
-write_cause (Some c) words files seen out notes ended h e =
-    elim (ten_of (numbered_names (names_of words c)) h.0 notes ended h.2 e) [ inl r ↦ inl ((of_command words c files seen out h.0 h.1.ending).write r) | inr r ↦ inr r ]
+    (c : Option Command) (files : FilesSeen) (seen : InputSeen) (out notes : SinkSeen) (ended : Ended) → AnswersBy c files seen out notes ended → ended.status ≡ 10 → Rose out.faults_before out.faults_now ⊎ Rose notes.faults_before notes.faults_now
+write_cause None files seen out notes ended h e = elim (of_usage notes ended h.1) [ inl r ↦ absurd (omega (arith, r, e)) | inr r ↦ inr r.1 ]
+write_cause (Some c) files seen out notes ended h e =
+    elim (ten_of (numbered_names (files_of c)) h.0 notes ended h.2 e) [ inl r ↦ inl ((of_command c files seen out h.0 h.1.ending).write r) | inr r ↦ inr r ]
 
-pub usage_cause : (c : Option Command) (words : List (List ℕ)) (files : FilesSeen) (seen : InputSeen) (out notes : SinkSeen) (ended : Ended) → AnswersBy c words files seen out notes ended → ended.status ≡ 2 → c ≡ None
-usage_cause None words files seen out notes ended h e = refl
-usage_cause (Some c) words files seen out notes ended h e =
-    absurd ((of_command words c files seen out h.0 h.1.ending).usage (status-Tells 2 (numbered_names (names_of words c)) h.0 notes ended (omega arith) (omega arith) h.2 e))
+pub usage_cause : (c : Option Command) (files : FilesSeen) (seen : InputSeen) (out notes : SinkSeen) (ended : Ended) → AnswersBy c files seen out notes ended → ended.status ≡ 2 → c ≡ None
+usage_cause None files seen out notes ended h e = refl
+usage_cause (Some c) files seen out notes ended h e =
+    absurd ((of_command c files seen out h.0 h.1.ending).usage (status-Tells 2 (numbered_names (files_of c)) h.0 notes ended (omega arith) (omega arith) h.2 e))

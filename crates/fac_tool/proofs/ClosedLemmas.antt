@@ -3,9 +3,9 @@ use Rattle.std.proofs.Common.{◌≡◌, ℕ, zero, suc, List, [], ◌∷◌, Re
 use Rattle.std.proofs.lemmas.Option.{slice_get_within, slice_get-get_or}
 use Rattle.std.specs.Prelude.{◌+◌, None, Some, length, map, slice_get}
 use Rattle.std.specs.declared.option.Option.{Option}
-use Rattle.fac_lang.specs.declared.memory.Memory.{Memory}
+use Rattle.fac_base.specs.declared.memory.Memory.{Memory}
 use Rattle.fac_lang.specs.declared.phrase.Template.{Template}
-use Rattle.fac_lang.specs.declared.program.Name.{Name}
+use Rattle.fac_base.specs.declared.name.Name.{Name}
 use Rattle.fac_lang.specs.declared.program.Program.{Program}
 use Rattle.fac_lang.specs.declared.program.Sort.{Sort}
 use Rattle.fac_lang.specs.declared.program.Sort.TheVariants as sort
@@ -16,8 +16,8 @@ use Rattle.fac_locals.specs.Frames.{template_phrase}
 use Rattle.fac_locals.specs.Closed.{Closes, CloseWords, ClosesSort}
 use Rattle.fac_locals.specs.declared.closing.Closed.{Closed}
 use Rattle.fac_check.specs.CallableEffects.{callable_height}
-use Rattle.fac_lang.specs.declared.phrase.Height.{Height}
-use Rattle.fac_qeff.specs.TemplateEffects.{AreEffects}
+use Rattle.fac_base.specs.declared.height.Height.{Height}
+use Rattle.fac_check.specs.TemplateEffects.{AreEffects}
 use Rattle.fac_store.specs.CallableHeights.{height_there}
 use Rattle.fac_emit.specs.Heights.{HasHeights}
 use Rattle.fac_check.specs.Checks.{IsKept}
@@ -25,7 +25,8 @@ use Rattle.fac_check.specs.Judged.{refusal_seen}
 use Rattle.fac_check.specs.declared.refusal.Refusal.{Refusal}
 use Rattle.fac_check.specs.Promises.{IsSafe, SafeAreNotStuck}
 use Rattle.fac_code.specs.declared.image.Image.{Image}
-use Rattle.fac_emit.specs.Carries.{Carries, CarriesEach}
+use Rattle.fac_carry.specs.Carries.{Carries}
+use Rattle.fac_emit.specs.CarriedPrograms.{CarriesEach}
 use Rattle.fac_notes.specs.WordNames.{bare_word, method_name, name_as, name_or}
 use Rattle.fac_tool.specs.Refusals.{refusal_of}
 use Rattle.fac_tool.specs.inner.ImageSteps.{AreEffectsIfAsked}
@@ -86,7 +87,7 @@ carried_by never P M count safe none carries = record {
 }
 
 -- the effects of a closed program's templates are those of its callables
-effects_there :
+pub effects_there :
     (closed : Closed) (heights : List (Option Height)) (P : Program) → AreEffects closed heights → StandsForSafe closed P → (q : ℕ) (t : Template) (vs : List Value) → slice_get closed.templates q ≡ Some t → length vs ≡ length t.captures + t.holes →
     callable_height P (of_phrase (template_phrase P q (map held vs))) ≡ height_there (slice_get heights q)
 effects_there closed heights P effects stands q t vs found count =

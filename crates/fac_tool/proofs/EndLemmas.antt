@@ -5,8 +5,8 @@ use Rattle.std.proofs.lemmas.Bool.{le-leb}
 use Rattle.std.proofs.lemmas.Bool.Decides.{leb_tells}
 use Rattle.std.proofs.lemmas.List.{map-append, reverse-reverse, take_more}
 use mathlib.Core.List.{reverse-cons}
-use Rattle.fac_lang.specs.declared.limits.TheConstants.{MOST_SHOWN_BYTES}
-use Rattle.fac_lang.specs.declared.memory.Memory.{Memory}
+use Rattle.fac_base.specs.declared.limits.TheConstants.{MOST_SHOWN_BYTES}
+use Rattle.fac_base.specs.declared.memory.Memory.{Memory}
 use Rattle.fac_lang.specs.declared.program.Program.{Program}
 use Rattle.fac_lang.specs.Phrases.{Value}
 use Rattle.fac_lang.specs.World.{World}
@@ -21,8 +21,8 @@ use Rattle.fac_store.specs.MachineValues.{MValue, machine_values}
 use Rattle.fac_store.specs.ValueTrees.{Trees, StoreSeen, objects_of, trees_of, value_in, values_in}
 use Rattle.fac_store.specs.declared.value.Value.{Value as MachineValue}
 use Rattle.fac_vm.specs.SeenMachine.{MachineSeen, stack_in}
-use Rattle.fac_emit.specs.MachineView.{template_phrases, value_view, values_view, world_view}
-use Rattle.fac_emit.specs.PrintedForms.{PrintedFormsAreEqual}
+use Rattle.fac_carry.specs.MachineView.{template_phrases, value_view, values_view, world_view}
+use Rattle.fac_carry.specs.PrintedForms.{PrintedFormsAreEqual}
 use Rattle.fac_tool.specs.Answer.{shown, shown_text}
 use Rattle.fac_tool.specs.inner.Stops.{machine_text, IsTextOf, AreTextsOf, AreStackTexts}
 

@@ -3,7 +3,7 @@ use Rattle.std.proofs.Common.{◌≡◌, ◌+◌, ◌-◌, ◌≤◌, ℕ, List,
 use Rattle.std.specs.declared.option.Option.{Option}
 use Rattle.std.specs.Option.{option_map}
 use Rattle.fac_io.specs.Faults.{Rose}
-use Rattle.fac_lang.specs.declared.program.Name.{Name}
+use Rattle.fac_base.specs.declared.name.Name.{Name}
 use Rattle.fac_lang.specs.World.{World}
 use Rattle.fac_code.specs.declared.image.Image.{Image}
 use Rattle.fac_code.specs.declared.names.TrapWhy.{TrapWhy}
@@ -13,7 +13,7 @@ use Rattle.fac_store.specs.declared.value.Value.{Value}
 use Rattle.fac_vm.specs.declared.machine.RunError.{RunError}
 use Rattle.fac_vm.specs.declared.machine.StopKind.{StopKind}
 use Rattle.fac_vm.specs.declared.machine.StopKind.TheVariants as stop
-use Rattle.fac_vm.specs.Machine.{done, failed, spent, trap}
+use Rattle.fac_machine.specs.Machine.{done, failed, spent, trap}
 use Rattle.fac_vm.specs.SeenMachine.{MachineSeen, callables_in, held_in}
 use Rattle.fac_vm.specs.Runs.{Held, RunsOn, InPieces, LastPiece, error_of}
 use Rattle.fac_notes.specs.declared.report.Report.{Report}

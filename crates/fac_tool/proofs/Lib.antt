@@ -11,10 +11,10 @@ pub mod StepTicks
 pub mod PieceLemmas
 pub mod NoteLemmas
 pub mod ClosedLemmas
+pub mod EffectRows
 pub mod ListedLemmas
 pub mod Composing
 pub mod ExecutedLemmas
-pub mod SavedLemmas
 pub mod ListingLemmas
 pub mod CarriedRuns
 pub mod SavedRunLemmas

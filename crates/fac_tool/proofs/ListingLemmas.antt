@@ -6,11 +6,11 @@ use Rattle.fac_io.specs.Told.{Stays, TookWhole, TookFront}
 use Rattle.fac_code.specs.declared.image.Image.{Image}
 use Rattle.fac_spelling.specs.Whole.{Spells}
 use Rattle.fac_bytes.specs.ImageBytes.{image as image_format, parts_of}
-use Rattle.fac_listing.specs.Listings.{listing}
+use Rattle.fac_bytes.specs.Listings.{listing}
 use Rattle.fac_tool.specs.declared.ended.Ended.{Ended}
 use Rattle.fac_tool.specs.SeenObjects.{SinkSeen, InputSeen, OnInput, IsUnread}
 use Rattle.fac_tool.specs.Ends.{EndsAs, idle}
-use Rattle.fac_tool.specs.Executed.{ListsBytes, listed, listed_answer}
+use Rattle.fac_tool.specs.Executed.{DoesOnBytes, decoded, listed, listed_answer}
 use Rattle.fac_tool.specs.inner.StepEnds.{bare}
 
 some_line : (M : Image) → 0 < length (listing M)
@@ -35,6 +35,6 @@ unread_on (Some xs) (Some ys) m n still h = record { input = xs; left = xs; is_i
 
 -- so the listing is that of the bytes, with all of the input left
 pub lists_unread :
-    (bytes : List ℕ) (M : Image) (out : SinkSeen) (ended : Ended) (seen : InputSeen) → IsUnread seen → Spells image_format bytes (parts_of M) → ((input : List ℕ) → EndsAs (listed_answer M input) idle out seen input ended) → ListsBytes bytes seen out ended
+    (bytes : List ℕ) (M : Image) (out : SinkSeen) (ended : Ended) (seen : InputSeen) → IsUnread seen → Spells image_format bytes (parts_of M) → ((input : List ℕ) → EndsAs (listed_answer M input) idle out seen input ended) → DoesOnBytes listed bytes seen out ended
 lists_unread bytes M out ended seen unread spelled ends =
-    listed M spelled (unread_on seen.before seen.now seen.faults_before seen.faults_now unread.left (λ input. record { ends = ends input; unread = unread }))
+    decoded M spelled (unread_on seen.before seen.now seen.faults_before seen.faults_now unread.left (λ input. record { ends = ends input; unread = unread }))

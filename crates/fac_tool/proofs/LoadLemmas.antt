@@ -1,5 +1,5 @@
 -- Loads, one behind the other.
-use Rattle.std.proofs.Common.{◌≡◌, ◌≤◌, ◌<◌, ◌+◌, ℕ, suc, drop, drop-cons, get_or, List, [], ◌∷◌, ◌++◌, length, map, take, Some, None, IfSome, IsSomeAnd, refl, sym, ap, subst, ◌∙◌, inl, inr, arith, append_assoc, length-append}
+use Rattle.std.proofs.Common.{◌≡◌, ◌≤◌, ◌<◌, ◌+◌, ◌-◌, ℕ, suc, drop, drop-cons, get_or, List, Result, Ok, Err, [], ◌∷◌, ◌++◌, length, map, take, Some, None, IfSome, IsSomeAnd, refl, sym, ap, subst, ◌∙◌, inl, inr, arith, append_assoc, length-append}
 use Rattle.std.proofs.Math.Seq.{take-append_seam}
 use Rattle.std.proofs.lemmas.List.{map-append, append-nil, take_more, take-append-drop}
 use Rattle.std.proofs.lemmas.List.Folds.{concat-append}
@@ -11,10 +11,9 @@ use Rattle.fac_io.specs.Faults.{Rose}
 use Rattle.fac_io.specs.Names.{Held}
 use Rattle.fac_io.specs.Told.{Stays, Grows, GrowsByPrefix}
 use Rattle.fac_tool.specs.declared.ended.Ended.{Ended}
-use Rattle.fac_tool.specs.Answer.{limit}
 use Rattle.fac_tool.specs.SeenObjects.{FilesSeen}
-use Rattle.fac_tool.specs.Answers.{LoadsGive, LoadsEnd}
-use Rattle.fac_tool.specs.inner.StepEnds.{LoadAdds, OneEnds}
+use Rattle.fac_tool.specs.Loads.{LoadsGive, LoadsEnd}
+use Rattle.fac_tool.specs.inner.StepEnds.{LoadAdds, OneEnds, LoadsOne, LoadsOnly}
 use Rattle.fac_tool.proofs.EarlyEnds.{grows_nothing}
 
 stays_on : {A : Type 0} (one two three : Option A) → Stays one two → Stays two three → Stays one three
@@ -49,8 +48,8 @@ abbrev seen : Option Held → Option Held → Option (List Asked) → Option (Li
 seen h h' a a' n n' = record { held_before = h; held_now = h'; asked_before = a; asked_now = a'; faults_before = n; faults_now = n' }
 
 -- before the first load
-pub no_loads : (h : Option Held) (a : Option (List Asked)) (n : ℕ) → LoadsGive [] (seen h h a a n n) []
-no_loads h a n = record { within = omega arith; told = nothing_told h; held = held_same h; asked = grows_nothing a; faults = refl }
+pub no_loads : (limit : ℕ) (h : Option Held) (a : Option (List Asked)) (n : ℕ) → LoadsGive [] limit (seen h h a a n n) []
+no_loads limit h a n = record { within = omega arith; told = nothing_told h; held = held_same h; asked = grows_nothing a; faults = refl }
   where
     nothing_told : (h : Option Held) → IfSome h (λ held. map held [] ≡ map Some [])
     nothing_told None = tt
@@ -75,14 +74,14 @@ one_more_text : (texts : List (List ℕ)) (text : List ℕ) → length (concat (
 one_more_text texts text = ap length (concat-append texts (text ∷ [])) ∙ length-append (concat texts) (concat (text ∷ [])) ∙ ap (λ (xs : List ℕ). length (concat texts) + length xs) (append-nil text)
 
 -- so much room there is behind these texts
-pub record LoadedSoFar (names : List (List ℕ)) (files : FilesSeen) (texts : List (List ℕ)) (left : ℕ) : Type 0 where
-  pub gives : LoadsGive names files texts
+pub record LoadedSoFar (names : List (List ℕ)) (limit : ℕ) (files : FilesSeen) (texts : List (List ℕ)) (left : ℕ) : Type 0 where
+  pub gives : LoadsGive names limit files texts
   pub room : left + length (concat texts) ≡ limit
 
 pub loads_next :
-    (names : List (List ℕ)) (name : List ℕ) (room left : ℕ) (h h' h'' : Option Held) (a a' a'' : Option (List Asked)) (n n' n'' : ℕ) (texts now : List (List ℕ)) →
-    LoadedSoFar names (seen h h' a a' n n') texts room → LoadAdds name room (seen h' h'' a' a'' n' n'') texts now left → LoadedSoFar (names ++ name ∷ []) (seen h h'' a a'' n n'') now left
-loads_next names name room left h h' h'' a a' a'' n n' n'' texts now so_far adds =
+    (names : List (List ℕ)) (limit : ℕ) (name : List ℕ) (room left : ℕ) (h h' h'' : Option Held) (a a' a'' : Option (List Asked)) (n n' n'' : ℕ) (texts now : List (List ℕ)) →
+    LoadedSoFar names limit (seen h h' a a' n n') texts room → LoadAdds name room (seen h' h'' a' a'' n' n'') texts now left → LoadedSoFar (names ++ name ∷ []) limit (seen h h'' a a'' n n'') now left
+loads_next names limit name room left h h' h'' a a' a'' n n' n'' texts now so_far adds =
     let text = adds.text in
     let bytes : length (concat now) ≡ length (concat texts) + length text = ap (λ (xs : List (List ℕ)). length (concat xs)) adds.added ∙ one_more_text texts text in
     let gives = so_far.gives in
@@ -98,11 +97,11 @@ loads_next names name room left h h' h'' a a' a'' n n' n'' texts now so_far adds
     }
 
 longer_on :
-    (one two : Option Held) (name : List ℕ) (room : ℕ) (texts : List (List ℕ)) →
+    (limit : ℕ) (one two : Option Held) (name : List ℕ) (room : ℕ) (texts : List (List ℕ)) →
     room + length (concat texts) ≡ limit → Stays one two → IfSome two (λ held. IsSomeAnd (held name) (λ text. room < length text)) → IfSome one (λ held. IsSomeAnd (held name) (λ text. limit < length (concat texts) + length text))
-longer_on None two name room texts e s k = tt
-longer_on (Some held) None name room texts e s k = absurd s
-longer_on (Some held) (Some same) name room texts e s k = passes (held name) (subst (λ (f : Held). IsSomeAnd (f name) (λ text. room < length text)) s k)
+longer_on limit None two name room texts e s k = tt
+longer_on limit (Some held) None name room texts e s k = absurd s
+longer_on limit (Some held) (Some same) name room texts e s k = passes (held name) (subst (λ (f : Held). IsSomeAnd (f name) (λ text. room < length text)) s k)
   where
     passes : (r : Option (List ℕ)) → IsSomeAnd r (λ text. room < length text) → IsSomeAnd r (λ text. limit < length (concat texts) + length text)
     passes None h = absurd h
@@ -113,9 +112,9 @@ asked_front : (names before : List (List ℕ)) (name : List ℕ) (after : List (
 asked_front names before name after e = ap (map Load) e ∙ map-append Load before (name ∷ after)
 
 pub loads_end :
-    (names before after : List (List ℕ)) (name : List ℕ) (room : ℕ) (h h' h'' : Option Held) (a a' a'' : Option (List Asked)) (n n' n'' : ℕ) (texts : List (List ℕ)) (ended : Ended) →
-    names ≡ before ++ (name ∷ after) → LoadedSoFar before (seen h h' a a' n n') texts room → OneEnds name room (seen h' h'' a' a'' n' n'') ended → LoadsEnd names (seen h h'' a a'' n n'') ended
-loads_end names before after name room h h' h'' a a' a'' n n' n'' texts ended place so_far (inl none) =
+    (names before after : List (List ℕ)) (name : List ℕ) (room limit : ℕ) (h h' h'' : Option Held) (a a' a'' : Option (List Asked)) (n n' n'' : ℕ) (texts : List (List ℕ)) (ended : Ended) →
+    names ≡ before ++ (name ∷ after) → LoadedSoFar before limit (seen h h' a a' n n') texts room → OneEnds name room limit (seen h' h'' a' a'' n' n'') ended → LoadsEnd names limit (seen h h'' a a'' n n'') ended
+loads_end names before after name room limit h h' h'' a a' a'' n n' n'' texts ended place so_far (inl none) =
     let gives = so_far.gives in
     inl (record {
       status = ap (λ (x : Ended). x.status) none.is;
@@ -125,7 +124,7 @@ loads_end names before after name room h h' h'' a a' a'' n n' n'' texts ended pl
       asked = grows_front a a'' (map Load before) (map Load names) (Load name ∷ map Load after) (asked_front names before name after place) (grows_still a a' a'' (map Load before) gives.asked none.asked);
       faults = none.faults ∙ gives.faults;
     })
-loads_end names before after name room h h' h'' a a' a'' n n' n'' texts ended place so_far (inr (inl lost)) =
+loads_end names before after name room limit h h' h'' a a' a'' n n' n'' texts ended place so_far (inr (inl lost)) =
     let gives = so_far.gives in
     let front = grows_on a a' a'' (map Load before) (Load name ∷ []) gives.asked lost.asked in
     let whole = asked_front names before name after place ∙ sym (append_assoc (map Load before) (Load name ∷ []) (map Load after)) in
@@ -137,7 +136,7 @@ loads_end names before after name room h h' h'' a a' a'' n n' n'' texts ended pl
       asked = grows_front a a'' (map Load before ++ Load name ∷ []) (map Load names) (map Load after) whole front;
       faults = lost.faults ∙ gives.faults;
     })
-loads_end names before after name room h h' h'' a a' a'' n n' n'' texts ended place so_far (inr (inr (inl fails))) =
+loads_end names before after name room limit h h' h'' a a' a'' n n' n'' texts ended place so_far (inr (inr (inl fails))) =
     let gives = so_far.gives in
     inr (inl (record {
       name = name;
@@ -157,7 +156,7 @@ loads_end names before after name room h h' h'' a a' a'' n n' n'' texts ended pl
       refusal = ap (λ (x : Ended). x.refusal) fails.is;
       rose = subst (λ (k : ℕ). Rose k n'') gives.faults fails.rose;
     }))
-loads_end names before after name room h h' h'' a a' a'' n n' n'' texts ended place so_far (inr (inr (inr long))) =
+loads_end names before after name room limit h h' h'' a a' a'' n n' n'' texts ended place so_far (inr (inr (inr long))) =
     let gives = so_far.gives in
     inr (inr (record {
       name = name;
@@ -175,9 +174,25 @@ loads_end names before after name room h h' h'' a a' a'' n n' n'' texts ended pl
       ticks = ap (λ (x : Ended). x.ticks) long.is;
       stack = ap (λ (x : Ended). x.stack) long.is;
       refusal = ap (λ (x : Ended). x.refusal) long.is;
-      longer = longer_on h h' name room texts so_far.room gives.held long.longer;
+      longer = longer_on limit h h' name room texts so_far.room gives.held long.longer;
       faults = long.faults ∙ gives.faults;
     }))
+
+-- the load of one file alone
+pub loads_only : (name : List ℕ) (limit : ℕ) (files : FilesSeen) (r : Result (List ℕ) Ended) → LoadsOne name limit limit files r → LoadsOnly name limit files r
+loads_only name limit files (Ok text) one =
+    let h = files.held_before in
+    let a = files.asked_before in
+    let n = files.faults_before in
+    let first : LoadedSoFar [] limit (seen h h a a n n) [] limit = record { gives = no_loads limit h a n; room = omega arith } in
+    let adds : LoadAdds name limit (seen h files.held_now a files.asked_now n files.faults_now) [] (text ∷ []) (limit - length text) = record { text = text; gives = one; added = refl; rest = omega (arith, one.within) } in
+    (loads_next [] limit name limit (limit - length text) h h files.held_now a a files.asked_now n n files.faults_now [] (text ∷ []) first adds).gives
+loads_only name limit files (Err ended) one =
+    let h = files.held_before in
+    let a = files.asked_before in
+    let n = files.faults_before in
+    let first : LoadedSoFar [] limit (seen h h a a n n) [] limit = record { gives = no_loads limit h a n; room = omega arith } in
+    loads_end (name ∷ []) [] [] name limit limit h h files.held_now a a files.asked_now n n files.faults_now [] ended refl first one
 
 -- the names of one load more
 pub one_more_name : {A : Type 0} (f : A → List ℕ) (names : List A) (i : ℕ) (name : A) → i < length names → name ≡ get_or names i name → map f (take (i + 1) names) ≡ map f (take i names) ++ f name ∷ []

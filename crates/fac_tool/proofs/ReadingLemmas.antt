@@ -2,8 +2,8 @@
 use Rattle.std.proofs.Common.{◌≡◌, ◌+◌, ℕ, List, [], ◌∷◌, ◌++◌, Result, Ok, Err, cond, refl, sym, ap, subst, ◌∙◌, arith}
 use Rattle.std.proofs.lemmas.List.Sums.{sum_by-append, sum_by_push}
 use Rattle.std.specs.List.{count_by}
-use Rattle.fac_lang.specs.declared.token.Token.{Token}
-use Rattle.fac_lang.specs.declared.tree.Form.{Form}
+use Rattle.fac_source.specs.declared.token.Token.{Token}
+use Rattle.fac_source.specs.declared.tree.Form.{Form}
 use Rattle.fac_token.specs.declared.fault.TokenFault.{TokenFault}
 use Rattle.fac_token.specs.declared.fault.TokenFault.TheVariants as token
 use Rattle.fac_token.specs.Tokens.{Tokenizes}
@@ -34,10 +34,10 @@ pub wanted_for_text : EverySource → (file : ℕ) (text : List ℕ) (ended : En
 wanted_for_text law file text ended e =
     let all = law file (text ∷ []) in
     let read = alone file text all.0 all.1 in
-    record { source = read.0; is_read = read.1; ends = λ command before sources. no_memory (answer_on command (together before file (read.0 ∷ sources))) ended e }
+    record { source = read.0; is_read = read.1; ends = λ on before sources. no_memory (answer_on on (together before file (read.0 ∷ sources))) ended e }
 
 has_fault : (file : ℕ) (text : List ℕ) (at : ℕ) (why : ByteFault) (ended : Ended) → Tokenizes file text (Err (token_fault at why)) → ended ≡ reported 0 (report.Bytes file at why) → EndsFile file text ended
-has_fault file text at why ended has is = record { source = no_tokens at why; is_read = has; ends = λ command before sources. is_refused (report.Bytes file at why) ended refl is }
+has_fault file text at why ended has is = record { source = no_tokens at why; is_read = has; ends = λ on before sources. is_refused (report.Bytes file at why) ended refl is }
 
 pub has_no_tokens : EverySource → (file : ℕ) (text : List ℕ) (fault : TokenFault) (ended : Ended) → Tokenizes file text (Err fault) → ended ≡ fault_ending file fault → EndsFile file text ended
 has_no_tokens law file text (token.NotUtf8 at) ended has is = has_fault file text at byte.NotUtf8 ended has is
@@ -51,7 +51,7 @@ pub has_no_tree :
     EverySource → (file : ℕ) (tokens : List Token) (so_far : List Form) (parser : Parser) (fault : ParseFault) (ended : Ended) → HandsOut tokens so_far parser (Err fault) → ended ≡ tree_ending file fault →
     (text : List ℕ) → Tokenizes file text (Ok tokens) → EndsFile file text ended
 has_no_tree law file tokens so_far parser (parse.Syntax at why) ended none e text are =
-    record { source = no_tree at why; is_read = (tokens, are, none); ends = λ command before sources. is_refused (report.Syntax file at why) ended refl e }
+    record { source = no_tree at why; is_read = (tokens, are, none); ends = λ on before sources. is_refused (report.Syntax file at why) ended refl e }
 has_no_tree law file tokens so_far parser parse.Memory ended none e text are = wanted_for_text law file text ended e
 
 counts_both : (count sum both : ℕ) (so_far forms : List Form) → sum ≡ count + count_by is_definition so_far → both ≡ sum + count_by is_definition forms → both ≡ count + count_by is_definition (so_far ++ forms)
@@ -94,13 +94,13 @@ pub record TakenUpTo (texts left : List (List ℕ)) (file count : ℕ) (resolver
 pub wanted_for_texts : EverySource → (texts : List (List ℕ)) (ended : Ended) → ended ≡ bare 12 0 → EndsRead texts ended
 wanted_for_texts law texts ended e =
     let all = law 0 (prelude_text ∷ texts) in
-    record { sources = all.0; are_read = all.1; ends = λ command. no_memory (answer_on command (come_to all.0)) ended e }
+    record { sources = all.0; are_read = all.1; ends = λ on. no_memory (answer_on on (come_to all.0)) ended e }
 
 -- the prelude ends the work
 pub ends_prelude : EverySource → (texts : List (List ℕ)) (ended : Ended) → EndsFile 0 prelude_text ended → EndsRead texts ended
 ends_prelude law texts ended ends =
     let behind = law 1 texts in
-    record { sources = ends.source ∷ behind.0; are_read = (ends.is_read, behind.1); ends = λ command. ends.ends command [] behind.0 }
+    record { sources = ends.source ∷ behind.0; are_read = (ends.is_read, behind.1); ends = λ on. ends.ends on [] behind.0 }
 
 -- or it is the first file
 pub begins :
@@ -140,7 +140,7 @@ ends_texts law texts left rest file count text resolver ended e so_far ends =
     record {
       sources = reached.whole;
       are_read = reached.are_read;
-      ends = λ command. subst (λ (s : Sources). EndsEarly (answer_on command s) ended) (sym reached.same) (ends.ends command (so_far.prelude ∷ so_far.files) behind.0);
+      ends = λ on. subst (λ (s : Sources). EndsEarly (answer_on on s) ended) (sym reached.same) (ends.ends on (so_far.prelude ∷ so_far.files) behind.0);
     }
 
 -- or all were taken

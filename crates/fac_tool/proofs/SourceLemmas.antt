@@ -2,15 +2,15 @@
 use Rattle.std.proofs.Common.{◌≡◌, ℕ, ◌+◌, List, [], ◌∷◌, ◌++◌, Some, None, Result, Ok, Err, refl, sym, ap, ◌∙◌, subst, IfSome, ◌⊎◌, inl, inr}
 use Rattle.std.specs.declared.option.Option.{Option}
 use Rattle.fac_lang.specs.declared.program.Program.{Program}
-use Rattle.fac_lang.specs.declared.token.Token.{Token}
-use Rattle.fac_lang.specs.declared.tree.Form.{Form}
+use Rattle.fac_source.specs.declared.token.Token.{Token}
+use Rattle.fac_source.specs.declared.tree.Form.{Form}
 use Rattle.fac_lang.specs.Whole.{IsWhole}
 use Rattle.fac_token.specs.declared.fault.TokenFault.{TokenFault}
 use Rattle.fac_token.specs.declared.fault.TokenFault.TheVariants as token
 use Rattle.fac_token.specs.Tokens.{Tokenizes}
 use Rattle.fac_token.specs.ReadingLaws.{IsNotMemory, EveryFileAnswers, OneAnswer}
 use Rattle.fac_parse.specs.declared.reader.Why.TheVariants.{End, Other}
-use Rattle.fac_refusal.specs.declared.refusal.NameFault.{NameFault}
+use Rattle.fac_source.specs.declared.refusal.NameFault.{NameFault}
 use Rattle.fac_parse.specs.Trees.{IsWellFormed, AreWellFormed, Reads, Misses, OneTree, TreeOrNone, OnePlace, SomePlace}
 use Rattle.fac_parse.specs.declared.reader.Why.{Why}
 use Rattle.fac_names.specs.Resolution.{resolved, ResolvedAreWhole}

@@ -4,10 +4,12 @@ use Rattle.std.specs.Prelude.{slice_get, drop, ⊤}
 use Rattle.std.specs.declared.option.Option.{Option}
 use Rattle.fac_lang.specs.Phrases.{str, wrd, arr}
 use Rattle.fac_lang.specs.World.{World}
-use Rattle.fac_lang.specs.Meaning.{Core, c_call, c_dip, c_if, c_execute, c_boa, core_numbered}
-use Rattle.fac_lang.specs.declared.phrase.Height.{Height}
+use Rattle.fac_lang.specs.declared.core_table.CoreWord.{CoreWord}
+use Rattle.fac_lang.specs.declared.core_table.CoreWord.TheVariants.{Call as c_call, Dip as c_dip, If as c_if, Execute as c_execute, Boa as c_boa, Cond as c_cond}
+use Rattle.fac_base.specs.declared.height.Height.{Height}
 use Rattle.fac_lang.specs.Procedures.{Gives, gives, bad, Fn, fn0, fn1, fn2, fn3}
-use Rattle.fac_lang.specs.Primitives.{Primitive, prim_numbered, prim_fn, seen_no, seen_word}
+use Rattle.fac_lang.specs.Primitives.{Primitive, prim_numbered, prim_fn}
+use Rattle.fac_lang.specs.Operations.{seen_no, seen_word}
 use Rattle.fac_lang.specs.Objects.{get_slot, set_slot, put_slot, made_tuple}
 use Rattle.fac_lang.specs.declared.error_name.ErrorName.{ErrorName}
 use Rattle.fac_lang.specs.declared.error_name.ErrorName.TheVariants.{NoMethod, NoNextMethod}
@@ -25,10 +27,10 @@ use Rattle.fac_code.specs.ClassSets.{set_has}
 use Rattle.fac_code.specs.declared.names.TrapWhy.TheVariants.{Kind as t_kind, Frame as t_frame}
 use Rattle.fac_store.specs.MachineValues.{MValue, m_plain, m_fun, MCallable, m_lit, m_cur, m_com, Kept, kept_list, keep_list, m_seen, machine_values, cells_at}
 use Rattle.fac_store.specs.CallableHeights.{callable_height}
-use Rattle.fac_vm.specs.Machine.{Entry, resume, put_back, enter, Job, instr, acts as acts_of, Machine, spent, Step, goes_on, ends, after, next_job, push, waiting, paying, popping1, popping2, popping3}
-use Rattle.fac_vm.specs.Machine.{fits_in, row_height, template_heights, want_word, back, does_prim, accesses, makes_tuple, tells_class, executes, enters_if, tested_call, executes_if, tested_word, does_core, does_action, does_job, job_or_fetched}
-use Rattle.fac_vm.specs.Machine.{given, does, word_with, or_trap, code_of, leaving, going, want_callable, branch, popping, without_last, method_for, method_after, method_place, jumping_if, takes_back, truth}
-use Rattle.fac_vm.specs.Machine.{kind_in, entering, returning, makes, fries, enters_method, enters_for, goes_on_from, does_instr, fetched, step}
+use Rattle.fac_machine.specs.Machine.{Entry, resume, put_back, enter, Job, instr, acts as acts_of, Machine, spent, Step, goes_on, ends, after, next_job, push, waiting, paying, popping1, popping2, popping3}
+use Rattle.fac_machine.specs.Machine.{fits_in, row_height, template_heights, want_word, back, does_prim, accesses, makes_tuple, tells_class, executes, enters_if, tested_call, executes_if, tested_word, does_core, does_action, does_job, job_or_fetched}
+use Rattle.fac_machine.specs.Machine.{given, does, word_with, or_trap, code_of, leaving, going, want_callable, branch, popping, without_last, method_for, method_after, method_place, jumping_if, takes_back, truth}
+use Rattle.fac_machine.specs.Machine.{kind_in, entering, returning, makes, fries, enters_method, enters_for, goes_on_from, does_instr, fetched, step}
 use Rattle.fac_vm.specs.Runs.{end_world}
 
 -- what a world tells of reading and writing: the input left, how many lines were asked for, and the output
@@ -384,18 +386,18 @@ module _ (M : Image) where
   fetched_at (Some (Next m t)) s n = paid_at ⊥ (does_instr M (Next m t) s) s (next_method_at m s (leaving t s) (mark_in s.world)) n
 
   -- what a core word does
-  core_at : (o : Option Core) (s : Machine) (n : ℕ) → Ticks ⊥ (does_core M o s) (mark_in s.world) n
-  core_at None s n = λ c none. absurd c
-  core_at (Some c_call) s n = loosely _ (mark_in s.world) n _ (call_at s.stack s n)
-  core_at (Some c_dip) s n = loosely _ (mark_in s.world) n _ (dip_at true s.stack s n)
-  core_at (Some c_if) s n = loosely _ (mark_in s.world) n _ (if_at s.stack s n)
-  core_at (Some c_execute) s n = execute_at s (mark_in s.world) n
-  core_at (Some c_boa) s n = back_at s.pc (makes_tuple M s) (mark_in s.world) n (tuple_at s (mark_in s.world) n)
+  core_at : (o : CoreWord) (s : Machine) (n : ℕ) → Ticks ⊥ (does_core M o s) (mark_in s.world) n
+  core_at c_cond s n = λ c none. absurd c
+  core_at c_call s n = loosely _ (mark_in s.world) n _ (call_at s.stack s n)
+  core_at c_dip s n = loosely _ (mark_in s.world) n _ (dip_at true s.stack s n)
+  core_at c_if s n = loosely _ (mark_in s.world) n _ (if_at s.stack s n)
+  core_at c_execute s n = execute_at s (mark_in s.world) n
+  core_at c_boa s n = back_at s.pc (makes_tuple M s) (mark_in s.world) n (tuple_at s (mark_in s.world) n)
 
   -- what a word does
   action_at : (w : ℕ) (a : Action) (s : Machine) (n : ℕ) → Ticks ⊥ (does_action M w a s) (mark_in s.world) n
   action_at w (action.Prim p) s n = back_at s.pc (does_prim M p s) (mark_in s.world) n (prim_at (word_with (action.Prim p) 0 M.words) (prim_numbered p) s (mark_in s.world) n)
-  action_at w (action.Core k) s n = core_at (core_numbered k) s n
+  action_at w (action.Core k) s n = core_at k s n
   action_at w (action.Code a) s n = goes ⊥ _ (going a [] s) (mark_in s.world) (λ n. refl) (λ c. absurd c) n
   action_at w action.Itself s n = goes ⊥ _ (next_job (instr Ret) (push (m_plain (wrd w)) s)) (mark_in s.world) (λ n. refl) (λ c. absurd c) n
   action_at w (action.Generic g) s n = generic_at (λ r k. method_for M.sets k r.methods) NoMethod g s s (mark_in s.world) n

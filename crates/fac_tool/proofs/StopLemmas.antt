@@ -5,7 +5,7 @@ use Rattle.fac_io.specs.Told.{GrowsByPrefix}
 use Rattle.fac_lang.specs.declared.program.Program.{Program}
 use Rattle.fac_lang.specs.Phrases.{Item, Value}
 use Rattle.fac_lang.specs.World.{World, State, array}
-use Rattle.fac_lang.specs.declared.memory.Memory.{Memory}
+use Rattle.fac_base.specs.declared.memory.Memory.{Memory}
 use Rattle.fac_lang.specs.Eval.{Result as Run, Done, Failed, Spent, Stuck}
 use Rattle.fac_lang.specs.RunningLaws.{IsNotStuck}
 use Rattle.fac_locals.specs.declared.closing.Closed.{Closed}
@@ -14,12 +14,12 @@ use Rattle.fac_code.specs.declared.image.Elem.{Elem}
 use Rattle.fac_code.specs.declared.image.Image.{Image}
 use Rattle.fac_store.specs.MachineValues.{MValue}
 use Rattle.fac_store.specs.ValueTrees.{objects_of}
-use Rattle.fac_vm.specs.Machine.{Machine, End, done, failed, spent, trap, Ends, starting, first_world, with_arrays, element_value}
+use Rattle.fac_machine.specs.Machine.{Machine, End, done, failed, spent, trap, Ends, starting, first_world, with_arrays, element_value}
 use Rattle.fac_vm.specs.SeenMachine.{MachineSeen}
 use Rattle.fac_vm.specs.Runs.{Held, begun, Reaches, GrowsBeyond, end_world}
-use Rattle.fac_vm.specs.MachineLaws.{RunsHaveOneEnd}
-use Rattle.fac_emit.specs.Carries.{SameEnd, top_run}
-use Rattle.fac_emit.specs.MachineView.{template_phrases}
+use Rattle.fac_machine.specs.MachineLaws.{RunsHaveOneEnd}
+use Rattle.fac_carry.specs.Carries.{SameEnd, top_run}
+use Rattle.fac_carry.specs.MachineView.{template_phrases}
 use Rattle.fac_tool.specs.Answer.{meaning}
 use Rattle.fac_tool.specs.SeenObjects.{SinkSeen}
 use Rattle.fac_tool.specs.Ends.{run_output, run_asked, run_left, StopsWithin}

@@ -3,31 +3,29 @@ use Rattle.std.specs.Prelude.{ℕ, ◌+◌, ◌-◌, Bool, true, false, List, []
 use Rattle.std.specs.List.{concat, count_by, sum_by}
 use Rattle.std.specs.declared.option.Option.{Option}
 use Rattle.std.specs.Option.{option_map}
-use Rattle.fac_lang.specs.declared.limits.TheConstants.{MOST_SOURCE_BYTES, MOST_SHOWN_BYTES}
+use Rattle.fac_base.specs.declared.limits.TheConstants.{MOST_SOURCE_BYTES, MOST_SHOWN_BYTES}
 use Rattle.fac_lang.specs.declared.program.Program.{Program}
-use Rattle.fac_lang.specs.declared.tree.Form.{Form}
-use Rattle.fac_lang.specs.declared.tree.Form.TheVariants as form
-use Rattle.fac_lang.specs.declared.tree.FormKind.{FormKind}
-use Rattle.fac_lang.specs.declared.tree.FormKind.TheVariants.{Constant, Define, DefineLocals, Method, Maker}
+use Rattle.fac_source.specs.declared.tree.Form.{Form}
+use Rattle.fac_source.specs.declared.tree.Form.TheVariants as form
+use Rattle.fac_source.specs.FormRows.{gives_phrase}
 use Rattle.fac_lang.specs.Phrases.{Value}
 use Rattle.fac_lang.specs.World.{World, Error}
 use Rattle.fac_lang.specs.Printed.{printed}
 use Rattle.fac_lang.specs.Eval.{Result as Run, Done, Failed, Spent, Stuck}
 use Rattle.fac_lang.specs.Meaning.{meaning_values, names, run, start, word_phrase}
 use Rattle.fac_parse.specs.declared.reader.Why.{Why}
-use Rattle.fac_refusal.specs.declared.refusal.NameFault.{NameFault}
+use Rattle.fac_source.specs.declared.refusal.NameFault.{NameFault}
 use Rattle.fac_names.specs.Resolution.{resolved}
 use Rattle.fac_check.specs.CallableEffects.{callable_height}
-use Rattle.fac_lang.specs.HeightArithmetic.{fits}
+use Rattle.fac_base.specs.HeightArithmetic.{fits}
 use Rattle.fac_check.specs.Verdicts.{verdict}
 use Rattle.fac_check.specs.declared.refusal.Broken.{Broken}
+use Rattle.fac_notes.specs.declared.status.TheConstants.{SUCCESS, RUN_ERROR, BUDGET_SPENT, BAD_IMAGE}
 use Rattle.fac_notes.specs.declared.report.ByteFault.{ByteFault}
 use Rattle.fac_notes.specs.declared.report.Report.{Report}
 use Rattle.fac_notes.specs.declared.report.Report.TheVariants as report
 use Rattle.fac_notes.specs.Statuses.{status_of}
 use Rattle.fac_notes.specs.WordNames.{defined_as, word_name, name_text}
-use Rattle.fac_command.specs.declared.command.Command.{Command}
-use Rattle.fac_command.specs.declared.command.Command.TheVariants as command
 use Rattle.fac_tool.specs.Refusals.{refusal_of}
 
 -- the most bytes of the files of a command together; those of the prelude don't count
@@ -88,10 +86,10 @@ error_report P w e = report.Error e.name (defined_as P e.word) (option_map (show
 
 -- the answer of a run with this budget; an accepted program is never stuck
 abbrev pub of_run : Program → ℕ → Run → Answer
-of_run P budget (Done st more) = record { status = 0; ticks = budget - more; stack = Some (map (shown P st.world) (reverse st.stack)); refusal = None; output = st.world.output; left = st.world.input }
-of_run P budget (Failed e st more) = record { status = 1; ticks = budget - more; stack = None; refusal = Some (error_report P st.world e); output = st.world.output; left = st.world.input }
-of_run P budget (Spent st i) = record { status = 6; ticks = budget; stack = None; refusal = Some (report.Spent budget); output = st.world.output; left = st.world.input }
-of_run P budget Stuck = record { status = 7; ticks = 0; stack = None; refusal = None; output = []; left = [] }
+of_run P budget (Done st more) = record { status = SUCCESS; ticks = budget - more; stack = Some (map (shown P st.world) (reverse st.stack)); refusal = None; output = st.world.output; left = st.world.input }
+of_run P budget (Failed e st more) = record { status = RUN_ERROR; ticks = budget - more; stack = None; refusal = Some (error_report P st.world e); output = st.world.output; left = st.world.input }
+of_run P budget (Spent st i) = record { status = BUDGET_SPENT; ticks = budget; stack = None; refusal = Some (report.Spent budget); output = st.world.output; left = st.world.input }
+of_run P budget Stuck = record { status = BAD_IMAGE; ticks = 0; stack = None; refusal = None; output = []; left = [] }
 
 -- the answer of a program's run on this input with this budget
 abbrev pub run_answer : Program → List ℕ → ℕ → Answer
@@ -114,15 +112,6 @@ with_lines answer = record { status = answer.status; ticks = answer.ticks; stack
 abbrev pub stack_answer : Program → List ℕ → ℕ → Answer
 stack_answer P input budget = with_lines (run_answer P input budget)
 
--- whether a row defines a word that has a phrase
-abbrev pub gives_phrase : FormKind → Bool
-gives_phrase Constant = true
-gives_phrase Define = true
-gives_phrase DefineLocals = true
-gives_phrase Method = true
-gives_phrase Maker = true
-gives_phrase _ = false
-
 -- whether a form defines a word that has a phrase
 abbrev pub is_definition : Form → Bool
 is_definition (form.Row kind opens parts) = gives_phrase kind
@@ -141,35 +130,27 @@ abbrev pub checked_line : ℕ → List ℕ
 checked_line count = codes "checked " ++ decimal count ++ codes " definitions\n"
 
 abbrev pub checked_answer : ℕ → List ℕ → Answer
-checked_answer count input = record { status = 0; ticks = 0; stack = None; refusal = None; output = checked_line count; left = input }
+checked_answer count input = record { status = SUCCESS; ticks = 0; stack = None; refusal = None; output = checked_line count; left = input }
 
--- What `build` does with an accepted program is no function: the image is one of those that carry it. So without it there is only want of memory. The commands on
--- images have no files.
-abbrev pub no_answer : List ℕ → Answer
-no_answer input = record { status = 12; ticks = 0; stack = None; refusal = None; output = []; left = input }
-
--- an accepted program of files with so many definitions, on this input
-abbrev pub on_accepted : Command → ℕ → Program → List ℕ → Answer
-on_accepted (command.Check first end) count P input = checked_answer count input
-on_accepted (command.Run steps first end) count P input = run_answer P input steps
-on_accepted (command.RunStack steps first end) count P input = stack_answer P input steps
-on_accepted _ count P input = no_answer input
+-- the answer of what is done with an accepted program, by how many definitions its files have, and by the input
+abbrev pub OnAccepted : Type 0
+OnAccepted = ℕ → Program → List ℕ → Answer
 
 -- the first refused word by its number, with its refusal, or an accepted program
-abbrev pub on_verdict : Command → ℕ → Program → Option (ℕ × Broken) → List ℕ → Answer
-on_verdict c count P (Some first) input = refused (report.Check (refusal_of first) (name_text (word_name P first.0))) input
-on_verdict c count P None input = on_accepted c count P input
+abbrev pub on_verdict : OnAccepted → ℕ → Program → Option (ℕ × Broken) → List ℕ → Answer
+on_verdict on count P (Some first) input = refused (report.Check (refusal_of first) (name_text (word_name P first.0))) input
+on_verdict on count P None input = on count P input
 
 -- a refused name, or a program, whose top-level phrase starts from no value
-abbrev pub on_resolved : Command → ℕ → Result Program NameFault → List ℕ → Answer
-on_resolved c count (Err fault) input = refused (report.Name fault) input
-on_resolved c count (Ok P) input = on_verdict c count P (verdict P 0) input
+abbrev pub on_resolved : OnAccepted → ℕ → Result Program NameFault → List ℕ → Answer
+on_resolved on count (Err fault) input = refused (report.Name fault) input
+on_resolved on count (Ok P) input = on_verdict on count P (verdict P 0) input
 
 -- by what the files come to, on this input
-abbrev pub answer_on : Command → Sources → List ℕ → Answer
-answer_on c (no_tokens_in file at why) input = refused (report.Bytes file at why) input
-answer_on c (no_tree_in file at why) input = refused (report.Syntax file at why) input
-answer_on c (trees files) input = on_resolved c (own_definitions files) (resolved files) input
+abbrev pub answer_on : OnAccepted → Sources → List ℕ → Answer
+answer_on on (no_tokens_in file at why) input = refused (report.Bytes file at why) input
+answer_on on (no_tree_in file at why) input = refused (report.Syntax file at why) input
+answer_on on (trees files) input = on_resolved on (own_definitions files) (resolved files) input
 
 -- the accepted program of the files, where there is one
 abbrev pub if_accepted : Program → Option (ℕ × Broken) → Option Program

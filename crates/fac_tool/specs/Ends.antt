@@ -9,8 +9,7 @@ use Rattle.fac_lang.specs.Phrases.{Item, Value}
 use Rattle.fac_lang.specs.World.{State}
 use Rattle.fac_lang.specs.Eval.{Result as Run, Done, Failed, Spent, Stuck}
 use Rattle.fac_vm.specs.Runs.{GrowsBeyond}
-use Rattle.fac_command.specs.declared.command.Command.{Command}
-use Rattle.fac_command.specs.declared.command.Command.TheVariants as command
+use Rattle.fac_notes.specs.declared.status.TheConstants.{NO_COMMAND, FILE_FAULT, INPUT_FAULT, WRITE_FAULT, TOO_LONG, NO_MEMORY}
 use Rattle.fac_tool.specs.declared.ended.Ended.{Ended}
 use Rattle.fac_tool.specs.Answer.{Answer, meaning, shown, stack_lines, lines_if}
 use Rattle.fac_tool.specs.SeenObjects.{SinkSeen, InputSeen, IsUnread}
@@ -26,7 +25,7 @@ pub data Ending : Type 0 where
   NoMemory : Ending
 
 abbrev pub ending_of : ℕ → Ending
-ending_of status = (if status == 2 then Usage else if status == 8 then FileFault else if status == 9 then InputFault else if status == 10 then WriteFault else if status == 11 then TooLong else if status == 12 then NoMemory else Told)
+ending_of status = (if status == NO_COMMAND then Usage else if status == FILE_FAULT then FileFault else if status == INPUT_FAULT then InputFault else if status == WRITE_FAULT then WriteFault else if status == TOO_LONG then TooLong else if status == NO_MEMORY then NoMemory else Told)
 
 -- What a command does with the accepted program of its files: it runs nothing, or runs it on this input with this budget, or runs it and then writes the lines of its stack.
 pub data Work : Type 0 where
@@ -34,13 +33,10 @@ pub data Work : Type 0 where
   runs : Program → List ℕ → ℕ → Work
   runs_and_lists : Program → List ℕ → ℕ → Work
 
-abbrev pub work_of : Command → Option Program → List ℕ → Work
-work_of (command.Check first end) accepted input = idle
-work_of (command.Run steps first end) None input = idle
-work_of (command.Run steps first end) (Some P) input = runs P input steps
-work_of (command.RunStack steps first end) None input = idle
-work_of (command.RunStack steps first end) (Some P) input = runs_and_lists P input steps
-work_of _ accepted input = idle
+-- where there is none nothing is run
+abbrev pub work_of : (Program → List ℕ → Work) → Option Program → List ℕ → Work
+work_of on None input = idle
+work_of on (Some P) input = on P input
 
 -- the call's result and output are the answer's, and so is what is left of the input
 pub record Matches (answer : Answer) (out : SinkSeen) (left : List ℕ) (ended : Ended) : Type 0 where

@@ -10,11 +10,12 @@ use Rattle.fac_code.specs.ImageNames.{image_names}
 use Rattle.fac_store.specs.MachineValues.{MValue, machine_values}
 use Rattle.fac_vm.specs.declared.machine.StopKind.{StopKind}
 use Rattle.fac_vm.specs.declared.machine.StopKind.TheVariants as stop
-use Rattle.fac_vm.specs.Machine.{End, done, failed, spent, trap, Ends, first_world}
+use Rattle.fac_machine.specs.Machine.{End, done, failed, spent, trap, Ends, first_world}
 use Rattle.fac_vm.specs.Runs.{Held, begun, Reaches, InPieces, AsksAt}
 use Rattle.fac_spelling.specs.Whole.{Spells, IsRefused}
 use Rattle.fac_bytes.specs.ImageBytes.{image as image_format, are_image, parts_of}
-use Rattle.fac_listing.specs.Listings.{listing}
+use Rattle.fac_bytes.specs.Listings.{listing}
+use Rattle.fac_notes.specs.declared.status.TheConstants.{SUCCESS, RUN_ERROR, BUDGET_SPENT, BAD_IMAGE, NO_MEMORY}
 use Rattle.fac_notes.specs.declared.report.Report.TheVariants as report
 use Rattle.fac_notes.specs.WordNames.{image_word_name}
 use Rattle.fac_tool.specs.declared.ended.Ended.{Ended}
@@ -32,10 +33,10 @@ image_shown M w v = shown_text (printed machine_values (image_names M) w v)
 
 -- The answer of a run with this budget that ends so. Words are named by the image.
 abbrev pub of_end : Image → ℕ → End → Answer
-of_end M budget (done s more) = record { status = 0; ticks = budget - more; stack = Some (map (image_shown M s.world) (reverse s.stack)); refusal = None; output = s.world.output; left = s.world.input }
-of_end M budget (failed e s more) = record { status = 1; ticks = budget - more; stack = None; refusal = Some (report.Error e.name (image_word_name M e.word) (option_map (image_shown M s.world) e.value)); output = s.world.output; left = s.world.input }
-of_end M budget (spent s) = record { status = 6; ticks = budget; stack = None; refusal = Some (report.Spent budget); output = s.world.output; left = s.world.input }
-of_end M budget (trap why s more) = record { status = 7; ticks = budget - more; stack = None; refusal = Some (report.Trap s.pc why); output = s.world.output; left = s.world.input }
+of_end M budget (done s more) = record { status = SUCCESS; ticks = budget - more; stack = Some (map (image_shown M s.world) (reverse s.stack)); refusal = None; output = s.world.output; left = s.world.input }
+of_end M budget (failed e s more) = record { status = RUN_ERROR; ticks = budget - more; stack = None; refusal = Some (report.Error e.name (image_word_name M e.word) (option_map (image_shown M s.world) e.value)); output = s.world.output; left = s.world.input }
+of_end M budget (spent s) = record { status = BUDGET_SPENT; ticks = budget; stack = None; refusal = Some (report.Spent budget); output = s.world.output; left = s.world.input }
+of_end M budget (trap why s more) = record { status = BAD_IMAGE; ticks = budget - more; stack = None; refusal = Some (report.Trap s.pc why); output = s.world.output; left = s.world.input }
 
 -- How far a run with a budget came that used so many ticks, however it ended: with one tick less the machine is spent, what it wrote till then was taken, and of
 -- what it writes in these ticks a prefix.
@@ -67,14 +68,14 @@ Executes M budget input left seen out ended = ExecutesBy (ending_of ended.status
 pub record BadImage (bytes : List ℕ) (ended : Ended) : Type 0 where
   pub at : ℕ
   pub refused : IsRefused image_format are_image bytes at
-  pub status : ended.status ≡ 7
+  pub status : ended.status ≡ BAD_IMAGE
   pub ticks : ended.ticks ≡ 0
   pub stack : ended.stack ≡ None
   pub refusal : ended.refusal ≡ Some (report.Image at)
 
 -- memory was wanted before anything was run or written
 pub record NoImageMemory (ended : Ended) : Type 0 where
-  pub status : ended.status ≡ 12
+  pub status : ended.status ≡ NO_MEMORY
   pub ticks : ended.ticks ≡ 0
   pub bare : IsBare ended
 
@@ -85,14 +86,21 @@ pub record NotDecoded (bytes : List ℕ) (out : SinkSeen) (ended : Ended) : Type
 
 -- the listing of an image, of which nothing is run
 abbrev pub listed_answer : Image → List ℕ → Answer
-listed_answer M input = record { status = 0; ticks = 0; stack = None; refusal = None; output = listing M; left = input }
+listed_answer M input = record { status = SUCCESS; ticks = 0; stack = None; refusal = None; output = listing M; left = input }
 
--- Bytes were run with a budget: they are no image's, or memory was wanted before that, or they are an image's, and this is its run on one input.
-pub data ExecutesBytes (bytes : List ℕ) (budget : ℕ) (seen : InputSeen) (out : SinkSeen) (ended : Ended) : Type 0 where
-  not_run : NotDecoded bytes out ended → IsUnread seen → ExecutesBytes bytes budget seen out ended
-  run : (M : Image) → Spells image_format bytes (parts_of M) → OnInput seen (λ input left. Executes M budget input left seen out ended) → ExecutesBytes bytes budget seen out ended
+-- what is done with an image: with its input, its output and its ending, on an input of which some is left
+abbrev pub OnImage : Type 1
+OnImage = Image → InputSeen → SinkSeen → Ended → List ℕ → List ℕ → Type 0
 
--- Bytes were listed: they are no image's, or memory was wanted, or they are an image's, and its listing was written in one write.
-pub data ListsBytes (bytes : List ℕ) (seen : InputSeen) (out : SinkSeen) (ended : Ended) : Type 0 where
-  not_listed : NotDecoded bytes out ended → IsUnread seen → ListsBytes bytes seen out ended
-  listed : (M : Image) → Spells image_format bytes (parts_of M) → OnInput seen (EndsOn (listed_answer M) (λ _. idle) out seen ended) → ListsBytes bytes seen out ended
+-- Something was done with bytes: they are no image's, or memory was wanted before that, or they are an image's, and this was done with it on one input.
+pub data DoesOnBytes (On : OnImage) (bytes : List ℕ) (seen : InputSeen) (out : SinkSeen) (ended : Ended) : Type 0 where
+  not_decoded : NotDecoded bytes out ended → IsUnread seen → DoesOnBytes On bytes seen out ended
+  decoded : (M : Image) → Spells image_format bytes (parts_of M) → OnInput seen (On M seen out ended) → DoesOnBytes On bytes seen out ended
+
+-- it is run with a budget
+abbrev pub executed : ℕ → OnImage
+executed budget M seen out ended input left = Executes M budget input left seen out ended
+
+-- its listing is written, in one write
+abbrev pub listed : OnImage
+listed M seen out ended input left = EndsOn (listed_answer M) (λ _. idle) out seen ended input left

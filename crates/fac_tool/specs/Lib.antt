@@ -5,8 +5,9 @@ pub mod Sources
 pub mod ToldNotes
 pub mod Ends
 pub mod Saved
-pub mod ImageLoads
+pub mod Loads
 pub mod Executed
+pub mod Plans
 pub mod SavedRuns
 pub mod Answers
 pub mod inner

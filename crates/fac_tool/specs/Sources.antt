@@ -1,6 +1,6 @@
 -- What the texts of files come to: their tokens, and the trees of these.
 use Rattle.std.specs.Prelude.{◌≡◌, ℕ, ◌+◌, List, [], ◌∷◌, Ok, Err}
-use Rattle.fac_lang.specs.declared.token.Token.{Token}
+use Rattle.fac_source.specs.declared.token.Token.{Token}
 use Rattle.fac_token.specs.declared.fault.TokenFault.{TokenFault}
 use Rattle.fac_token.specs.declared.fault.TokenFault.TheVariants as token
 use Rattle.fac_token.specs.Tokens.{Tokenizes}

@@ -1,6 +1,7 @@
 -- The note of an ending.
 use Rattle.std.specs.Prelude.{◌==◌, ℕ, List, [], ◌++◌, None, Some, codes, decimal, if◌then◌else◌}
 use Rattle.std.specs.declared.option.Option.{Option}
+use Rattle.fac_notes.specs.declared.status.TheConstants.{INPUT_FAULT, WRITE_FAULT, NO_MEMORY}
 use Rattle.fac_notes.specs.declared.report.Report.{Report}
 use Rattle.fac_notes.specs.Notes.{line_of}
 
@@ -18,7 +19,7 @@ write_fault_note ticks = codes "write fault after " ++ decimal ticks ++ codes " 
 
 -- the note of a status that comes without a report; usage has a note of its own
 abbrev pub note_of_status : ℕ → ℕ → List ℕ
-note_of_status status ticks = (if status == 9 then input_fault_note ticks else if status == 10 then write_fault_note ticks else if status == 12 then memory_note else [])
+note_of_status status ticks = (if status == INPUT_FAULT then input_fault_note ticks else if status == WRITE_FAULT then write_fault_note ticks else if status == NO_MEMORY then memory_note else [])
 
 abbrev pub note_of : List (List ℕ) → ℕ → ℕ → Option Report → List ℕ
 note_of names status ticks None = note_of_status status ticks

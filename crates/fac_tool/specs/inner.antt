@@ -4,3 +4,4 @@ pub mod StepEnds
 pub mod FormsTaken
 pub mod ImageSteps
 pub mod ListedStacks
+pub mod Tasks

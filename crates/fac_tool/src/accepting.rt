@@ -1,15 +1,14 @@
 //! The steps of every command from the texts of its files to an accepted program.
 ghost use Rattle.std.specs.Prelude.{◌≡◌, Some, None, Ok, ℕ, [], List as Items};
 ghost use Rattle.fac_lang.specs.declared.program.Program.{Program as Source};
-ghost use Rattle.fac_lang.specs.declared.tree.Form.{Form};
+ghost use Rattle.fac_source.specs.declared.tree.Form.{Form};
 ghost use Rattle.fac_lang.specs.Whole.{IsWhole};
 ghost use Rattle.fac_check.specs.Judged.{OfEach, StandsForWhole, refusal_if, refusal_seen};
 ghost use Rattle.fac_check.specs.Verdicts.{verdict};
 ghost use Rattle.fac_names.specs.Resolution.{resolved};
 ghost use Rattle.fac_names.specs.Taken.{HasTaken};
 ghost use Rattle.fac_parse.specs.Trees.{AreWellFormed};
-ghost use Rattle.fac_command.specs.declared.command.Command.{Command as CommandSeen};
-ghost use Rattle.fac_tool.specs.Answer.{on_resolved, on_verdict, own_definitions};
+ghost use Rattle.fac_tool.specs.Answer.{OnAccepted, on_resolved, on_verdict, own_definitions};
 ghost use Rattle.fac_tool.specs.inner.Stops.{SameNames, StandsFor, StandsForSafe};
 ghost use Rattle.fac_tool.specs.inner.StepEnds.{Accepts, EndsEarly, Steps, StepsOn};
 ghost use Rattle.fac_tool.specs.inner.FormsTaken.{ReadsProgram};
@@ -17,10 +16,12 @@ ghost use Rattle.fac_tool.specs.inner.FormsTaken.{ReadsProgram};
 use crate::ended::{bare, reported};
 use crate::reading::take_texts;
 use crate::{Ended, Report, every_text_is_a_source};
+use fac_base::{Bytes, List};
 use fac_check::{Checked, Refusal, accept, check_words, first_refusal_is_verdict, first_refused};
-use fac_lang::{Bytes, List, Program};
+use fac_lang::Program;
 use fac_locals::{Closed, close};
 use fac_names::{ResolveFault, Resolver};
+use fac_notes::status::NO_MEMORY;
 use fac_notes::word_name;
 use std::alloc::Global;
 
@@ -43,10 +44,10 @@ pub struct Accepted {
 
 // The program of the files that names were taken of.
 fn end_names(alloc: Global, resolver: Resolver) -> Result<Program, Ended>
-    ensures { (files : Items (Items Form)) → AreWellFormed files → HasTaken files resolver → Steps (λ program. (resolved files ≡ Ok program) × IsWhole program) (λ command. on_resolved command (own_definitions files) (resolved files)) result }
+    ensures { (files : Items (Items Form)) → AreWellFormed files → HasTaken files resolver → Steps (λ program. (resolved files ≡ Ok program) × IsWhole program) (λ on. on_resolved on (own_definitions files) (resolved files)) result }
 {
     match resolver.end(alloc) {
-        Err(ResolveFault::Memory) => Err(bare(12, 0)),
+        Err(ResolveFault::Memory) => Err(bare(NO_MEMORY, 0)),
         Err(ResolveFault::Name(fault)) => Err(reported(0, Report::Name(fault))),
         Ok(program) => Ok(program),
     }
@@ -79,7 +80,7 @@ fn read_program(alloc: Global, texts: List<Bytes>) -> Result<NamedProgram, Ended
 {
     every_text_is_a_source();
     match Resolver::new(alloc) {
-        Err(_) => Err(bare(12, 0)),
+        Err(_) => Err(bare(NO_MEMORY, 0)),
         Ok(resolver) => name_texts(alloc, texts, resolver),
     }
 }
@@ -90,7 +91,7 @@ fn close_program(alloc: Global, program: Program) -> Result<Closed, Ended>
     ensures { StepsOn (λ closed. StandsFor closed program × (closed.start ≡ 0)) result }
 {
     match close(alloc, program, START) {
-        Err(_) => Err(bare(12, 0)),
+        Err(_) => Err(bare(NO_MEMORY, 0)),
         Ok(closed) => Ok(closed),
     }
 }
@@ -102,18 +103,18 @@ fn refusal_of(alloc: Global, closed: &Closed) -> Result<Option<Refusal>, Ended>
 {
     first_refusal_is_verdict();
     match check_words(alloc, closed) {
-        Err(_) => Err(bare(12, 0)),
+        Err(_) => Err(bare(NO_MEMORY, 0)),
         Ok(verdicts) => Ok(first_refused(&verdicts)),
     }
 }
 
 // The refusal of a program. The name of its word is taken from this program, which has the same names.
 fn refused(alloc: Global, program: &Program, refusal: Refusal) -> Ended
-    ensures { (P : Source) → SameNames P program.now → verdict P 0 ≡ Some (refusal_seen refusal) → (command : CommandSeen) (count : ℕ) → EndsEarly (on_verdict command count P (verdict P 0)) result }
+    ensures { (P : Source) → SameNames P program.now → verdict P 0 ≡ Some (refusal_seen refusal) → (on : OnAccepted) (count : ℕ) → EndsEarly (on_verdict on count P (verdict P 0)) result }
 {
     match word_name(alloc, program, refusal.word) {
         Ok(word) => reported(0, Report::Check { refusal, word }),
-        Err(_) => bare(12, 0),
+        Err(_) => bare(NO_MEMORY, 0),
     }
 }
 
@@ -121,7 +122,7 @@ fn refused(alloc: Global, program: &Program, refusal: Refusal) -> Ended
 fn check_closed(alloc: Global, closed: Closed) -> Result<Checked, Ended>
     requires start { closed.start ≡ 0 }
     requires stands { (P : Source) × StandsFor closed P }
-    ensures { (P : Source) → StandsFor closed P → (count : ℕ) → Steps (λ checked. (verdict P 0 ≡ None) × StandsForSafe checked.closed P) (λ command. on_verdict command count P (verdict P 0)) result }
+    ensures { (P : Source) → StandsFor closed P → (count : ℕ) → Steps (λ checked. (verdict P 0 ≡ None) × StandsForSafe checked.closed P) (λ on. on_verdict on count P (verdict P 0)) result }
 {
     match refusal_of(alloc, &closed)? {
         Some(refusal) => Err(refused(alloc, &closed.program, refusal)),

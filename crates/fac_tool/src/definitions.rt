@@ -1,42 +1,17 @@
 //! The definitions of a command's files, and the line that tells how many there are.
 ghost use Rattle.std.specs.Prelude.{◌≡◌, ◌≤◌, ℕ, List, IfOk};
 ghost use Rattle.std.specs.List.{count_by};
-ghost use Rattle.fac_tool.specs.Answer.{checked_answer, checked_line as line_of_checked, gives_phrase, is_definition as is_defined};
+ghost use Rattle.fac_tool.specs.Answer.{checked_answer, checked_line as line_of_checked, is_definition as is_defined};
 ghost use Rattle.fac_tool.specs.Ends.{EndsAs, idle};
 ghost use Rattle.fac_tool.specs.SeenObjects.{sink_seen, InputSeen};
 
 use crate::Ended;
 use crate::ended::bare;
+use fac_base::{List, Memory, Text};
 use fac_io::Sink;
-use fac_lang::{Form, FormKind, List, Memory, Text};
+use fac_notes::status::{NO_MEMORY, SUCCESS, WRITE_FAULT};
+use fac_source::{Form, has_phrase};
 use std::alloc::Global;
-
-// Whether a row defines a word that has a phrase.
-fn has_phrase(kind: FormKind) -> bool
-    ensures { result ≡ gives_phrase kind }
-{
-    match kind {
-        FormKind::In => false,
-        FormKind::Use => false,
-        FormKind::Using => false,
-        FormKind::From => false,
-        FormKind::QualifiedWith => false,
-        FormKind::Defer => false,
-        FormKind::Symbol => false,
-        FormKind::Constant => true,
-        FormKind::Private => false,
-        FormKind::Public => false,
-        FormKind::Main => false,
-        FormKind::Define => true,
-        FormKind::DefineLocals => true,
-        FormKind::Tuple => false,
-        FormKind::Union => false,
-        FormKind::Singleton => false,
-        FormKind::Generic => false,
-        FormKind::Method => true,
-        FormKind::Maker => true,
-    }
-}
 
 // Whether a form defines a word that has a phrase.
 fn is_definition(form: &Form) -> bool
@@ -75,10 +50,10 @@ pub fn tell_checked<K: Sink>(alloc: Global, definitions: u64, out: &mut K) -> En
     ensures counts { K.faults out.old ≤ K.faults out.new }
 {
     match checked_line(alloc, definitions) {
-        Err(_) => bare(12, 0),
+        Err(_) => bare(NO_MEMORY, 0),
         Ok(line) => match out.write(line.as_bytes()) {
-            Ok(()) => bare(0, 0),
-            Err(_) => bare(10, 0),
+            Ok(()) => bare(SUCCESS, 0),
+            Err(_) => bare(WRITE_FAULT, 0),
         },
     }
 }

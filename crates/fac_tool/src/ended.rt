@@ -2,7 +2,7 @@
 ghost use Rattle.std.specs.Prelude.{◌≡◌};
 ghost use Rattle.fac_tool.specs.inner.StepEnds.{bare as bare_ending, reported as reported_ending};
 
-use fac_lang::{List, Text};
+use fac_base::{List, Text};
 use fac_notes::Report;
 
 /// A call's exit status, the ticks of its run, the stack that it left and the refusal.

@@ -3,7 +3,7 @@ ghost use Rattle.std.specs.Prelude.{◌≡◌, ◌≤◌, IfOk};
 ghost use Rattle.fac_io.specs.Faults.{HasCause};
 ghost use Rattle.fac_lines.specs.LineAnswers.{AtEnd};
 ghost use Rattle.fac_vm.specs.SeenMachine.{callables_in, held_in};
-ghost use Rattle.fac_tool.specs.Executed.{ExecutesBytes};
+ghost use Rattle.fac_tool.specs.Executed.{DoesOnBytes, executed};
 ghost use Rattle.fac_tool.specs.SeenObjects.{input_seen, sink_seen, OnInput};
 ghost use Rattle.fac_tool.specs.inner.ImageSteps.{IsImageReportOf, MakesMachine, RunsFirst, RunsImage};
 ghost use Rattle.fac_tool.specs.inner.Stops.{IsFresh};
@@ -12,10 +12,11 @@ use crate::ended::{bare, reported};
 use crate::images::image_of_bytes;
 use crate::value_texts::{stack_texts, value_text};
 use crate::{Ended, Report};
+use fac_base::Memory;
 use fac_io::{Sink, Source as Reader};
-use fac_lang::Memory;
 use fac_lines::Lines;
 use fac_notes::name_in_image;
+use fac_notes::status::{INPUT_FAULT, NO_MEMORY, SUCCESS, WRITE_FAULT};
 use fac_vm::{Machine, RunError, Stop, StopKind};
 use std::alloc::Global;
 
@@ -83,22 +84,22 @@ pub fn run_image<S: Reader, K: Sink>(
     match stop.what {
         StopKind::Done => match stack_texts(alloc, machine) {
             Ok(texts) => Ended {
-                status: 0,
+                status: SUCCESS,
                 ticks,
                 stack: Some(texts),
                 refusal: None,
             },
-            Err(_) => bare(12, ticks),
+            Err(_) => bare(NO_MEMORY, ticks),
         },
         StopKind::Failed(error) => match error_report(alloc, machine, error) {
             Ok(report) => reported(ticks, report),
-            Err(_) => bare(12, ticks),
+            Err(_) => bare(NO_MEMORY, ticks),
         },
         StopKind::Spent => reported(ticks, Report::Spent { ticks }),
         StopKind::Trap { pc, why } => reported(ticks, Report::Trap { pc, why }),
-        StopKind::InputFault => bare(9, ticks),
-        StopKind::WriteFault => bare(10, ticks),
-        StopKind::Memory => bare(12, ticks),
+        StopKind::InputFault => bare(INPUT_FAULT, ticks),
+        StopKind::WriteFault => bare(WRITE_FAULT, ticks),
+        StopKind::Memory => bare(NO_MEMORY, ticks),
     }
 }
 
@@ -109,7 +110,7 @@ fn machine_of_bytes(alloc: Global, bytes: &[u8]) -> Result<Machine, Ended>
     let image = image_of_bytes(alloc, bytes)?;
     match Machine::new(alloc, image) {
         Ok(machine) => Ok(machine),
-        Err(_) => Err(bare(12, 0)),
+        Err(_) => Err(bare(NO_MEMORY, 0)),
     }
 }
 
@@ -123,7 +124,7 @@ pub fn execute<S: Reader, K: Sink>(
 ) -> Ended
     requires { AtEnd input.old.ended (S.left input.old.source) }
     ensures at_end { AtEnd input.new.ended (S.left input.new.source) }
-    ensures ends { ExecutesBytes bytes.now budget (input_seen S.left S.faults input.old input.new) (sink_seen K.taken K.pieces K.faults out.old out.new) result }
+    ensures ends { DoesOnBytes (executed budget) bytes.now (input_seen S.left S.faults input.old input.new) (sink_seen K.taken K.pieces K.faults out.old out.new) result }
     ensures counts { K.faults out.old ≤ K.faults out.new }
     ensures input_counts { S.faults input.old.source ≤ S.faults input.new.source }
 {

@@ -3,11 +3,11 @@ ghost use Rattle.fac_tool.specs.Sources.{OneSource, EverySource};
 ghost use Rattle.fac_tool.specs.SavedRuns.{SavedCodeRunsAsItsSource};
 
 use fac_bytes::{encoded_is_decoded, images_are_exact, one_image};
+use fac_carry::printed_forms_are_equal;
 use fac_check::safe_programs_are_not_stuck;
-use fac_emit::printed_forms_are_equal;
+use fac_machine::runs_have_one_end;
 use fac_parse::{one_place, one_tree, some_place, tree_or_none};
 use fac_token::{every_file_has_an_answer, one_answer};
-use fac_vm::runs_have_one_end;
 
 /// No texts come to two things. So what a command answers on files is a function of their bytes.
 pub fn one_source()

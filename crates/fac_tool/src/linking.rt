@@ -2,18 +2,18 @@
 ghost use Rattle.std.specs.Prelude.{◌≡◌, ◌≤◌, true, IfOk};
 ghost use Rattle.fac_lang.specs.declared.program.Program.{Program as Source};
 ghost use Rattle.fac_check.specs.Judged.{StandsForWhole};
-ghost use Rattle.fac_qeff.specs.TemplateEffects.{AreEffects};
+ghost use Rattle.fac_emit.specs.ProgramCode.{IsPlain};
+ghost use Rattle.fac_check.specs.TemplateEffects.{AreEffects};
 ghost use Rattle.fac_tool.specs.inner.Stops.{Carried, StandsForSafe};
-ghost use Rattle.fac_tool.specs.inner.ImageSteps.{AreEffectsIfAsked, IsLinked, IsShort};
+ghost use Rattle.fac_tool.specs.inner.ImageSteps.{AreEffectsIfAsked, CarriedWhole, IsLinked, IsShort};
 
+use fac_base::limits::MOST_IMAGE_BYTES;
+use fac_base::{Bytes, Height, List, Memory};
 use fac_bytes::{encode, spelled_length};
-use fac_check::{Checked, safe_programs_are_not_stuck};
+use fac_check::{Checked, effects, safe_programs_are_not_stuck};
 use fac_code::Image;
 use fac_emit::{asks_effects, compile};
-use fac_lang::limits::MOST_IMAGE_BYTES;
-use fac_lang::{Bytes, Height, List, Memory};
 use fac_locals::Closed;
-use fac_qeff::effects;
 use std::alloc::Global;
 
 /// An image and its bytes.
@@ -42,7 +42,8 @@ fn asked_effects(alloc: Global, closed: &Closed) -> Result<List<Option<Height>>,
 fn image_with(alloc: Global, checked: &Checked, heights: &[Option<Height>]) -> Result<Image, Memory>
     requires stands { (P : Source) × StandsForSafe checked.now.closed P }
     requires effects { AreEffectsIfAsked checked.now.closed heights.now }
-    ensures { IfOk result (λ image. (P : Source) → StandsForSafe checked.now.closed P → Carried P image) }
+    ensures carried { IfOk result (λ image. (P : Source) → StandsForSafe checked.now.closed P → Carried P image) }
+    ensures plain { IfOk result (IsPlain checked.now.closed.program checked.now.closed.templates heights.now) }
 {
     safe_programs_are_not_stuck();
     compile(alloc, &checked.closed, heights)
@@ -51,7 +52,7 @@ fn image_with(alloc: Global, checked: &Checked, heights: &[Option<Height>]) -> R
 // The image of an accepted program, with the effects of all of its templates.
 fn whole_image(alloc: Global, checked: &Checked) -> Result<Image, Memory>
     requires { (P : Source) × StandsForSafe checked.now.closed P }
-    ensures { IfOk result (λ image. (P : Source) → StandsForSafe checked.now.closed P → Carried P image) }
+    ensures { IfOk result (λ image. (P : Source) → StandsForSafe checked.now.closed P → CarriedWhole P image) }
 {
     let heights = effects(alloc, &checked.closed)?;
     image_with(alloc, checked, heights.as_slice())
@@ -66,11 +67,11 @@ fn image_to_run(alloc: Global, checked: &Checked) -> Result<Image, Memory>
     image_with(alloc, checked, heights.as_slice())
 }
 
-/// The image of an accepted program, which carries it, and its bytes. Want of memory is the one error, also where the image would have more
+/// The image of an accepted program, which carries it and has the effects of its callables in its rows, and its bytes. Want of memory is the one error, also where the image would have more
 /// bytes than one may have.
 pub fn link(alloc: Global, checked: &Checked) -> Result<Linked, Memory>
     requires { (P : Source) × StandsForSafe checked.now.closed P }
-    ensures { IfOk result (λ linked. IsLinked linked × ((P : Source) → StandsForSafe checked.now.closed P → Carried P linked.image)) }
+    ensures { IfOk result (λ linked. IsLinked linked × ((P : Source) → StandsForSafe checked.now.closed P → CarriedWhole P linked.image)) }
 {
     let image = whole_image(alloc, checked)?;
     match encode(alloc, &image) {

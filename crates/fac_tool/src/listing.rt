@@ -7,8 +7,9 @@ ghost use Rattle.fac_tool.specs.inner.ListedStacks.{ListsStack};
 use crate::Ended;
 use crate::ended::bare;
 use crate::telling::tell_by;
+use fac_base::{List, Memory, Text};
 use fac_io::Sink;
-use fac_lang::{List, Memory, Text};
+use fac_notes::status::NO_MEMORY;
 use std::alloc::Global;
 
 // Adds a text as a line.
@@ -40,7 +41,7 @@ pub fn list_stack<K: Sink>(alloc: Global, ended: Ended, out: &mut K) -> Ended
     match &ended.stack {
         None => ended,
         Some(texts) => match lines(alloc, texts) {
-            Err(_) => bare(12, ticks),
+            Err(_) => bare(NO_MEMORY, ticks),
             Ok(lines) => tell_by(lines.as_bytes(), ended, out),
         },
     }

@@ -13,12 +13,14 @@ use crate::ended::bare;
 use crate::executing::run_image;
 use crate::linking::link_to_run;
 use crate::listing::list_stack;
+use fac_base::Memory;
+use fac_carry::printed_forms_are_equal;
 use fac_check::Checked;
-use fac_emit::printed_forms_are_equal;
 use fac_io::{Sink, Source as Reader};
-use fac_lang::Memory;
 use fac_lines::Lines;
-use fac_vm::{Machine, runs_have_one_end};
+use fac_machine::runs_have_one_end;
+use fac_notes::status::NO_MEMORY;
+use fac_vm::Machine;
 use std::alloc::Global;
 
 // Runs a fresh machine and answers. What is said goes for each program that its image carries, on one input.
@@ -72,7 +74,7 @@ pub fn run_program<S: Reader, K: Sink>(
 {
     match machine_of(alloc, checked) {
         Ok(mut machine) => Ok(run_carried(alloc, &mut machine, budget, input, out)),
-        Err(_) => Err(bare(12, 0)),
+        Err(_) => Err(bare(NO_MEMORY, 0)),
     }
 }
 
@@ -97,6 +99,6 @@ pub fn run_and_list<S: Reader, K: Sink>(
             let ended = run_carried(alloc, &mut machine, budget, input, out);
             Ok(list_stack(alloc, ended, out))
         }
-        Err(_) => Err(bare(12, 0)),
+        Err(_) => Err(bare(NO_MEMORY, 0)),
     }
 }

@@ -1,8 +1,8 @@
 //! The steps of every command from the texts of its files to their names. Each file is read form by form, and its forms go to the names at once, so no tree
 //! stands in memory.
 ghost use Rattle.std.specs.Prelude.{◌≡◌, ◌<◌, List as Items, ℕ, Ok, [], IfOk, IfSome};
-ghost use Rattle.fac_lang.specs.declared.token.Token.{Token as TokenSeen};
-ghost use Rattle.fac_lang.specs.declared.tree.Form.{Form as FormSeen};
+ghost use Rattle.fac_source.specs.declared.token.Token.{Token as TokenSeen};
+ghost use Rattle.fac_source.specs.declared.tree.Form.{Form as FormSeen};
 ghost use Rattle.fac_token.specs.Tokens.{Tokenizes};
 ghost use Rattle.fac_parse.specs.Trees.{AreForms};
 ghost use Rattle.fac_parse.specs.Handed.{HasHandedOut, calls_left};
@@ -15,9 +15,11 @@ ghost use Rattle.fac_tool.specs.inner.FormsTaken.{HasTokens, HandsOn, TakesNext,
 use crate::definitions::definitions_of;
 use crate::ended::{bare, reported};
 use crate::{ByteFault, Ended, Report, every_text_is_a_source};
-use fac_lang::{Bytes, Form, List, Memory, Queue, Token};
+use fac_base::{Bytes, List, Memory, Queue};
 use fac_names::Resolver;
+use fac_notes::status::NO_MEMORY;
 use fac_parse::{ParseFault, Parser};
+use fac_source::{Form, Token};
 use fac_token::{TokenFault, tokens};
 use std::alloc::Global;
 
@@ -37,7 +39,7 @@ fn no_tokens(file: u32, fault: TokenFault) -> Ended
         TokenFault::OpenString { at } => byte_fault(file, at, ByteFault::OpenString),
         TokenFault::BadEscape { at } => byte_fault(file, at, ByteFault::BadEscape),
         TokenFault::StuckQuote { at } => byte_fault(file, at, ByteFault::StuckQuote),
-        TokenFault::Memory => bare(12, 0),
+        TokenFault::Memory => bare(NO_MEMORY, 0),
     }
 }
 
@@ -47,7 +49,7 @@ fn no_tree(file: u32, fault: ParseFault) -> Ended
 {
     match fault {
         ParseFault::Syntax { at, why } => reported(0, Report::Syntax { file, at, why }),
-        ParseFault::Memory => bare(12, 0),
+        ParseFault::Memory => bare(NO_MEMORY, 0),
     }
 }
 
@@ -106,7 +108,7 @@ fn take_next(
         Ok(given) => match given {
             None => Ok(None),
             Some(forms) => match hand_on(alloc, forms, count, resolver) {
-                Err(_) => Err(bare(12, 0)),
+                Err(_) => Err(bare(NO_MEMORY, 0)),
                 Ok(sum) => Ok(Some(sum)),
             },
         },
@@ -143,7 +145,7 @@ fn take_file(
 {
     every_text_is_a_source();
     match resolver.begin_file(alloc) {
-        Err(_) => Err(bare(12, 0)),
+        Err(_) => Err(bare(NO_MEMORY, 0)),
         Ok(()) => take_forms(alloc, file, tokens, count, resolver),
     }
 }

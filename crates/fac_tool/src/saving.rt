@@ -8,9 +8,10 @@ ghost use Rattle.fac_tool.specs.inner.Stops.{Carried, StandsForSafe};
 use crate::ended::{bare, reported};
 use crate::linking::link;
 use crate::{Ended, Report};
+use fac_base::{Bytes, Memory, Text};
 use fac_check::Checked;
 use fac_io::{Files, SaveFault};
-use fac_lang::{Bytes, Memory, Text};
+use fac_notes::status::{NO_MEMORY, SUCCESS};
 use std::alloc::Global;
 
 // The bytes of the image of an accepted program.
@@ -29,14 +30,14 @@ pub fn save_image<F: Files>(alloc: Global, checked: &Checked, name: &str, files:
     ensures count { F.faults files.old ≤ F.faults files.new }
 {
     let Ok(bytes) = image_bytes(alloc, checked) else {
-        return bare(12, 0);
+        return bare(NO_MEMORY, 0);
     };
     let Ok(file) = Text::from_str(alloc, name) else {
-        return bare(12, 0);
+        return bare(NO_MEMORY, 0);
     };
     match files.save(alloc, name, bytes.as_slice()) {
-        Ok(()) => bare(0, 0),
+        Ok(()) => bare(SUCCESS, 0),
         Err(SaveFault::Failed) => reported(0, Report::File { name: file }),
-        Err(SaveFault::Memory) => bare(12, 0),
+        Err(SaveFault::Memory) => bare(NO_MEMORY, 0),
     }
 }

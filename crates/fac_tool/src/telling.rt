@@ -9,8 +9,9 @@ ghost use Rattle.fac_tool.specs.Answers.{numbered_names, TellsBy, Tells, TellsUs
 
 use crate::ended::bare;
 use crate::{Ended, Report};
+use fac_base::{List, Memory, Text};
 use fac_io::{Failed, Sink};
-use fac_lang::{List, Memory, Text};
+use fac_notes::status::{INPUT_FAULT, NO_COMMAND, NO_MEMORY, WRITE_FAULT};
 use fac_notes::{note, notes_are_not_empty};
 use std::alloc::Global;
 
@@ -38,11 +39,11 @@ fn status_note(alloc: Global, status: u8, ticks: u64) -> Result<Text, Memory>
     ensures note { IfOk result (λ note. note ≡ note_of_status status ticks) }
     ensures some { OnErr result (0 < length (note_of_status status ticks)) }
 {
-    let note = if status == 9 {
+    let note = if status == INPUT_FAULT {
         format!(in alloc; "input fault after {ticks} ticks\n")?
-    } else if status == 10 {
+    } else if status == WRITE_FAULT {
         format!(in alloc; "write fault after {ticks} ticks\n")?
-    } else if status == 12 {
+    } else if status == NO_MEMORY {
         format!(in alloc; "out of memory\n")?
     } else {
         String::new(alloc)
@@ -93,7 +94,7 @@ pub fn tell_by<N: Sink>(note: &[u8], reached: Ended, notes: &mut N) -> Ended
     let ticks = reached.ticks;
     match write_note(notes, note) {
         Ok(()) => reached,
-        Err(_) => bare(10, ticks),
+        Err(_) => bare(WRITE_FAULT, ticks),
     }
 }
 
@@ -104,7 +105,7 @@ pub fn tell<N: Sink>(alloc: Global, files: &[String], reached: Ended, notes: &mu
     let ticks = reached.ticks;
     match ended_note(alloc, files, &reached) {
         Ok(note) => tell_by(note.as_bytes(), reached, notes),
-        Err(_) => tell_by(b"out of memory\n".as_slice(), bare(12, ticks), notes),
+        Err(_) => tell_by(b"out of memory\n".as_slice(), bare(NO_MEMORY, ticks), notes),
     }
 }
 
@@ -114,7 +115,7 @@ pub fn tell_usage<N: Sink>(notes: &mut N) -> Ended
 {
     tell_by(
         b"usage: factorc check, run, build, exec, list, listen or gen\n".as_slice(),
-        bare(2, 0),
+        bare(NO_COMMAND, 0),
         notes,
     )
 }
@@ -123,5 +124,5 @@ pub fn tell_usage<N: Sink>(notes: &mut N) -> Ended
 pub fn tell_no_words<N: Sink>(notes: &mut N) -> Ended
     ensures { TellsNoWords (sink_seen N.taken N.pieces N.faults notes.old notes.new) result }
 {
-    tell_by(b"out of memory\n".as_slice(), bare(12, 0), notes)
+    tell_by(b"out of memory\n".as_slice(), bare(NO_MEMORY, 0), notes)
 }

@@ -1,8 +1,10 @@
 //! The top call.
-ghost use Rattle.std.specs.Prelude.{◌≡◌, ◌⊎◌, None, length, map, string_bytes};
+ghost use Rattle.std.specs.Prelude.{◌≡◌, ◌⊎◌, None, map, string_bytes};
 ghost use Rattle.fac_io.specs.Faults.{Rose};
 ghost use Rattle.fac_lines.specs.LineAnswers.{AtEnd};
-ghost use Rattle.fac_command.specs.Command.{StandAmong, command_of};
+ghost use Rattle.fac_notes.specs.declared.status.TheConstants.{NO_COMMAND, FILE_FAULT, INPUT_FAULT, WRITE_FAULT};
+ghost use Rattle.fac_command.specs.Command.{command_of};
+ghost use Rattle.fac_command.specs.SeenCommands.{command_seen};
 ghost use Rattle.fac_tool.specs.SeenObjects.{sink_seen, files_seen, input_seen};
 ghost use Rattle.fac_tool.specs.Answers.{Answers, Works};
 
@@ -13,28 +15,26 @@ use fac_io::{Files, Sink, Source};
 use fac_lines::Lines;
 use std::alloc::Global;
 
-// Does the work of the command of these words, and tells how it ended.
+// Does the work of a command, and tells how it ended.
 fn work_and_tell<F: Files, S: Source, K: Sink, N: Sink>(
     alloc: Global,
-    command: Command,
-    words: &[String],
+    command: Command<'_>,
     files: &mut F,
     input: &mut Lines<S>,
     out: &mut K,
     notes: &mut N,
 ) -> Ended
-    requires among { StandAmong (length words.now) command }
-    requires at_end { AtEnd input.old.ended (S.left input.old.source) }
+    requires { AtEnd input.old.ended (S.left input.old.source) }
     ensures at_end { AtEnd input.new.ended (S.left input.new.source) }
-    ensures works { Works (map string_bytes words.now) command
+    ensures works { Works (command_seen command.entry)
         (files_seen F.held F.asked F.faults files.old files.new)
         (input_seen S.left S.faults input.old input.new)
         (sink_seen K.taken K.pieces K.faults out.old out.new)
         (sink_seen N.taken N.pieces N.faults notes.old notes.new)
         result }
 {
-    let reached = work(alloc, command, words, files, input, out);
-    tell(alloc, command.names(words), reached, notes)
+    let reached = work(alloc, command, files, input, out);
+    tell(alloc, command.files(), reached, notes)
 }
 
 // Does what the words of a command line ask for, and tells how it ended.
@@ -57,7 +57,7 @@ fn answer<F: Files, S: Source, K: Sink, N: Sink>(
 {
     match read_words(words) {
         None => tell_usage(notes),
-        Some(command) => work_and_tell(alloc, command, words, files, input, out, notes),
+        Some(command) => work_and_tell(alloc, command, files, input, out, notes),
     }
 }
 
@@ -94,10 +94,10 @@ pub fn factor_top<F: Files, S: Source, K: Sink, N: Sink>(
         result }
 
     // The causes, each by itself. They follow from `answer`.
-    ensures usage { result.status ≡ 2 → command_of (map string_bytes words.now) ≡ None }
-    ensures file_fault { result.status ≡ 8 → Rose (F.faults files.old) (F.faults files.new) }
-    ensures input_fault { result.status ≡ 9 → Rose (S.faults input.old.source) (S.faults input.new.source) }
-    ensures write_fault { result.status ≡ 10 → Rose (K.faults out.old) (K.faults out.new) ⊎ Rose (N.faults notes.old) (N.faults notes.new) }
+    ensures usage { result.status ≡ NO_COMMAND → command_of (map string_bytes words.now) ≡ None }
+    ensures file_fault { result.status ≡ FILE_FAULT → Rose (F.faults files.old) (F.faults files.new) }
+    ensures input_fault { result.status ≡ INPUT_FAULT → Rose (S.faults input.old.source) (S.faults input.new.source) }
+    ensures write_fault { result.status ≡ WRITE_FAULT → Rose (K.faults out.old) (K.faults out.new) ⊎ Rose (N.faults notes.old) (N.faults notes.new) }
 {
     answer(alloc, words, files, input, out, notes)
 }

@@ -2,9 +2,9 @@
 ghost use Rattle.std.specs.Prelude.{IfOk};
 ghost use Rattle.fac_tool.specs.inner.Stops.{IsTextOf, AreTextsOf, AreStackTexts};
 
+use fac_base::limits::MOST_SHOWN_BYTES;
+use fac_base::{List, Memory, Text};
 use fac_code::Image;
-use fac_lang::limits::MOST_SHOWN_BYTES;
-use fac_lang::{List, Memory, Text};
 use fac_show::{ShowFault, show};
 use fac_store::{Store, Value};
 use fac_vm::Machine;

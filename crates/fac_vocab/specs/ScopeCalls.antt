@@ -2,7 +2,7 @@
 use Rattle.std.specs.Prelude.{ℕ, ◌≡◌, List, [], ◌∷◌, Option, Some, None, Result, Ok, Err, Bool, true, false}
 use Rattle.std.specs.List.{list_any}
 use Rattle.fac_lang.specs.Whole.{no_two, same_name}
-use Rattle.fac_lang.specs.declared.program.Name.{Name as FullName}
+use Rattle.fac_base.specs.declared.name.Name.{Name as FullName}
 use Rattle.fac_vocab.specs.declared.answers.ScopeFault.{ScopeFault}
 use Rattle.fac_vocab.specs.declared.answers.ScopeFault.TheVariants.{Twice, NoVocab, Unknown as Missing, Memory}
 use Rattle.fac_vocab.specs.declared.answers.Found.{Found as Answer}

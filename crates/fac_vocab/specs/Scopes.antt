@@ -1,10 +1,11 @@
 -- Vocabularies, what a file uses of them, and the search order.
-use Rattle.std.specs.Prelude.{ℕ, ◌+◌, nat_eq, List, [], ◌∷◌, ◌++◌, length, drop, fold, Option, Some, None, Bool, true, false, ◌&&◌, ◌||◌, not, codes, if◌then◌else◌}
+use Rattle.std.specs.Prelude.{ℕ, ◌+◌, nat_eq, List, [], ◌∷◌, ◌++◌, length, drop, fold, map, Option, Some, None, Bool, true, false, ◌&&◌, ◌||◌, not, codes, if◌then◌else◌}
 use Rattle.std.specs.List.{list_any, filter, find, starts_with}
 use Rattle.std.specs.Option.{option_map}
 use Rattle.std.specs.Str.{bytes_eq}
 use Rattle.fac_lang.specs.Classes.{bytes_before}
 use Rattle.fac_lang.specs.declared.program.WordDef.{WordDef}
+use Rattle.fac_vocab.specs.declared.vocabularies.TheConstants.{VOCABULARIES}
 -- One name of a vocabulary: its word, and whether it is defined or only deferred.
 pub use Rattle.fac_vocab.specs.declared.entry.Entry.{Entry}
 -- What `FROM:` or `QUALIFIED-WITH:` brought: a name with its word, or the names of a vocabulary behind a prefix.
@@ -148,9 +149,7 @@ now_defined vocab name (e ∷ es) = (if bytes_eq name e.name && bytes_eq vocab e
 
 -- the vocabularies that exist from the start, but for their companions
 abbrev pub first_vocabularies : List (List ℕ)
-first_vocabularies =
-    codes "kernel" ∷ codes "math" ∷ codes "math.parser" ∷ codes "sequences" ∷ codes "arrays" ∷ codes "io" ∷ codes "prettyprint" ∷ codes "combinators" ∷
-    codes "strings" ∷ codes "words" ∷ codes "syntax" ∷ codes "accessors" ∷ codes "scratchpad" ∷ codes "locals" ∷ codes "fry" ∷ []
+first_vocabularies = map (λ text. text.now) VOCABULARIES
 
 -- the names of words, which are numbered from k on
 abbrev pub entries_from : ℕ → List WordDef → List Entry

@@ -1,7 +1,7 @@
 //! What the calls of a scope answer.
 ghost use Rattle.std.specs.Prelude.{◌≡◌};
 
-use fac_lang::Memory;
+use fac_base::Memory;
 use thiserror::Error;
 
 /// What a search finds. Words stand by their numbers.

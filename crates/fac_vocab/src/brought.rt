@@ -1,5 +1,5 @@
 //! What forms bring beside used vocabularies.
-use fac_lang::Text;
+use fac_base::Text;
 
 /// What a `FROM:` or a `QUALIFIED-WITH:` brought.
 #[derive(Drop)]

@@ -9,7 +9,7 @@ ghost use Rattle.fac_vocab.specs.inner.BroughtForms.{gives, word_at, last_giving
 use crate::brought::Brought;
 use crate::index::{add_number, numbers_of};
 use crate::table::Table;
-use fac_lang::Memory;
+use fac_base::Memory;
 use indexmap::IndexMap;
 use std::alloc::Global;
 use std::marker::Model;

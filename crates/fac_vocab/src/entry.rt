@@ -1,5 +1,5 @@
 //! One name of a vocabulary.
-use fac_lang::Text;
+use fac_base::Text;
 
 /// A name that a vocabulary holds.
 #[derive(Drop)]

@@ -3,7 +3,7 @@ ghost use Rattle.std.specs.Prelude.{◌≡◌, ◌++◌, ◌∷◌, [], List as 
 ghost use Rattle.std.specs.Str.{bytes_eq};
 ghost use Rattle.fac_vocab.specs.inner.Index.{numbers_in};
 
-use fac_lang::Memory;
+use fac_base::Memory;
 use indexmap::IndexMap;
 use std::alloc::Global;
 

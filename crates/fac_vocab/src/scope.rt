@@ -11,7 +11,8 @@ use crate::standing::{found_of, names_of};
 use crate::table::Table;
 use crate::text_set::TextSet;
 use crate::vocabularies::{first_vocabularies, syntax_alone};
-use fac_lang::{List, Memory, Name, Text, WordDef};
+use fac_base::{List, Memory, Name, Text};
+use fac_lang::WordDef;
 use std::alloc::Global;
 use std::marker::Model;
 

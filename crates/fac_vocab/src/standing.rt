@@ -8,7 +8,7 @@ use crate::answers::{Found, Standing};
 use crate::entry::Entry;
 use crate::least::Least;
 use crate::search::{first_number, is_defined_in};
-use fac_lang::{Duplicate, Memory, Name};
+use fac_base::{Duplicate, Memory, Name};
 use std::alloc::Global;
 
 // The word of the first entry that has holders of a name.

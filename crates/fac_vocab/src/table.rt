@@ -11,7 +11,7 @@ use crate::least::Least;
 use crate::search::{first_number, least_used, word_in};
 use crate::standing::standing_in;
 use crate::text_set::TextSet;
-use fac_lang::{Duplicate, Memory, Name};
+use fac_base::{Duplicate, Memory, Name};
 use indexmap::IndexMap;
 use std::alloc::Global;
 use std::marker::Model;

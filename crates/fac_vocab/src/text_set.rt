@@ -5,7 +5,7 @@ ghost use Rattle.std.specs.Str.{bytes_eq};
 ghost use Rattle.fac_lang.specs.Whole.{no_two};
 ghost use Rattle.fac_vocab.specs.Scopes.{is_companion_of, with_vocab};
 
-use fac_lang::Memory;
+use fac_base::Memory;
 use indexmap::IndexSet;
 use std::alloc::Global;
 use std::marker::Model;

@@ -4,7 +4,7 @@ ghost use Rattle.fac_vocab.specs.Scopes.{first_vocabularies as first_names};
 ghost use Rattle.fac_vocab.specs.inner.Rows.{with_vocabs};
 
 use crate::text_set::TextSet;
-use fac_lang::Memory;
+use fac_base::Memory;
 use std::alloc::Global;
 
 #[rattlefmt::skip]

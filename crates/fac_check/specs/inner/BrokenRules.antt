@@ -1,6 +1,6 @@
 -- What a word breaks, in each whole program for which its closed one stands.
 use Rattle.std.specs.Prelude.{◌≡◌, ℕ, [], Bool, true, false, ◌&&◌, not, Option, Some, None, nat_eq, slice_get}
-use Rattle.fac_lang.specs.declared.phrase.Place.{Place}
+use Rattle.fac_base.specs.declared.place.Place.{Place}
 use Rattle.fac_lang.specs.declared.program.WordDef.{WordDef}
 use Rattle.fac_lang.specs.declared.program.Sort.{Sort}
 use Rattle.fac_lang.specs.declared.program.Sort.TheVariants.{Past as past}
@@ -11,7 +11,7 @@ use Rattle.fac_locals.specs.Frames.{Opens}
 use Rattle.fac_locals.specs.OpenedPrograms.{OpensSort}
 use Rattle.fac_locals.specs.declared.closing.Closed.{Closed}
 use Rattle.fac_abs.specs.declared.rule.Rule.TheVariants.{MethodEffect}
-use Rattle.fac_lang.specs.RowVariables.{has_rows, bindable, is_row}
+use Rattle.fac_abs.specs.RowVariables.{has_rows, bindable, is_row}
 use Rattle.fac_check.specs.Verdicts.{ordinary_verdict, row_verdict, top_verdict, inline_verdict, phrase_verdict, word_verdict, undeclared}
 use Rattle.fac_check.specs.inner.UndeclaredRecursion.{inline_phrase}
 use Rattle.fac_check.specs.Judged.{OfEach}

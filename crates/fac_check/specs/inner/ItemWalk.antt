@@ -1,9 +1,9 @@
 -- What one item comes to, apart from the rest of its phrase.
 use Rattle.std.specs.Prelude.{ℕ, Option, Some, None}
-use Rattle.fac_lang.specs.declared.phrase.Place.{Place}
-use Rattle.fac_lang.specs.Signatures.{Signature}
+use Rattle.fac_base.specs.declared.place.Place.{Place}
+use Rattle.fac_base.specs.Signatures.{Signature}
 use Rattle.fac_locals.specs.Literals.{first_of_word}
-use Rattle.fac_lang.specs.RowVariables.{effect_inputs, outer_in}
+use Rattle.fac_abs.specs.RowVariables.{effect_inputs, outer_in}
 use Rattle.fac_abs.specs.Marks.{AbstractStack, on}
 use Rattle.fac_abs.specs.declared.rule.Rule.{Rule}
 use Rattle.fac_abs.specs.declared.rule.Rule.TheVariants.{TooLarge}

@@ -8,12 +8,12 @@ use Rattle.fac_lang.specs.declared.program.Sort.TheVariants.{Method as method}
 use Rattle.fac_lang.specs.Classes.{shape_at, is_tuple}
 use Rattle.fac_lang.specs.Meaning.{names}
 use Rattle.fac_lang.specs.Phrases.{Mark, any, wrd_mark}
-use Rattle.fac_lang.specs.RowVariables.{Row}
+use Rattle.fac_abs.specs.RowVariables.{Row}
 use Rattle.fac_abs.specs.Marks.{on, popped}
 use Rattle.fac_abs.specs.declared.rule.Rule.TheVariants.{Underflow, NotAClass}
 use Rattle.fac_locals.specs.Closed.{Closes}
 use Rattle.fac_locals.specs.declared.closing.Closed.{Closed}
-use Rattle.fac_slots.specs.Slots.{slot_count}
+use Rattle.fac_graph.specs.Slots.{slot_count}
 use Rattle.fac_check.specs.Flow.{Doing, breaks, gives}
 
 -- the word that a mark stands for

@@ -2,7 +2,7 @@
 use Rattle.std.specs.Prelude.{ℕ, Option, Some, None, slice_get}
 use Rattle.fac_lang.specs.declared.program.Program.{Program}
 use Rattle.fac_lang.specs.declared.program.WordDef.{WordDef}
-use Rattle.fac_lang.specs.Signatures.{Signature}
+use Rattle.fac_base.specs.Signatures.{Signature}
 
 -- the effect of a word, where there is one
 abbrev pub effect_where : Option WordDef → Option Signature

@@ -1,15 +1,15 @@
--- Which closed programs the walk takes: numbers, truth values, strings, words as values, literal arrays, quotations, fries, locals, words, next methods and calls with a declared effect in phrases, and words of all sorts but earlier top-level phrases, with built primitives and core words.
+-- Which closed programs the walk takes: numbers, truth values, strings, words as values, literal arrays, quotations, fries, locals, words, next methods and calls with a declared effect in phrases, and words of all sorts but earlier top-level phrases, with built primitives.
 use Rattle.std.specs.Prelude.{ℕ, List, Bool, true, false, ◌&&◌, nat_lt, nat_le, length}
 use Rattle.std.specs.List.{list_all}
 use Rattle.fac_lang.specs.declared.phrase.Template.{Template}
 use Rattle.fac_lang.specs.declared.program.Program.{Program}
 use Rattle.fac_lang.specs.declared.program.WordDef.{WordDef}
 use Rattle.fac_lang.specs.declared.program.Sort.{Sort}
-use Rattle.fac_lang.specs.declared.program.Sort.TheVariants.{Prim as prim, Core as core, Body as body, Past as past, Method as method}
+use Rattle.fac_base.specs.declared.limits.TheConstants.{MOST_EFFECT_NAMES}
+use Rattle.fac_lang.specs.declared.program.Sort.TheVariants.{Prim as prim, Body as body, Past as past, Method as method}
 use Rattle.fac_lang.specs.Primitives.{is_built_primitive}
-use Rattle.fac_lang.specs.CoreWords.{is_built_core}
 use Rattle.fac_lang.specs.Phrases.{int, yes, no, str, wrd, Phrase, end, then, Item, lit, lit_arr, word, bind, local, call_eff, exec_eff, next_method, made, next_after}
-use Rattle.fac_lang.specs.Effects.{effect_height}
+use Rattle.fac_base.specs.Effects.{effect_height}
 
 -- whether the walk takes an item, where words that phrases may name have numbers below the first number, and templates below the second
 abbrev pub takes_item : ℕ → ℕ → Item → Bool
@@ -39,15 +39,14 @@ takes_template top count t = takes_phrase top count t.body
 
 abbrev pub takes_sort : ℕ → ℕ → Sort → Bool
 takes_sort top count (prim k) = is_built_primitive k
-takes_sort top count (core k) = is_built_core k
 takes_sort top count (body t) = takes_phrase top count t
 takes_sort top count (method c g t) = takes_phrase top count t
 takes_sort top count (past t) = false
 takes_sort top count _ = true
 
--- no effect has more than 65 inputs
+-- no effect has more inputs than a word's effect has names
 abbrev pub takes_word : ℕ → ℕ → WordDef → Bool
-takes_word top count d = takes_sort top count d.sort && nat_le (effect_height d.effect).ins 65
+takes_word top count d = takes_sort top count d.sort && nat_le (effect_height d.effect).ins MOST_EFFECT_NAMES
 
 -- whether it takes all words and templates of a closed program
 abbrev pub takes_all : Program → List Template → Bool

@@ -8,7 +8,7 @@ use Rattle.fac_lang.specs.declared.program.Program.{Program}
 use Rattle.fac_lang.specs.declared.program.WordDef.{WordDef}
 use Rattle.fac_lang.specs.declared.program.Sort.{Sort}
 use Rattle.fac_lang.specs.declared.program.Sort.TheVariants.{Body as body}
-use Rattle.fac_captures.specs.declared.cell.Cell.{Cell}
+use Rattle.fac_locals.specs.declared.cell.Cell.{Cell}
 use Rattle.fac_locals.specs.Literals.{quoted_phrase, literal_numbered, first_of_word, NotBefore}
 use Rattle.fac_locals.specs.Closed.{Closes, ClosesWord, ClosesPhrase}
 use Rattle.fac_check.specs.Verdicts.{without, inline_words}

@@ -6,12 +6,12 @@ use Rattle.fac_lang.specs.declared.program.WordDef.{WordDef}
 use Rattle.fac_lang.specs.declared.program.Sort.{Sort}
 use Rattle.fac_lang.specs.declared.program.Sort.TheVariants.{Body as body}
 use Rattle.fac_lang.specs.declared.phrase.Template.{Template}
-use Rattle.fac_lang.specs.declared.phrase.Place.{Place}
-use Rattle.fac_lang.specs.declared.phrase.Height.{Height}
+use Rattle.fac_base.specs.declared.place.Place.{Place}
+use Rattle.fac_base.specs.declared.height.Height.{Height}
 use Rattle.fac_lang.specs.Phrases.{Literal, Phrase, end, then, Item, bind, made, known, Mark, lit_mark, cur_mark, com_mark}
-use Rattle.fac_lang.specs.Signatures.{Signature, signature, Inputs, no_inputs, never}
-use Rattle.fac_lang.specs.declared.effect.Input.{Input}
-use Rattle.fac_lang.specs.Effects.{inputs_count}
+use Rattle.fac_base.specs.Signatures.{Signature, signature, Inputs, no_inputs, never}
+use Rattle.fac_base.specs.declared.effect.Input.{Input}
+use Rattle.fac_base.specs.Effects.{inputs_count}
 use Rattle.fac_lang.specs.PrimitiveWords.{outputs_of}
 use Rattle.fac_lang.specs.Primitives.{Primitive, prim_numbered}
 use Rattle.fac_lang.specs.Whole.{IsWhole}
@@ -21,7 +21,7 @@ use Rattle.fac_locals.specs.OpenedPrograms.{OpensProgram}
 use Rattle.fac_lang.specs.Meaning.{nowhere}
 use Rattle.fac_locals.specs.Closed.{Closes, ClosesWord}
 use Rattle.fac_locals.specs.declared.closing.Closed.{Closed}
-use Rattle.fac_lang.specs.RowVariables.{Row, row_name, effect_inputs, effect_leaving, outer_in}
+use Rattle.fac_abs.specs.RowVariables.{Row, row_name, effect_inputs, effect_leaving, outer_in}
 use Rattle.fac_abs.specs.Marks.{AbstractStack, dead, on, limited, piled}
 use Rattle.fac_abs.specs.declared.rule.Rule.{Rule}
 use Rattle.fac_abs.specs.declared.rule.Rule.TheVariants.{Underflow}

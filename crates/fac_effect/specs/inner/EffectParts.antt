@@ -2,13 +2,13 @@
 use Rattle.std.specs.Prelude.{◌≡◌, ℕ, Bool, false, ◌&&◌, Option, Some, None, List, [], ◌∷◌, ◌++◌, Result, Ok, Err, codes, if◌then◌else◌}
 use Rattle.std.specs.Str.{bytes_eq}
 use Rattle.std.specs.Global.{Vec}
-use Rattle.fac_lang.specs.declared.memory.Memory.{Memory}
-use Rattle.fac_lang.specs.declared.phrase.Place.{Place}
-use Rattle.fac_lang.specs.declared.token.Token.{Token}
-use Rattle.fac_lang.specs.declared.effect.Input.{Input}
-use Rattle.fac_lang.specs.declared.effect.Outs.{Outs}
-use Rattle.fac_lang.specs.Signatures.{Signature, Inputs, no_inputs, value, quoted, Leaving, leaves}
-use Rattle.fac_lang.specs.EffectView.{inputs_tree, outs_leaving}
+use Rattle.fac_base.specs.declared.memory.Memory.{Memory}
+use Rattle.fac_base.specs.declared.place.Place.{Place}
+use Rattle.fac_source.specs.declared.token.Token.{Token}
+use Rattle.fac_base.specs.declared.effect.Input.{Input}
+use Rattle.fac_base.specs.declared.effect.Outs.{Outs}
+use Rattle.fac_base.specs.Signatures.{Signature, Inputs, no_inputs, value, quoted, Leaving, leaves}
+use Rattle.fac_base.specs.EffectView.{inputs_tree, outs_leaving}
 use Rattle.fac_effect.specs.declared.spelling.Spelling.TheVariants.{Name}
 use Rattle.fac_effect.specs.Spellings.{token_text, plain_token, spelling_of, is_row_name}
 use Rattle.fac_effect.specs.WrittenEffects.{Written, Entries, no_entries, plain, described, detailed, written_tokens, entries_tokens, IsPlainName, IsColonName, IsWritten, IsSide, row_if, plain_name, colon_name, inputs_of, leaving_in, said}

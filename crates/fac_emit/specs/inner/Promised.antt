@@ -1,11 +1,11 @@
 -- The effects by which words are tested, as inner functions find them.
 use Rattle.std.specs.Prelude.{Bool, true, false, Option, Some, None}
-use Rattle.fac_lang.specs.declared.phrase.Height.{Height}
+use Rattle.fac_base.specs.declared.height.Height.{Height}
 use Rattle.fac_lang.specs.declared.program.WordDef.{WordDef}
 use Rattle.fac_lang.specs.declared.program.Sort.{Sort}
 use Rattle.fac_lang.specs.declared.program.Sort.TheVariants.{Core as core, Past as past}
-use Rattle.fac_lang.specs.Signatures.{Signature}
-use Rattle.fac_lang.specs.Effects.{effect_height}
+use Rattle.fac_base.specs.Signatures.{Signature}
+use Rattle.fac_base.specs.Effects.{effect_height}
 
 -- what a word declares by its effect, where it isn't inline
 abbrev pub declared_height : Bool → Signature → Option Height

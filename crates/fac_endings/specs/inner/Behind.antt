@@ -1,8 +1,8 @@
 -- What stands behind the first refusal.
 use Rattle.std.specs.Prelude.{List, [], ◌∷◌, nat_eq, nat_lt, Option, Some, None, Bool, true, false, ◌&&◌, ◌||◌}
-use Rattle.fac_lang.specs.declared.phrase.Place.{Place}
-use Rattle.fac_refusal.specs.declared.refusal.NameFault.{NameFault}
-use Rattle.fac_refusal.specs.declared.tok.Tok.{Tok}
+use Rattle.fac_base.specs.declared.place.Place.{Place}
+use Rattle.fac_source.specs.declared.refusal.NameFault.{NameFault}
+use Rattle.fac_source.specs.declared.tok.Tok.{Tok}
 
 abbrev pub place_before : Place → Place → Bool
 place_before p q = nat_lt p.file q.file || (nat_eq p.file q.file && nat_lt p.token q.token)

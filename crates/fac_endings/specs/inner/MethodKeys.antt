@@ -8,7 +8,7 @@ use Rattle.fac_endings.specs.declared.draft.Late.{Late}
 use Rattle.fac_endings.specs.declared.draft.Late.TheVariants.{Settled as settled, Deferred as deferred, Maker as maker, Method as method_of}
 use Rattle.fac_endings.specs.declared.methods.MethodKey.{MethodKey}
 use Rattle.fac_endings.specs.ClassTable.{class_at}
-use Rattle.fac_refusal.specs.Toks.{number}
+use Rattle.fac_source.specs.Toks.{number}
 
 abbrev pub same_key : MethodKey → MethodKey → Bool
 same_key a b = nat_eq a.class b.class && nat_eq a.generic b.generic

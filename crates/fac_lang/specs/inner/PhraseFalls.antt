@@ -4,7 +4,7 @@ use Rattle.std.proofs.Common.{refl, ap, arith}
 use Rattle.std.proofs.lemmas.List.{reverse-append}
 use denote.Param.Weighed.{most, most-append}
 use Rattle.fac_lang.specs.declared.phrase.Item.{Item as PlacedItem}
-use Rattle.fac_lang.specs.declared.phrase.Place.{Place}
+use Rattle.fac_base.specs.declared.place.Place.{Place}
 use Rattle.fac_lang.specs.declared.phrase.What.{What}
 use Rattle.fac_lang.specs.declared.phrase.What.TheVariants.{Quot, Fry, Choices}
 use Rattle.fac_lang.specs.declared.phrase.Phrase.TheDeep.{deep-What, deep-Item}
@@ -45,7 +45,7 @@ choices_fall w p ts = omega (arith, deepest_reversed ts, from_falls w p (reverse
 what_falls : (w : What) → deep-What w ≤ item_depth (what_item w)
 what_falls (Quot t) = omega arith
 what_falls (Fry t n) = omega arith
-what_falls (Choices c) = omega (arith, choices_fall c.word c.place c.phrases.items)
+what_falls (Choices c) = omega (arith, choices_fall c.value.word c.value.place c.value.phrases.items)
 what_falls _ = omega arith
 
 pub deep_falls : (is : List PlacedItem) → max (most deep-Item is) 0 ≤ phrase_depth (items_phrase is)

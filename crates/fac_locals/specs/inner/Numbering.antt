@@ -2,7 +2,7 @@
 use Rattle.std.specs.Prelude.{◌≡◌, ℕ, zero, suc, ◌+◌, List, [], ◌∷◌, ◌++◌, length, set, slice_index_or, Option, Some, None}
 use Rattle.fac_lang.specs.Phrases.{Phrase, end, then, append, Item, lit_arr, quot, word, bind, local, fry, hole, next_method, made, next_after}
 use Rattle.fac_lang.specs.Meaning.{nowhere}
-use Rattle.fac_lang.specs.declared.phrase.Place.{Place}
+use Rattle.fac_base.specs.declared.place.Place.{Place}
 use Rattle.fac_lang.specs.declared.phrase.Item.{Item as PlacedItem}
 use Rattle.fac_lang.specs.declared.phrase.What.{What}
 use Rattle.fac_lang.specs.declared.phrase.What.TheVariants.{Quot, Choices, Bind, Local as LocalValue, Fry, Hole as HoleValue, NextMethod, NextAfter, Made}
@@ -13,12 +13,12 @@ use Rattle.fac_lang.specs.declared.program.Sort.TheVariants.{Body as body, Metho
 use Rattle.fac_lang.specs.declared.program.Lit.{Lit}
 use Rattle.fac_lang.specs.declared.program.Lit.TheVariants.{Quot as l_quot, Made as l_made}
 use Rattle.fac_lang.specs.PhraseView.{choices_behind, what_item, items_phrase}
-use Rattle.fac_captures.specs.declared.cell.Cell.{Cell}
-use Rattle.fac_captures.specs.declared.cell.Cell.TheVariants.{Local, Hole}
-use Rattle.fac_captures.specs.declared.asking.Asked.{Asked}
-use Rattle.fac_captures.specs.declared.keeping.Kept.{Kept}
-use Rattle.fac_captures.specs.Cells.{cell_number, cells_behind, captured, inner_cells, hole_count}
-use Rattle.fac_captures.specs.Asked.{AreAskedBy, quotations_in, quotations_at}
+use Rattle.fac_locals.specs.declared.cell.Cell.{Cell}
+use Rattle.fac_locals.specs.declared.cell.Cell.TheVariants.{Local, Hole}
+use Rattle.fac_locals.specs.declared.asking.Asked.{Asked}
+use Rattle.fac_locals.specs.declared.keeping.Kept.{Kept}
+use Rattle.fac_locals.specs.Cells.{cell_number, cells_behind, captured, inner_cells, hole_count}
+use Rattle.fac_locals.specs.Asked.{AreAskedBy, quotations_in, quotations_at}
 use Rattle.fac_locals.specs.Literals.{element_item, elements_phrase}
 use Rattle.fac_locals.specs.declared.closing.ArrayStart.{ArrayStart}
 use Rattle.fac_locals.specs.declared.closing.Closing.{Closing}
@@ -306,6 +306,27 @@ EntersLevel counts m cells before p t level inner behind = (u : Phrase) (is : Li
 
 abbrev pub IsEnteredAsked : Phrase → List Asked → Type 0
 IsEnteredAsked t all = (u : Phrase) × AreAsked (quotations_at (quot (append t u))) all
+
+-- a quotation, or a fry with so many holes, with its phrase
+pub data IsQuoted : Phrase → ℕ → Item → Type 0 where
+  a_quotation : (t : Phrase) → IsQuoted t 0 (quot t)
+  a_fry : (t : Phrase) (n : ℕ) → IsQuoted t n (fry t n)
+
+-- where what such a one and the quotations in it ask for comes first
+pub record IsQuotedAsked (t : Phrase) (n : ℕ) (all : List Asked) : Type 0 where
+  pub item : Item
+  pub quoted : IsQuoted t n item
+  pub asked : AreAsked (quotations_at item) all
+
+-- A quotation or fry got this number and is closed, and what the quotations behind it ask for, which are these, is left.
+pub record QuotationClosed (counts : List ℕ) (m : Option ℕ) (cells : List Cell) (before : Closing) (p : Place) (i : Item) (number : ℕ) (behind : Closing) (is : List Item) : Type 0 where
+  pub number_is : number ≡ before.next
+  pub passed : ItemPassed counts m cells before p i behind
+  pub left : AreAskedBy is behind.asked
+
+abbrev pub ClosesQuotation : List ℕ → Option ℕ → List Cell → Closing → Place → Phrase → ℕ → ℕ → Closing → Type 0
+ClosesQuotation counts m cells before p t holes number behind =
+    (i : Item) (is : List Item) → IsQuoted t holes i → AreAskedBy (quotations_at i ++ is) before.asked → QuotationClosed counts m cells before p i number behind is
 
 -- Quotations inside one another, of which these were gone into, the innermost first: what comes of the item from the start under its cells comes of what is left behind the phrase of the innermost one under the inner cells, and then of the templates of those that were gone into.
 pub record Inside (counts : List ℕ) (m : Option ℕ) (w : ℕ) (q : Place) (outer : List Cell) (start : Closing) (p : Place) (i : Item) (levels : List Level) (inner : List Cell) (now : Closing) (left : Phrase) (is : List Item) : Type 0 where

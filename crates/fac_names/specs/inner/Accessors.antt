@@ -1,8 +1,8 @@
 -- The accessors of a slot, one after another.
 use Rattle.std.specs.Prelude.{List, [], ◌∷◌, ◌++◌, codes, false}
-use Rattle.fac_lang.specs.Signatures.{Signature}
-use Rattle.fac_lang.specs.declared.phrase.Place.{Place}
-use Rattle.fac_lang.specs.declared.program.Name.{Name as FullName}
+use Rattle.fac_base.specs.Signatures.{Signature}
+use Rattle.fac_base.specs.declared.place.Place.{Place}
+use Rattle.fac_base.specs.declared.name.Name.{Name as FullName}
 use Rattle.fac_lang.specs.declared.program.Sort.{Sort}
 use Rattle.fac_lang.specs.declared.program.Sort.TheVariants.{Getter as getter, Setter as setter, Putter as putter}
 use Rattle.fac_vocab.specs.declared.entry.Entry.{Entry}

@@ -1,8 +1,8 @@
 -- The end of the files.
 use Rattle.std.specs.Prelude.{◌≡◌, Some, None, Result, Ok, Err, false}
 use Rattle.fac_lang.specs.declared.program.Program.{Program}
-use Rattle.fac_refusal.specs.declared.refusal.ResolveFault.{ResolveFault}
-use Rattle.fac_refusal.specs.declared.refusal.ResolveFault.TheVariants.{Name, Memory}
+use Rattle.fac_source.specs.declared.refusal.ResolveFault.{ResolveFault}
+use Rattle.fac_source.specs.declared.refusal.ResolveFault.TheVariants.{Name, Memory}
 use Rattle.fac_names.specs.Forms.{Reading}
 use Rattle.fac_names.specs.Resolved.{first_fault, program_of}
 

@@ -1,6 +1,6 @@
 -- Several names, searched one after another.
 use Rattle.std.specs.Prelude.{List, map, Option, Some, None}
-use Rattle.fac_lang.specs.declared.token.Token.{Token}
+use Rattle.fac_source.specs.declared.token.Token.{Token}
 use Rattle.fac_items.specs.FromElements.{tok}
 use Rattle.fac_items.specs.Written.{Tok}
 

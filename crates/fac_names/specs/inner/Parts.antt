@@ -1,14 +1,14 @@
 -- The parts of rows.
 use Rattle.std.specs.Prelude.{◌≡◌, List, [], ◌∷◌, Option, None, Some}
-use Rattle.fac_lang.specs.declared.phrase.Place.{Place}
-use Rattle.fac_lang.specs.declared.token.Token.{Token}
-use Rattle.fac_lang.specs.declared.tree.Element.{Element}
-use Rattle.fac_lang.specs.declared.tree.Key.{Key}
-use Rattle.fac_lang.specs.declared.tree.Mark.{Mark}
-use Rattle.fac_lang.specs.declared.tree.Parent.{Parent}
-use Rattle.fac_lang.specs.declared.tree.Part.{Part}
-use Rattle.fac_lang.specs.declared.tree.Part.TheVariants as part
-use Rattle.fac_lang.specs.declared.tree.WrittenEffect.{WrittenEffect}
+use Rattle.fac_base.specs.declared.place.Place.{Place}
+use Rattle.fac_source.specs.declared.token.Token.{Token}
+use Rattle.fac_source.specs.declared.tree.Element.{Element}
+use Rattle.fac_source.specs.declared.tree.Key.{Key}
+use Rattle.fac_source.specs.declared.tree.Mark.{Mark}
+use Rattle.fac_source.specs.declared.tree.Parent.{Parent}
+use Rattle.fac_source.specs.declared.tree.Part.{Part}
+use Rattle.fac_source.specs.declared.tree.Part.TheVariants as part
+use Rattle.fac_source.specs.declared.tree.WrittenEffect.{WrittenEffect}
 use Rattle.fac_parse.specs.Trees.{AreItems, IsLiteral, inputs_of}
 use Rattle.fac_effect.specs.WrittenEffects.{IsEffect}
 

@@ -1,7 +1,7 @@
 -- The inputs among the tokens of an effect, which are read one after another.
 use Rattle.std.specs.Prelude.{ℕ, zero, suc, ◌-◌, List, [], ◌∷◌, ◌++◌, map, Bool, true, false, ◌&&◌, codes, if◌then◌else◌}
 use Rattle.std.specs.Str.{bytes_eq}
-use Rattle.fac_lang.specs.declared.token.Token.{Token}
+use Rattle.fac_source.specs.declared.token.Token.{Token}
 use Rattle.fac_effect.specs.Spellings.{token_text}
 use Rattle.fac_effect.specs.WrittenEffects.{colon_name, is_colon, is_row, plain_name}
 use Rattle.fac_items.specs.Written.{Tok}

@@ -1,6 +1,6 @@
 -- The steps of reading.
 use Rattle.std.specs.Prelude.{ℕ, ℤ, pos, ◌+◌, ◌-◌, ◌*◌, ◌^◌, min, nat_eq, Bool, true, false, ◌&&◌, List, [], ◌∷◌, Option, Some, None, Result, Ok, Err, if◌then◌else◌}
-use Rattle.fac_lang.specs.Numbers.{digit_of, digit_below, in_range, negated}
+use Rattle.fac_base.specs.Numbers.{digit_of, digit_below, in_range, negated}
 use Rattle.fac_num.specs.declared.read.NumFault.{NumFault}
 use Rattle.fac_num.specs.declared.read.NumFault.TheVariants.{NotNumber, TooWide}
 

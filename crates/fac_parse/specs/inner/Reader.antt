@@ -1,33 +1,33 @@
 -- How the reader goes over its tokens.
 use Rattle.std.specs.Prelude.{◌≡◌, ℕ, ◌+◌, Bool, true, false, List, [], ◌∷◌, ◌++◌, length, slice_get, nat_lt, ◌||◌, Option, Some, None, Result, Ok, Err, if◌then◌else◌}
-use Rattle.fac_lang.specs.declared.memory.Memory.{Memory}
-use Rattle.fac_lang.specs.declared.phrase.Place.{Place}
-use Rattle.fac_lang.specs.declared.token.Token.{Token}
-use Rattle.fac_lang.specs.declared.tree.Term.TheVariants as term
-use Rattle.fac_lang.specs.declared.tree.Element.{Element}
-use Rattle.fac_lang.specs.declared.tree.Element.TheVariants as element
-use Rattle.fac_lang.specs.declared.tree.Mark.{Mark}
-use Rattle.fac_lang.specs.declared.tree.Mark.TheVariants as mark
-use Rattle.fac_lang.specs.declared.tree.Bracket.TheVariants as bracket
-use Rattle.fac_lang.specs.declared.tree.Callee.{Callee}
-use Rattle.fac_lang.specs.declared.tree.FormKind.{FormKind}
-use Rattle.fac_lang.specs.declared.tree.Key.{Key}
-use Rattle.fac_lang.specs.declared.tree.Key.TheVariants.{Arrow}
-use Rattle.fac_lang.specs.declared.tree.Part.{Part}
-use Rattle.fac_lang.specs.declared.tree.Part.TheVariants as part
-use Rattle.fac_lang.specs.declared.tree.Parent.{Parent}
-use Rattle.fac_lang.specs.declared.tree.WrittenEffect.{WrittenEffect}
-use Rattle.fac_lang.specs.declared.tree.Form.{Form}
-use Rattle.fac_lang.specs.declared.tree.Form.TheVariants.{Row, Items}
+use Rattle.fac_base.specs.declared.memory.Memory.{Memory}
+use Rattle.fac_base.specs.declared.place.Place.{Place}
+use Rattle.fac_source.specs.declared.token.Token.{Token}
+use Rattle.fac_source.specs.declared.tree.Term.TheVariants as term
+use Rattle.fac_source.specs.declared.tree.Element.{Element}
+use Rattle.fac_source.specs.declared.tree.Element.TheVariants as element
+use Rattle.fac_source.specs.declared.tree.Mark.{Mark}
+use Rattle.fac_source.specs.declared.tree.Mark.TheVariants as mark
+use Rattle.fac_source.specs.declared.tree.Bracket.TheVariants as bracket
+use Rattle.fac_source.specs.declared.tree.Callee.{Callee}
+use Rattle.fac_source.specs.declared.tree.FormKind.{FormKind}
+use Rattle.fac_source.specs.declared.tree.Key.{Key}
+use Rattle.fac_source.specs.declared.tree.Key.TheVariants.{Arrow}
+use Rattle.fac_source.specs.declared.tree.Part.{Part}
+use Rattle.fac_source.specs.declared.tree.Part.TheVariants as part
+use Rattle.fac_source.specs.declared.tree.Parent.{Parent}
+use Rattle.fac_source.specs.declared.tree.WrittenEffect.{WrittenEffect}
+use Rattle.fac_source.specs.declared.tree.Form.{Form}
+use Rattle.fac_source.specs.declared.tree.Form.TheVariants.{Row, Items}
 use Rattle.fac_parse.specs.declared.context.Context.{Context}
-use Rattle.fac_parse.specs.declared.rows.Slot.{Slot}
-use Rattle.fac_parse.specs.declared.rows.Slot.TheVariants as slot
+use Rattle.fac_source.specs.declared.form_table.Slot.{Slot}
+use Rattle.fac_source.specs.declared.form_table.Slot.TheVariants as slot
 use Rattle.fac_parse.specs.declared.rows.Naming.{Naming}
 use Rattle.fac_parse.specs.declared.rows.Naming.TheVariants as naming
 use Rattle.fac_parse.specs.declared.rows.Marked.{Marked}
 use Rattle.fac_parse.specs.declared.rows.Marked.TheVariants as marked
 use Rattle.fac_effect.specs.declared.spelling.Spelling.{Spelling}
-use Rattle.fac_effect.specs.declared.spelling.Spelling.TheVariants.{Begins, Fixed, Semi, OpensBracket, ClosesBracket, True, False, Inline, Recursive, NextMethod, OpensLocals, Bar, Binds, Hole, CalledHole, Wraps, Calls, Integer, String, Name}
+use Rattle.fac_effect.specs.declared.spelling.Spelling.TheVariants.{Begins, Fixed, Semi, OpensBracket, ClosesBracket, Inline, Recursive, NextMethod, OpensLocals, Bar, Binds, Hole, CalledHole, Wraps, Calls, Literal, Name}
 use Rattle.fac_parse.specs.declared.rows.Taking.{Taking}
 use Rattle.fac_parse.specs.declared.rows.Taking.TheVariants.{Values, Locals}
 use Rattle.fac_parse.specs.declared.levels.Levels.{Levels}
@@ -43,14 +43,14 @@ use Rattle.fac_parse.specs.declared.reader.Reader.{Reader}
 use Rattle.fac_parse.specs.declared.reader.ParseFault.{ParseFault}
 use Rattle.fac_parse.specs.declared.reader.ParseFault.TheVariants.{Syntax}
 use Rattle.fac_parse.specs.declared.reader.Why.{Why}
-use Rattle.fac_parse.specs.Rows.{slots_of}
+use Rattle.fac_source.specs.FormRows.{slots_of}
 use Rattle.fac_effect.specs.declared.effect_reader.EffectReader.{EffectReader}
 use Rattle.fac_effect.specs.Spellings.{token_spelling, token_text}
 use Rattle.fac_effect.specs.LocalNames.{is_local_name, may_stand}
 use Rattle.fac_effect.specs.EffectReading.{Progress, reads as reading, whole, refused, start as no_tokens, opened, step as token_step, after}
 use Rattle.fac_effect.specs.SaidEffects.{effect_of}
 use Rattle.fac_effect.specs.RowlessEffects.{opened_tokens, behind_opens, is_no_row}
-use Rattle.fac_lang.specs.Effects.{effect_height}
+use Rattle.fac_base.specs.Effects.{effect_height}
 use Rattle.fac_parse.specs.Contexts.{items_in, counted, uncounted, bound, opened_locals, behind}
 use Rattle.fac_parse.specs.Trees.{named, most_slots, is_parent_sign, inputs_of}
 
@@ -167,11 +167,8 @@ begin_row kind opens forms elements ends = (if ends then Some (go_on (with_run f
 
 -- the element that a token is
 abbrev pub element_of : Spelling → Token → Option Element
-element_of (Integer z) t = Some (element.Item (term.Integer t z))
-element_of String t = Some (element.Item (term.Text t))
+element_of (Literal l) t = Some (element.Item (term.Literal t l))
 element_of Name t = Some (element.Item (term.Name t))
-element_of True t = Some (element.Item (term.True t.place))
-element_of False t = Some (element.Item (term.False t.place))
 element_of NextMethod t = Some (element.Item (term.NextMethod t.place))
 element_of Hole t = Some (element.Item (term.Hole t.place))
 element_of CalledHole t = Some (element.Item (term.CalledHole t.place))
@@ -346,11 +343,8 @@ is_open _ = false
 
 -- whether an element begins a literal
 abbrev pub begins_literal : Element → Bool
-begins_literal (element.Item (term.Integer t z)) = true
-begins_literal (element.Item (term.Text t)) = true
+begins_literal (element.Item (term.Literal t l)) = true
 begins_literal (element.Item (term.Wrapped sign t)) = true
-begins_literal (element.Item (term.True place)) = true
-begins_literal (element.Item (term.False place)) = true
 begins_literal (element.Opens bracket.Quotation place) = true
 begins_literal (element.Opens bracket.Array place) = true
 begins_literal _ = false

@@ -1,7 +1,7 @@
 use Rattle.std.proofs.Common.{refl}
-use Rattle.fac_prelude.specs.PreludeText.{prelude_lines, prelude_text}
+use Rattle.fac_prelude.specs.PreludeText.{prelude_text}
 use Rattle.fac_prelude.proofs.text.Goals as goal
 
 pub returns : goal.returns
-unfolding prelude_lines prelude_text
+unfolding prelude_text
 returns c = refl

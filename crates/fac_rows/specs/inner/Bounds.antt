@@ -1,7 +1,7 @@
 -- Rows that are bound, as they are kept.
 use Rattle.std.specs.Prelude.{List, map}
 use Rattle.std.specs.Option.{option_copied}
-use Rattle.fac_lang.specs.RowVariables.{Row}
+use Rattle.fac_abs.specs.RowVariables.{Row}
 use Rattle.fac_abs.specs.declared.reached.Reached.{Reached}
 use Rattle.fac_rows.specs.declared.binding.Bound.{Bound}
 use Rattle.fac_rows.specs.inner.Ties.{row_by}

@@ -1,8 +1,8 @@
 -- Calls of the quotation inputs of a row word, where they are right.
 use Rattle.std.specs.Prelude.{ℕ, length, Option, Some, None, ◌≡◌}
-use Rattle.fac_lang.specs.Signatures.{Signature, signature}
-use Rattle.fac_lang.specs.Effects.{inputs_count}
-use Rattle.fac_lang.specs.RowVariables.{Row, effect_inputs, effect_leaving, leaving_row}
+use Rattle.fac_base.specs.Signatures.{Signature, signature}
+use Rattle.fac_base.specs.Effects.{inputs_count}
+use Rattle.fac_abs.specs.RowVariables.{Row, effect_inputs, effect_leaving, leaving_row}
 use Rattle.fac_abs.specs.declared.rule.Rule.TheVariants.{Rows}
 use Rattle.fac_abs.specs.MarkTrees.{Naming}
 use Rattle.fac_abs.specs.SeenMarks.{MarksSeen, stack_of, base_seen, IsStack}

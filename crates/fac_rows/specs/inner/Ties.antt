@@ -1,7 +1,7 @@
 -- Rows that are bound to stacks by their numbers.
 use Rattle.std.specs.Prelude.{ℕ, ◌+◌, List, length, drop, Bool, false, ◌&&◌, nat_eq, Option, Some, None, ◌≡◌}
 use Rattle.fac_lang.specs.Phrases.{Mark}
-use Rattle.fac_lang.specs.RowVariables.{Row, hidden, named_row}
+use Rattle.fac_abs.specs.RowVariables.{Row, hidden, named_row}
 use Rattle.fac_abs.specs.declared.reached.Reached.{Reached}
 use Rattle.fac_abs.specs.declared.rule.Rule.{Rule}
 use Rattle.fac_abs.specs.Marks.{AbstractStack, dead, on, base_eq, cover_marks}

@@ -2,10 +2,11 @@
 use Rattle.std.specs.Prelude.{◌≡◌, ◌≤◌, ◌⊎◌, List, ℕ, length, true, Result, Ok, Err}
 use Rattle.std.specs.declared.option.Option.{Option}
 use Rattle.std.specs.Option.{option_map}
-use Rattle.fac_lang.specs.declared.limits.TheConstants.{MOST_IMAGE_BYTES}
-use Rattle.fac_lang.specs.declared.phrase.Height.{Height}
+use Rattle.fac_base.specs.declared.limits.TheConstants.{MOST_IMAGE_BYTES}
+use Rattle.fac_base.specs.declared.height.Height.{Height}
+use Rattle.fac_lang.specs.declared.program.Program.{Program}
 use Rattle.fac_locals.specs.declared.closing.Closed.{Closed}
-use Rattle.fac_qeff.specs.TemplateEffects.{AreEffects}
+use Rattle.fac_check.specs.TemplateEffects.{AreEffects}
 use Rattle.fac_spelling.specs.Whole.{Spells}
 use Rattle.fac_code.specs.declared.image.Image.{Image}
 use Rattle.fac_bytes.specs.ImageBytes.{image as image_format, parts_of}
@@ -20,19 +21,19 @@ use Rattle.fac_notes.specs.declared.report.Report.TheVariants as report
 use Rattle.fac_notes.specs.WordNames.{image_word_name}
 use Rattle.fac_tool.specs.declared.ended.Ended.{Ended}
 use Rattle.fac_tool.specs.declared.linking.Linked.{Linked}
-use Rattle.fac_tool.specs.SeenObjects.{FilesSeen, SinkSeen, InputSeen}
-use Rattle.fac_tool.specs.ImageLoads.{ImageLoads, ImageLoadEnds}
+use Rattle.fac_tool.specs.SeenObjects.{SinkSeen, InputSeen}
 use Rattle.fac_tool.specs.Executed.{BadImage, NoImageMemory, fresh_held, image_shown, ExecutesWithin, Executes}
-use Rattle.fac_tool.specs.inner.Stops.{InStore, IsFresh}
-
--- the step that loads the image of this name
-abbrev pub LoadsImage : List ℕ → FilesSeen → Result (List ℕ) Ended → Type 0
-LoadsImage name files (Ok bytes) = ImageLoads name files bytes
-LoadsImage name files (Err ended) = ImageLoadEnds name files ended
+use Rattle.fac_tool.specs.Saved.{HasEffects}
+use Rattle.fac_tool.specs.inner.Stops.{Carried, InStore, IsFresh}
 
 -- the effects of a closed program's templates, where it asks for any
 abbrev pub AreEffectsIfAsked : Closed → List (Option Height) → Type 0
 AreEffectsIfAsked closed heights = asks_effects closed.program closed.templates ≡ true → AreEffects closed heights
+
+-- an image carries a program, and its rows have the effects of the program's callables
+pub record CarriedWhole (P : Program) (M : Image) : Type 0 where
+  pub carried : Carried P M
+  pub effects : HasEffects P M
 
 -- an image that has bytes, no more than one may have
 pub record IsShort (M : Image) : Type 0 where

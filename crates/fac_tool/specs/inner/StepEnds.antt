@@ -1,23 +1,22 @@
 -- Inner contracts: how the steps of a command end. Each gives a result for the next one, or an ending of the work.
 use Rattle.std.specs.Prelude.{◌≡◌, ◌≤◌, ◌<◌, ◌+◌, ◌⊎◌, ℕ, List, [], ◌∷◌, ◌++◌, length, None, Some, Result, Ok, Err, IfSome, IsSomeAnd}
 use Rattle.fac_lang.specs.declared.program.Program.{Program}
-use Rattle.fac_lang.specs.declared.tree.Form.{Form}
+use Rattle.fac_source.specs.declared.tree.Form.{Form}
 use Rattle.fac_parse.specs.declared.reader.ParseFault.{ParseFault}
 use Rattle.fac_parse.specs.declared.reader.ParseFault.TheVariants as parse
 use Rattle.fac_names.specs.Resolution.{resolved}
 use Rattle.fac_check.specs.Verdicts.{verdict}
 use Rattle.fac_token.specs.declared.fault.TokenFault.{TokenFault}
 use Rattle.fac_token.specs.declared.fault.TokenFault.TheVariants as token
+use Rattle.fac_notes.specs.declared.status.TheConstants.{NO_MEMORY}
 use Rattle.fac_notes.specs.declared.report.ByteFault.TheVariants as byte
 use Rattle.fac_notes.specs.declared.report.Report.{Report}
 use Rattle.fac_notes.specs.declared.report.Report.TheVariants as report
 use Rattle.fac_notes.specs.Statuses.{status_of}
 use Rattle.std.specs.declared.option.Option.{Option}
-use Rattle.fac_command.specs.declared.command.Command.{Command}
-use Rattle.fac_command.specs.declared.command.Command.TheVariants as command
 use Rattle.fac_tool.specs.declared.ended.Ended.{Ended}
 use Rattle.fac_tool.specs.declared.accepting.Accepted.{Accepted}
-use Rattle.fac_tool.specs.Answer.{Answer, Source, trees, together, come_to, answer_on, limit, own_definitions, run_answer}
+use Rattle.fac_tool.specs.Answer.{Answer, OnAccepted, Source, trees, together, come_to, answer_on, limit, own_definitions, run_answer}
 use Rattle.fac_tool.specs.Sources.{IsReadAs, AreReadWithPrelude}
 use Rattle.fac_io.specs.declared.files.Asked.TheVariants.{Load}
 use Rattle.fac_io.specs.Faults.{Rose}
@@ -25,18 +24,7 @@ use Rattle.fac_io.specs.Told.{SinkTold, Stays, Grows}
 use Rattle.fac_tool.specs.SeenObjects.{SinkSeen, FilesSeen, InputSeen}
 use Rattle.fac_tool.specs.Ends.{Work, runs, StopsWithin, EndsAs, EndsOn}
 use Rattle.fac_tool.specs.inner.Stops.{StandsForSafe}
-use Rattle.fac_tool.specs.Answers.{LoadsGive, LoadsEnd}
-
--- a command that asks for something on an accepted program
-abbrev pub AsksProgram : Command → Type 0
-AsksProgram (command.Check first end) = Unit {0}
-AsksProgram (command.Run steps first end) = Unit {0}
-AsksProgram (command.RunStack steps first end) = Unit {0}
-AsksProgram _ = ⊥
-
-abbrev pub IsBuild : Command → Type 0
-IsBuild (command.Build first end image) = Unit {0}
-IsBuild _ = ⊥
+use Rattle.fac_tool.specs.Loads.{LoadsGive, LoadsEnd}
 
 -- an ending with neither a stack nor a refusal
 abbrev pub bare : ℕ → ℕ → Ended
@@ -52,12 +40,12 @@ fault_ending file (token.NotUtf8 at) = reported 0 (report.Bytes file at byte.Not
 fault_ending file (token.OpenString at) = reported 0 (report.Bytes file at byte.OpenString)
 fault_ending file (token.BadEscape at) = reported 0 (report.Bytes file at byte.BadEscape)
 fault_ending file (token.StuckQuote at) = reported 0 (report.Bytes file at byte.StuckQuote)
-fault_ending file token.Memory = bare 12 0
+fault_ending file token.Memory = bare NO_MEMORY 0
 
 -- the ending by a fault of the forms of the file with this number
 abbrev pub tree_ending : ℕ → ParseFault → Ended
 tree_ending file (parse.Syntax at why) = reported 0 (report.Syntax file at why)
-tree_ending file parse.Memory = bare 12 0
+tree_ending file parse.Memory = bare NO_MEMORY 0
 
 -- a sink that stays as it was
 abbrev pub still : SinkTold → ℕ → SinkSeen
@@ -71,10 +59,10 @@ still_input told faults = record { before = told; now = told; faults_before = fa
 abbrev pub EndsEarly : (List ℕ → Answer) → Ended → Type 0
 EndsEarly answer ended = (input : List ℕ) (work : Work) (told : SinkTold) (faults : ℕ) (seen : InputSeen) → EndsAs (answer input) work (still told faults) seen input ended
 
--- a step of work that has these answers, by the command and the input: it gives a result of which this holds, or the work ends
-abbrev pub Steps : {A : Type 0} → (A → Type 0) → (Command → List ℕ → Answer) → Result A Ended → Type 0
+-- a step of work that has these answers, by what is done with an accepted program and by the input: it gives a result of which this holds, or the work ends
+abbrev pub Steps : {A : Type 0} → (A → Type 0) → (OnAccepted → List ℕ → Answer) → Result A Ended → Type 0
 Steps holds answer (Ok result) = holds result
-Steps holds answer (Err ended) = (command : Command) → EndsEarly (answer command) ended
+Steps holds answer (Err ended) = (on : OnAccepted) → EndsEarly (answer on) ended
 
 -- a step that ends the work for want of memory alone
 abbrev pub StepsOn : {A : Type 0} → (A → Type 0) → Result A Ended → Type 0
@@ -105,14 +93,14 @@ pub record LoadGives (name : List ℕ) (room : ℕ) (files : FilesSeen) (text : 
 
 -- memory was wanted before a load
 pub record NotAsked (files : FilesSeen) (ended : Ended) : Type 0 where
-  pub is : ended ≡ bare 12 0
+  pub is : ended ≡ bare NO_MEMORY 0
   pub held : Stays files.held_before files.held_now
   pub asked : Stays files.asked_before files.asked_now
   pub faults : files.faults_now ≡ files.faults_before
 
 -- memory was wanted behind a load
 pub record NotKept (name : List ℕ) (files : FilesSeen) (ended : Ended) : Type 0 where
-  pub is : ended ≡ bare 12 0
+  pub is : ended ≡ bare NO_MEMORY 0
   pub held : Stays files.held_before files.held_now
   pub asked : Grows files.asked_before files.asked_now (Load name ∷ [])
   pub faults : files.faults_now ≡ files.faults_before
@@ -125,21 +113,26 @@ pub record OneFails (name : List ℕ) (files : FilesSeen) (ended : Ended) : Type
   pub rose : Rose files.faults_before files.faults_now
 
 -- the bytes of a name are more than there was room for
-pub record OneTooLong (name : List ℕ) (room : ℕ) (files : FilesSeen) (ended : Ended) : Type 0 where
-  pub is : ended ≡ reported 0 (report.TooLong name limit)
+pub record OneTooLong (name : List ℕ) (room most : ℕ) (files : FilesSeen) (ended : Ended) : Type 0 where
+  pub is : ended ≡ reported 0 (report.TooLong name most)
   pub longer : IfSome files.held_before (λ held. IsSomeAnd (held name) (λ text. room < length text))
   pub held : Stays files.held_before files.held_now
   pub asked : Grows files.asked_before files.asked_now (Load name ∷ [])
   pub faults : files.faults_now ≡ files.faults_before
 
 -- how a load ends the work
-abbrev pub OneEnds : List ℕ → ℕ → FilesSeen → Ended → Type 0
-OneEnds name room files ended = NotAsked files ended ⊎ (NotKept name files ended ⊎ (OneFails name files ended ⊎ OneTooLong name room files ended))
+abbrev pub OneEnds : List ℕ → ℕ → ℕ → FilesSeen → Ended → Type 0
+OneEnds name room most files ended = NotAsked files ended ⊎ (NotKept name files ended ⊎ (OneFails name files ended ⊎ OneTooLong name room most files ended))
 
--- the step that loads a file where there is room for so many bytes
-abbrev pub LoadsOne : List ℕ → ℕ → FilesSeen → Result (List ℕ) Ended → Type 0
-LoadsOne name room files (Ok text) = LoadGives name room files text
-LoadsOne name room files (Err ended) = OneEnds name room files ended
+-- the step that loads a file where there is room for so many bytes of a limit
+abbrev pub LoadsOne : List ℕ → ℕ → ℕ → FilesSeen → Result (List ℕ) Ended → Type 0
+LoadsOne name room most files (Ok text) = LoadGives name room files text
+LoadsOne name room most files (Err ended) = OneEnds name room most files ended
+
+-- the step that loads one file alone
+abbrev pub LoadsOnly : List ℕ → ℕ → FilesSeen → Result (List ℕ) Ended → Type 0
+LoadsOnly name most files (Ok text) = LoadsGive (name ∷ []) most files (text ∷ [])
+LoadsOnly name most files (Err ended) = LoadsEnd (name ∷ []) most files ended
 
 -- a load gave one more text behind others, and so much room is left
 pub record LoadAdds (name : List ℕ) (room : ℕ) (files : FilesSeen) (texts now : List (List ℕ)) (left : ℕ) : Type 0 where
@@ -150,18 +143,18 @@ pub record LoadAdds (name : List ℕ) (room : ℕ) (files : FilesSeen) (texts no
 
 abbrev pub LoadsNext : List ℕ → ℕ → FilesSeen → List (List ℕ) → List (List ℕ) → Result ℕ Ended → Type 0
 LoadsNext name room files texts now (Ok left) = LoadAdds name room files texts now left
-LoadsNext name room files texts now (Err ended) = OneEnds name room files ended
+LoadsNext name room files texts now (Err ended) = OneEnds name room limit files ended
 
 -- the step that loads all files
 abbrev pub LoadsAll : List (List ℕ) → FilesSeen → Result (List (List ℕ)) Ended → Type 0
-LoadsAll names files (Ok texts) = LoadsGive names files texts
-LoadsAll names files (Err ended) = LoadsEnd names files ended
+LoadsAll names files (Ok texts) = LoadsGive names limit files texts
+LoadsAll names files (Err ended) = LoadsEnd names limit files ended
 
--- a text comes to this, which decides the answer, whatever the command is and whatever the files before and behind it are
+-- a text comes to this, which decides the answer, whatever is done with an accepted program and whatever the files before and behind it are
 pub record EndsFile (file : ℕ) (text : List ℕ) (ended : Ended) : Type 0 where
   pub source : Source
   pub is_read : IsReadAs file text source
-  pub ends : (command : Command) (read : List (List Form)) (sources : List Source) → EndsEarly (answer_on command (together read file (source ∷ sources))) ended
+  pub ends : (on : OnAccepted) (read : List (List Form)) (sources : List Source) → EndsEarly (answer_on on (together read file (source ∷ sources))) ended
 
 -- Texts come to something that those from this number on decide, which come to these, where the ones before have these forms.
 pub record ReadSoFar (texts : List (List ℕ)) (file : ℕ) (read : List (List Form)) (sources : List Source) : Type 0 where
@@ -169,11 +162,11 @@ pub record ReadSoFar (texts : List (List ℕ)) (file : ℕ) (read : List (List F
   pub are_read : AreReadWithPrelude texts whole
   pub same : come_to whole ≡ together read file sources
 
--- texts come to this, which has this answer, whatever the command is
+-- texts come to this, which has this answer, whatever is done with an accepted program
 pub record EndsRead (texts : List (List ℕ)) (ended : Ended) : Type 0 where
   pub sources : List Source
   pub are_read : AreReadWithPrelude texts sources
-  pub ends : (command : Command) → EndsEarly (answer_on command (come_to sources)) ended
+  pub ends : (on : OnAccepted) → EndsEarly (answer_on on (come_to sources)) ended
 
 -- the texts come to the trees of these forms
 pub record AreTrees (texts : List (List ℕ)) (files : List (List Form)) : Type 0 where

@@ -14,9 +14,9 @@ use Rattle.fac_code.specs.ImageNames.{image_names}
 use Rattle.fac_store.specs.MachineValues.{MValue, machine_values}
 use Rattle.fac_store.specs.ValueTrees.{StoreSeen, objects_of, trees_of, value_in}
 use Rattle.fac_store.specs.declared.value.Value.{Value as MachineValue}
-use Rattle.fac_vm.specs.Machine.{Machine, starting, first_world}
+use Rattle.fac_machine.specs.Machine.{Machine, starting, first_world}
 use Rattle.fac_vm.specs.SeenMachine.{MachineSeen, stack_in}
-use Rattle.fac_emit.specs.Carries.{Carries}
+use Rattle.fac_carry.specs.Carries.{Carries}
 use Rattle.fac_notes.specs.WordNames.{word_name}
 use Rattle.fac_tool.specs.Answer.{meaning, shown_text}
 

@@ -10,7 +10,7 @@ use Rattle.fac_vocab.specs.declared.answers.ScopeFault.{ScopeFault}
 use Rattle.fac_vocab.specs.declared.answers.ScopeFault.TheVariants.{Unknown as Missing, Memory}
 use Rattle.std.specs.Global.{Vec}
 use Rattle.fac_vocab.specs.Scopes.{Entry, Brought, named, word_held, or_else, same_table, put_in_order, all_used, holders, now_defined, with_vocab}
-use Rattle.fac_lang.specs.declared.program.Name.{Name as FullName}
+use Rattle.fac_base.specs.declared.name.Name.{Name as FullName}
 
 -- the numbers of the entries of a name, where the first entry has number k
 abbrev pub numbers_named : ℕ → List ℕ → List Entry → List ℕ

@@ -1,5 +1,5 @@
 use Rattle.std.proofs.Common.{◌≡◌, drop}
-use Rattle.fac_lang.specs.EffectView.{inputs_tree}
+use Rattle.fac_base.specs.EffectView.{inputs_tree}
 use Rattle.fac_check.specs.Verdicts.{any_quoted}
 use Rattle.fac_check.proofs.checker.any_quotation.Given as goal
 

@@ -1,7 +1,7 @@
 use Rattle.std.proofs.Common.{◌∙◌, ap, sym}
 use Rattle.fac_abs.specs.SeenMarks.{base_seen}
 use Rattle.fac_check.specs.declared.walker.Walked.TheVariants.{Found}
-use Rattle.fac_lang.specs.RowVariables.{effect_leaving}
+use Rattle.fac_abs.specs.RowVariables.{effect_leaving}
 use Rattle.fac_check.specs.Verdicts.{end_of, kept_word}
 use Rattle.fac_check.specs.inner.Walking.{walked_seen}
 use Rattle.fac_check.proofs.checker.kept.Goals as goal

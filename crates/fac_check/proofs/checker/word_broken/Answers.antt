@@ -1,7 +1,7 @@
 use Rattle.std.proofs.Common.{◌≡◌, true, length, refl, ◌∙◌, ap, sym, subst}
-use Rattle.fac_lang.specs.Signatures.{Signature}
+use Rattle.fac_base.specs.Signatures.{Signature}
 use Rattle.fac_lang.specs.Substitution.{of_method}
-use Rattle.fac_lang.specs.declared.phrase.Place.{Place}
+use Rattle.fac_base.specs.declared.place.Place.{Place}
 use Rattle.fac_abs.proofs.EqualMarks.{and_first}
 use Rattle.fac_check.specs.Verdicts.{no_generic_effect}
 use Rattle.fac_check.specs.inner.BrokenRules.{generic_rule}
@@ -14,8 +14,8 @@ use Rattle.fac_check.proofs.checker.word_broken.Goals as goal
 pub phrase_broken-requires-clause-phrase : goal.phrase_broken-requires-clause-phrase
 phrase_broken-requires-clause-phrase c = subst (λ x. takes_sort c.args.closed.now.program.top (length c.args.closed.now.templates) x ≡ true) c.in-Body.is (and_first _ _ c.requires.word)
 
-pub ordinary_broken-requires-clause-phrase : goal.ordinary_broken-requires-clause-phrase
-ordinary_broken-requires-clause-phrase c = subst (λ x. takes_sort c.args.closed.now.program.top (length c.args.closed.now.templates) x ≡ true) c.in-Method.is (and_first _ _ c.requires.word)
+pub ordinary_broken-requires : goal.ordinary_broken-requires
+ordinary_broken-requires c = subst (λ x. takes_sort c.args.closed.now.program.top (length c.args.closed.now.templates) x ≡ true) c.in-Method.is (and_first _ _ c.requires.word)
 
 pub returns-then-has_bad_rows : goal.returns-then-has_bad_rows
 returns-then-has_bad_rows c = λ P closes whole d at word opens leads.

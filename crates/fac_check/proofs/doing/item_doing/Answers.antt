@@ -1,6 +1,6 @@
 use Rattle.std.proofs.Common.{◌≡◌, inl, inr, ℕ, refl, ap, subst, ◌∙◌}
 use Rattle.std.specs.Prelude.{nat_lt, slice_get}
-use Rattle.fac_lang.specs.declared.phrase.Height.{Height}
+use Rattle.fac_base.specs.declared.height.Height.{Height}
 use Rattle.fac_lang.specs.Phrases.{lit, wrd, lit_arr, word, call_eff, exec_eff, next_method, next_after}
 use Rattle.fac_lang.specs.PhraseView.{what_item}
 use Rattle.fac_lang.specs.declared.phrase.What.{What}

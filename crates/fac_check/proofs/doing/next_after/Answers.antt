@@ -1,7 +1,7 @@
 use Rattle.std.proofs.Common.{length, ap, ◌∙◌}
 use Rattle.fac_abs.specs.SeenMarks.{stack_of}
 use Rattle.fac_check.proofs.ClassDoings.{generic_there, next_by, next_none}
-use Rattle.fac_lang.specs.declared.phrase.Height.{Height}
+use Rattle.fac_base.specs.declared.height.Height.{Height}
 use Rattle.fac_check.specs.Flow.{by_height}
 use Rattle.fac_check.proofs.TakenPrograms.{word_taken}
 use Rattle.fac_check.proofs.WordItems.{ok_maps}

@@ -11,20 +11,10 @@ unfolding operation_does
 returns-in-Shuffle-clause-does c =
     ok_maps c.shuffle.result (λ r does p e ins outs N words b. does N words b ∙ operation_walked c.args.number (operation.Shuffle c.in-Shuffle.takes c.in-Shuffle.leaves) p b (stack_of N c.args.marks.now c.args.stack) c.in-Shuffle.ensures e) c.shuffle.ensures.does
 
-pub returns-in-Curry-clause-does : goal.returns-in-Curry-clause-does
-unfolding operation_does
-returns-in-Curry-clause-does c =
-    ok_maps c.curry.result (λ r does p e ins outs N words b. does N words b ∙ operation_walked c.args.number operation.Curry p b (stack_of N c.args.marks.now c.args.stack) c.in-Curry.ensures e) c.curry.ensures.does
-
-pub returns-in-Compose-clause-does : goal.returns-in-Compose-clause-does
-unfolding operation_does
-returns-in-Compose-clause-does c =
-    ok_maps c.compose.result (λ r does p e ins outs N words b. does N words b ∙ operation_walked c.args.number operation.Compose p b (stack_of N c.args.marks.now c.args.stack) c.in-Compose.ensures e) c.compose.ensures.does
-
 pub returns-in_default : goal.returns-in_default
 returns-in_default c =
     record {
       grows = c.by_height.ensures.grows;
       there = c.by_height.ensures.there;
-      does = ok_maps c.by_height.result (λ r does p e ins outs N words b. does N words b ∙ other_walked c.args.number c.operation_of.result p c.args.height.ins c.args.height.outs b (stack_of N c.args.marks.now c.args.stack) c.operation_of.ensures e ins outs (other_kind c.operation_of.result c.in_default.not-Shuffle c.in_default.not-Curry c.in_default.not-Compose)) c.by_height.ensures.does;
+      does = ok_maps c.by_height.result (λ r does p e ins outs N words b. does N words b ∙ other_walked c.args.number c.operation_of.result p c.args.height.ins c.args.height.outs b (stack_of N c.args.marks.now c.args.stack) c.operation_of.ensures e ins outs (other_kind c.operation_of.result c.in_default.not-Shuffle c.in_default.not-Storing)) c.by_height.ensures.does;
     }

@@ -1,18 +1,15 @@
 use Rattle.std.proofs.Common.{refl, sym, ap, ◌∙◌}
 use Rattle.std.specs.Prelude.{slice_get}
-use Rattle.fac_lang.specs.declared.phrase.Height.{Height}
+use Rattle.fac_base.specs.declared.height.Height.{Height}
 use Rattle.fac_lang.specs.declared.program.Sort.TheVariants.{Core as core, Prim as prim}
 use Rattle.fac_abs.specs.SeenMarks.{stack_of, base_seen}
 use Rattle.fac_check.specs.inner.Walking.{only, effect_of}
 use Rattle.fac_check.proofs.BuiltWords.{built_primitive_word}
 use Rattle.fac_check.proofs.ClosedSorts.{plain_sort, is_body}
 use Rattle.fac_check.proofs.DoingLemmas.{doing_of}
-use Rattle.fac_check.proofs.TakenPrograms.{core_below, primitive_below}
+use Rattle.fac_check.proofs.TakenPrograms.{primitive_below}
 use Rattle.fac_check.proofs.WordItems.{ok_maps, item_of, prim_item, prim_ins, prim_outs, body_item}
 use Rattle.fac_check.proofs.doing.word_item.Goals as goal
-
-pub core-requires-clause-number : goal.core-requires-clause-number
-core-requires-clause-number c = core_below c.requires.word.0 c.requires.word.1 c.in-Core.core_number c.args.word.now c.requires.word.2 c.in-Core.is
 
 pub primitive-requires-clause-number : goal.primitive-requires-clause-number
 primitive-requires-clause-number c = primitive_below c.requires.word.0 c.requires.word.1 c.in-Prim.primitive_number c.args.word.now c.requires.word.2 c.in-Prim.is
@@ -41,7 +38,7 @@ returns-in-Core-clause-there c = ok_maps c.core.result (λ r there. doing_of (on
 
 pub returns-in-Core-clause-does : goal.returns-in-Core-clause-does
 returns-in-Core-clause-does c =
-    let k = c.in-Core.core_number in
+    let k = c.in-Core.core_word in
     let w = c.args.word.now in
     ok_maps c.core.result
     (λ r does P d stands low at whole closes N own.

@@ -1,5 +1,5 @@
 use Rattle.std.proofs.Common.{ℕ, Some, sym, ap, ◌∙◌}
-use Rattle.fac_lang.specs.declared.phrase.Height.{Height}
+use Rattle.fac_base.specs.declared.height.Height.{Height}
 use Rattle.fac_check.specs.TemplateWalks.{found_height}
 use Rattle.fac_check.specs.declared.walker.Walked.TheVariants.{Found}
 use Rattle.fac_check.specs.inner.Walking.{walked_seen}

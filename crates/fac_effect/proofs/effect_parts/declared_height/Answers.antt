@@ -1,6 +1,6 @@
 use Rattle.std.proofs.Common.{◌≤◌, sym, subst}
-use Rattle.fac_lang.specs.Effects.{effect_height}
-use Rattle.fac_lang.specs.Signatures.{Signature}
+use Rattle.fac_base.specs.Effects.{effect_height}
+use Rattle.fac_base.specs.Signatures.{Signature}
 use Rattle.fac_effect.proofs.EffectLemmas.{anywhere}
 use Rattle.fac_effect.proofs.RowlessLemmas.{few_inputs}
 use Rattle.fac_effect.proofs.effect_parts.declared_height.Goals as goal

@@ -1,5 +1,5 @@
 use Rattle.std.proofs.Common.{sym, ◌∙◌, ap, ◌++◌, ◌∷◌, [], List, ℕ}
-use Rattle.fac_lang.specs.EffectView.{inputs_tree}
+use Rattle.fac_base.specs.EffectView.{inputs_tree}
 use Rattle.fac_effect.specs.inner.EffectParts.{names_of}
 use Rattle.fac_effect.proofs.PartLemmas.{more_names}
 use Rattle.fac_effect.proofs.effect_parts.names.Goals as goal

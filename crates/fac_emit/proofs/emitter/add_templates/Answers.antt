@@ -1,5 +1,5 @@
 use Rattle.std.proofs.Common.{arith, [], ◌∷◌, ◌++◌, length, Option, ap, ◌∙◌}
-use Rattle.fac_lang.specs.declared.phrase.Height.{Height}
+use Rattle.fac_base.specs.declared.height.Height.{Height}
 use Rattle.fac_emit.specs.ProgramCode.{row_at}
 use Rattle.fac_emit.proofs.EmitLemmas.{template_code_step, template_rows_step}
 use Rattle.fac_emit.proofs.emitter.add_templates.Goals as goal

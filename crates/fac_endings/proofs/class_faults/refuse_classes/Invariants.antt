@@ -1,5 +1,5 @@
 use Rattle.std.proofs.Common.{◌≡◌, ◌+◌, drop, fold}
-use Rattle.fac_refusal.specs.Refusals.{sooner}
+use Rattle.fac_source.specs.Refusals.{sooner}
 use Rattle.fac_endings.specs.LastRefusals.{class_faults}
 use Rattle.fac_endings.proofs.class_faults.refuse_classes.Given as goal
 

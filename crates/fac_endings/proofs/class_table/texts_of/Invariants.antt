@@ -1,5 +1,5 @@
 use Rattle.std.proofs.Common.{◌≡◌, take}
-use Rattle.fac_refusal.specs.Toks.{texts_of}
+use Rattle.fac_source.specs.Toks.{texts_of}
 use Rattle.fac_endings.proofs.class_table.texts_of.Given as goal
 
 abbrev pub invariant-loop-tok : goal.invariant-loop-tok

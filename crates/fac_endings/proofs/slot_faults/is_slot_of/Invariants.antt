@@ -1,5 +1,5 @@
 use Rattle.std.proofs.Common.{◌≡◌, drop}
-use Rattle.fac_refusal.specs.Toks.{is_among}
+use Rattle.fac_source.specs.Toks.{is_among}
 use Rattle.fac_endings.specs.inner.Chains.{slots_of}
 use Rattle.fac_endings.proofs.slot_faults.is_slot_of.Given as goal
 

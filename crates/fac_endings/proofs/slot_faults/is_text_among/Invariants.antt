@@ -1,5 +1,5 @@
 use Rattle.std.proofs.Common.{◌≡◌, drop}
-use Rattle.fac_refusal.specs.Toks.{is_among}
+use Rattle.fac_source.specs.Toks.{is_among}
 use Rattle.fac_endings.proofs.slot_faults.is_text_among.Given as goal
 
 abbrev pub invariant-loop-other : goal.invariant-loop-other

@@ -1,5 +1,5 @@
 use Rattle.std.proofs.Common.{◌≡◌, drop, fold, take}
-use Rattle.fac_refusal.specs.Refusals.{sooner}
+use Rattle.fac_source.specs.Refusals.{sooner}
 use Rattle.fac_endings.specs.LastRefusals.{slot_faults}
 use Rattle.fac_endings.specs.inner.Chains.{slots_of}
 use Rattle.fac_endings.proofs.FaultLemmas.{and_text}

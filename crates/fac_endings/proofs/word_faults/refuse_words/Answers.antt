@@ -1,7 +1,7 @@
 use Rattle.std.proofs.Common.{[], List, Option, Some, ◌≡◌, ◌+◌, ap, sym, subst, ◌∙◌, take, drop, fold}
 use Rattle.std.specs.Prelude.{◌||◌}
 use Rattle.fac_lang.specs.declared.program.WordDef.{WordDef}
-use Rattle.fac_refusal.specs.Refusals.{sooner}
+use Rattle.fac_source.specs.Refusals.{sooner}
 use Rattle.fac_endings.specs.declared.methods.MethodKey.{MethodKey}
 use Rattle.fac_endings.specs.LastRefusals.{words_faults}
 use Rattle.fac_endings.specs.inner.MethodKeys.{is_kept, same_as}

@@ -1,5 +1,5 @@
 use Rattle.std.proofs.Common.{◌≡◌, Some, [], drop, fold, take}
-use Rattle.fac_refusal.specs.Refusals.{sooner}
+use Rattle.fac_source.specs.Refusals.{sooner}
 use Rattle.fac_endings.specs.LastRefusals.{words_faults}
 use Rattle.fac_endings.specs.declared.methods.MethodKey.{MethodKey}
 use Rattle.fac_endings.specs.inner.MethodKeys.{is_kept}

@@ -1,5 +1,5 @@
 use Rattle.std.proofs.Common.{◌+◌, ◌-◌, ◌∙◌, arith, ap, length, drop, take, ◌++◌, List, ℕ}
-use Rattle.fac_lang.specs.declared.limits.TheConstants.{MOST_LINE_BYTES}
+use Rattle.fac_base.specs.declared.limits.TheConstants.{MOST_LINE_BYTES}
 use Rattle.fac_lines.specs.LineReads.{line_length}
 use Rattle.fac_lines.proofs.CutLemmas.{front_joined, cut_found, cut_long}
 use Rattle.fac_lines.proofs.cutting.cut_line.Goals as goal

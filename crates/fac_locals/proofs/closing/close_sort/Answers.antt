@@ -3,8 +3,8 @@ use Rattle.fac_lang.specs.Phrases.{Phrase}
 use Rattle.fac_lang.specs.declared.program.Sort.TheVariants.{Body as body, Method as method}
 use Rattle.fac_locals.proofs.closing.close_sort.Goals as goal
 
-pub returns-in_ok-close_whole-in-Body : goal.returns-in_ok-close_whole-in-Body
-returns-in_ok-close_whole-in-Body c = rw c.in-Body.is (ap (λ (t : Phrase). body t) c.in_ok-close_whole-in-Body.ensures.0, c.in_ok-close_whole-in-Body.ensures.1)
+pub returns-in_ok-body-in-Body : goal.returns-in_ok-body-in-Body
+returns-in_ok-body-in-Body c = rw c.in-Body.is (ap (λ (t : Phrase). body t) c.in_ok-body-in-Body.ensures.0, c.in_ok-body-in-Body.ensures.1)
 
 pub returns-in_ok-body-in-Method : goal.returns-in_ok-body-in-Method
 returns-in_ok-body-in-Method c = rw c.in-Method.is (ap (λ (t : Phrase). method c.in-Method.class c.in-Method.generic t) c.in_ok-body-in-Method.ensures.0, c.in_ok-body-in-Method.ensures.1)

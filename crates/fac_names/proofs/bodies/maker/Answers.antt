@@ -1,8 +1,8 @@
 use Rattle.std.proofs.Common.{false, ap, ◌∙◌}
 use Rattle.fac_lang.specs.Phrases.{end, then, word}
 use Rattle.fac_lang.specs.declared.program.Sort.TheVariants.{Body as body}
-use Rattle.fac_refusal.specs.Toks.{number}
-use Rattle.fac_refusal.specs.declared.tok.Ref.{Ref}
+use Rattle.fac_source.specs.Toks.{number}
+use Rattle.fac_source.specs.declared.tok.Ref.{Ref}
 use Rattle.fac_items.specs.FromElements.{tok}
 use Rattle.fac_items.specs.Items.{ref}
 use Rattle.fac_endings.specs.Words.{no_effect}

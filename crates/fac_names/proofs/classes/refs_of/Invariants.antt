@@ -1,5 +1,5 @@
 use Rattle.std.proofs.Common.{◌≡◌, ◌++◌, drop, fold, map}
-use Rattle.fac_refusal.specs.Refusals.{sooner}
+use Rattle.fac_source.specs.Refusals.{sooner}
 use Rattle.fac_items.specs.Items.{ref, search_faults}
 use Rattle.fac_names.specs.inner.Named.{toks}
 use Rattle.fac_names.proofs.classes.refs_of.Given as goal

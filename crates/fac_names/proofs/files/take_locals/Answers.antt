@@ -1,5 +1,5 @@
 use Rattle.std.proofs.Common.{List, map, ap, sym, ◌∙◌, subst}
-use Rattle.fac_lang.specs.declared.token.Token.{Token}
+use Rattle.fac_source.specs.declared.token.Token.{Token}
 use Rattle.fac_effect.specs.WrittenEffects.{IsEffect}
 use Rattle.fac_items.specs.inner.Behind.{name_tok}
 use Rattle.fac_names.specs.WrittenInputs.{written_inputs}

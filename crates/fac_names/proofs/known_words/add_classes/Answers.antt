@@ -1,7 +1,6 @@
 use Rattle.std.proofs.Common.{◌≡◌, List, [], ◌++◌, drop, refl, sym, ap, ◌∙◌, arith}
 use Rattle.std.proofs.lemmas.Grind.{common_steps}
-use Rattle.fac_lang.specs.BuiltInClasses.{BuiltInClass}
-use Rattle.fac_lang.specs.WrittenWords.{written_class}
+use Rattle.fac_lang.specs.BuiltInClasses.{BuiltInClass, written_class}
 use Rattle.fac_names.specs.KnownWords.{class_words_from}
 use Rattle.fac_names.proofs.KnownWordLemmas.{all_added, class_fits}
 use Rattle.fac_names.proofs.known_words.add_classes.Goals as goal

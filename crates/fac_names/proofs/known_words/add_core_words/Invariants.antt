@@ -1,5 +1,5 @@
 use Rattle.std.proofs.Common.{◌≡◌, ◌++◌, map, drop}
-use Rattle.fac_lang.specs.WrittenWords.{written_core}
+use Rattle.fac_lang.specs.CoreWords.{written_core}
 use Rattle.fac_names.specs.KnownWords.{core_words_of}
 use Rattle.fac_names.proofs.known_words.add_core_words.Given as goal
 

@@ -1,8 +1,7 @@
 use Rattle.std.proofs.Common.{◌≡◌, List, [], ◌++◌, drop, refl, sym, ap, ◌∙◌, arith}
 use Rattle.std.proofs.lemmas.Grind.{common_steps}
-use Rattle.fac_lang.specs.BuiltInClasses.{BuiltInClass, built_in_classes}
+use Rattle.fac_lang.specs.BuiltInClasses.{BuiltInClass, built_in_classes, written_class}
 use Rattle.fac_lang.specs.declared.program.ClassDef.{ClassDef}
-use Rattle.fac_lang.specs.WrittenWords.{written_class}
 use Rattle.fac_names.specs.KnownWords.{classes_from, known_classes}
 use Rattle.fac_names.proofs.KnownWordLemmas.{all_added, class_fits}
 use Rattle.fac_names.proofs.known_words.first_classes.Goals as goal

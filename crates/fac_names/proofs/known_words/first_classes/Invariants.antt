@@ -1,5 +1,5 @@
 use Rattle.std.proofs.Common.{◌≡◌, map, drop}
-use Rattle.fac_lang.specs.WrittenWords.{written_class}
+use Rattle.fac_lang.specs.BuiltInClasses.{written_class}
 use Rattle.fac_names.specs.KnownWords.{classes_from}
 use Rattle.fac_names.proofs.KnownWordLemmas.{and_from}
 use Rattle.fac_names.proofs.known_words.first_classes.Given as goal

@@ -1,5 +1,5 @@
 use Rattle.std.proofs.Common.{sym, ◌∙◌, ap, arith, true, false, drop, ◌+◌}
-use Rattle.fac_lang.specs.Numbers.{decimal_in}
+use Rattle.fac_base.specs.Numbers.{decimal_in}
 use Rattle.fac_num.specs.inner.NumberSteps.{capped_some}
 use Rattle.fac_num.proofs.IntegerForms.{decimal_grouped, groups_digit, groups_comma, groups_at}
 use Rattle.fac_num.proofs.read.decimal.Goals as goal

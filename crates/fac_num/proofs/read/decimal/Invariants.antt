@@ -1,5 +1,5 @@
 use Rattle.std.proofs.Common.{◌≡◌, ◌<◌, ◌^◌, drop}
-use Rattle.fac_lang.specs.Numbers.{decimal_in}
+use Rattle.fac_base.specs.Numbers.{decimal_in}
 use Rattle.fac_num.specs.inner.NumberSteps.{capped_some, grouped_from}
 use Rattle.fac_num.proofs.read.decimal.Given as goal
 

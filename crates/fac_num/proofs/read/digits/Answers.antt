@@ -1,5 +1,5 @@
 use Rattle.std.proofs.Common.{sym, ◌∙◌}
-use Rattle.fac_lang.specs.Numbers.{digits_in}
+use Rattle.fac_base.specs.Numbers.{digits_in}
 use Rattle.fac_num.specs.inner.NumberSteps.{capped_some}
 use Rattle.fac_num.proofs.IntegerForms.{digits_step, digits_end}
 use Rattle.fac_num.proofs.read.digits.Goals as goal

@@ -1,5 +1,5 @@
 use Rattle.std.proofs.Common.{◌≡◌, ◌<◌, ◌^◌, drop}
-use Rattle.fac_lang.specs.Numbers.{digits_in, digits_from}
+use Rattle.fac_base.specs.Numbers.{digits_in, digits_from}
 use Rattle.fac_num.specs.inner.NumberSteps.{capped_some}
 use Rattle.fac_num.proofs.read.digits.Given as goal
 

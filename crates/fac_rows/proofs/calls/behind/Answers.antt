@@ -1,6 +1,6 @@
 use Rattle.std.proofs.Common.{◌≡◌, Some, sym, ap, ◌∙◌}
-use Rattle.fac_lang.specs.Signatures.{Signature}
-use Rattle.fac_lang.specs.RowVariables.{row_name, effect_leaving}
+use Rattle.fac_base.specs.Signatures.{Signature}
+use Rattle.fac_abs.specs.RowVariables.{row_name, effect_leaving}
 use Rattle.fac_abs.specs.SeenMarks.{base_seen}
 use Rattle.fac_rows.specs.RowNumbers.{leaving_name}
 use Rattle.fac_rows.proofs.CallLemmas.{output_row, behind_is}

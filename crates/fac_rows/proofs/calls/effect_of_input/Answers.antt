@@ -1,8 +1,8 @@
 use Rattle.std.proofs.Common.{List, length, Some, ap, ◌∙◌}
 use Rattle.std.specs.Prelude.{nat_lt, ◌-◌}
-use Rattle.fac_lang.specs.declared.effect.Input.{Input}
-use Rattle.fac_lang.specs.Signatures.{Signature}
-use Rattle.fac_lang.specs.RowVariables.{effect_inputs, input_effect}
+use Rattle.fac_base.specs.declared.effect.Input.{Input}
+use Rattle.fac_base.specs.Signatures.{Signature}
+use Rattle.fac_abs.specs.RowVariables.{effect_inputs, input_effect}
 use Rattle.fac_rows.proofs.CallLemmas.{no_input, missing_at, input_at, no_quot, some_quot}
 use Rattle.fac_rows.proofs.calls.effect_of_input.Goals as goal
 

@@ -1,8 +1,8 @@
 use Rattle.std.proofs.Common.{◌≡◌, ℕ, List, Option, Some, None, true, sym, ap, ◌∙◌}
 use Rattle.fac_lang.specs.Phrases.{Mark}
-use Rattle.fac_lang.specs.Signatures.{Signature}
-use Rattle.fac_lang.specs.Effects.{inputs_count}
-use Rattle.fac_lang.specs.RowVariables.{Row, named_row, row_name, effect_inputs}
+use Rattle.fac_base.specs.Signatures.{Signature}
+use Rattle.fac_base.specs.Effects.{inputs_count}
+use Rattle.fac_abs.specs.RowVariables.{Row, named_row, row_name, effect_inputs}
 use Rattle.fac_abs.specs.InTurn.{under}
 use Rattle.fac_abs.specs.Marks.{base_eq}
 use Rattle.fac_abs.specs.SeenMarks.{base_seen, stack_of}

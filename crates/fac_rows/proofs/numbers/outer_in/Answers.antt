@@ -1,6 +1,6 @@
 use Rattle.std.proofs.Common.{◌≡◌, Some, subst}
-use Rattle.fac_lang.specs.Signatures.{Signature}
-use Rattle.fac_lang.specs.RowVariables.{outer_in}
+use Rattle.fac_base.specs.Signatures.{Signature}
+use Rattle.fac_abs.specs.RowVariables.{outer_in}
 use Rattle.fac_abs.specs.MarkTrees.{Naming}
 use Rattle.fac_rows.specs.RowNumbers.{NamesRows}
 use Rattle.fac_rows.proofs.CallLemmas.{outer_in_first}

@@ -1,6 +1,6 @@
 use Rattle.std.proofs.Common.{◌≡◌, Some, subst, sym, ap, ◌∙◌}
-use Rattle.fac_lang.specs.Signatures.{Signature}
-use Rattle.fac_lang.specs.RowVariables.{outer_out}
+use Rattle.fac_base.specs.Signatures.{Signature}
+use Rattle.fac_abs.specs.RowVariables.{outer_out}
 use Rattle.fac_abs.specs.MarkTrees.{Naming}
 use Rattle.fac_rows.specs.RowNumbers.{NamesRows, is_named}
 use Rattle.fac_rows.proofs.CallLemmas.{outer_out_first, outer_out_second}

@@ -1,5 +1,5 @@
 use Rattle.std.proofs.Common.{◌≡◌, drop}
-use Rattle.fac_lang.specs.EffectView.{inputs_tree}
+use Rattle.fac_base.specs.EffectView.{inputs_tree}
 use Rattle.fac_rows.specs.RowNumbers.{inputs_sides, side_number}
 use Rattle.fac_rows.proofs.numbers.side_of_inputs.Given as goal
 

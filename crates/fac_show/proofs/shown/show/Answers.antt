@@ -1,6 +1,6 @@
 use Rattle.std.proofs.Common.{ℕ, List, Err, string_bytes, subst}
 use Rattle.fac_lang.specs.Printed.{printed}
-use Rattle.fac_lang.specs.declared.limits.TheConstants.{MOST_PRINTED_LEVELS}
+use Rattle.fac_base.specs.declared.limits.TheConstants.{MOST_PRINTED_LEVELS}
 use Rattle.fac_code.specs.ImageNames.{image_names}
 use Rattle.fac_store.specs.MachineValues.{machine_values}
 use Rattle.fac_store.specs.ValueTrees.{trees_of, value_in}

@@ -3,4 +3,6 @@ use Rattle.fac_tool.proofs.saving.image_bytes.Goals as goal
 pub returns : goal.returns
 returns c =
     let linked = c.in_ok-linked.ensures in
-    λ P stands. record { image = c.in_ok-linked.linked.image; spelled = linked.0.spelled; carries = (linked.1 P stands).carries; short = linked.0.short }
+    λ P stands.
+    let whole = linked.1 P stands in
+    record { image = c.in_ok-linked.linked.image; spelled = linked.0.spelled; carries = whole.carried.carries; effects = whole.effects; short = linked.0.short }

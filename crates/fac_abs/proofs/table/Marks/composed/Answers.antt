@@ -1,5 +1,6 @@
 -- As for `curried`. The goals of each function are a module of its own, so answers of one shape are written for each.
 use Rattle.std.proofs.Common.{◌≡◌, ◌<◌, true, sym, ap, ◌∙◌, arith}
+use Rattle.fac_base.specs.declared.limits.TheConstants.{MOST_MARK_DEPTH}
 use Rattle.fac_abs.specs.declared.mark_node.MarkNode.TheVariants.{Com}
 use Rattle.fac_abs.specs.Marks.{mark_depth, is_callable, composed_mark}
 use Rattle.fac_abs.specs.MarkTrees.{Naming, tree, trees}
@@ -21,8 +22,8 @@ returns-clause-made c =
     λ N.
     let first : is_callable (mark_of N M c.args.first) ≡ true = sym (c.is_callable.ensures N) ∙ c.if-not-is_callable.false in
     let second : is_callable (mark_of N M c.args.second) ≡ true = sym (c.is_callable-2.ensures N) ∙ c.if-not-is_callable-2.false in
-    let deep : mark_depth (mark_of N M c.args.first) < 64 = omega (arith, c.depth-deep.ensures N) in
-    let other : mark_depth (mark_of N M c.args.second) < 64 = omega (arith, c.depth-other.ensures N) in
+    let deep : mark_depth (mark_of N M c.args.first) < MOST_MARK_DEPTH = omega (arith, c.depth-deep.ensures N) in
+    let other : mark_depth (mark_of N M c.args.second) < MOST_MARK_DEPTH = omega (arith, c.depth-other.ensures N) in
     com_reads N M c.args.first c.args.second ∙ sym (composed_kept (mark_of N M c.args.first) (mark_of N M c.args.second) first second deep other) in
     renamed c.make.new.self _ _ made c.make.result c.make.ensures.made
 

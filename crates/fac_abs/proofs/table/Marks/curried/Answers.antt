@@ -1,5 +1,6 @@
 -- As for `composed`. The goals of each function are a module of its own, so answers of one shape are written for each.
 use Rattle.std.proofs.Common.{◌≡◌, ◌<◌, true, sym, ap, ◌∙◌, arith}
+use Rattle.fac_base.specs.declared.limits.TheConstants.{MOST_MARK_DEPTH}
 use Rattle.fac_abs.specs.declared.mark_node.MarkNode.TheVariants.{Cur}
 use Rattle.fac_abs.specs.Marks.{mark_depth, is_callable, curried_mark}
 use Rattle.fac_abs.specs.MarkTrees.{Naming, tree, trees}
@@ -20,8 +21,8 @@ returns-clause-made c =
     let made : (N : Naming) → tree N M.frames (trees N M.frames M.nodes) (Cur c.args.mark c.args.callable) ≡ curried_mark (mark_of N M c.args.mark) (mark_of N M c.args.callable) =
     λ N.
     let callable : is_callable (mark_of N M c.args.callable) ≡ true = sym (c.is_callable.ensures N) ∙ c.if-not-is_callable.false in
-    let first : mark_depth (mark_of N M c.args.mark) < 64 = omega (arith, c.depth-first.ensures N) in
-    let second : mark_depth (mark_of N M c.args.callable) < 64 = omega (arith, c.depth-second.ensures N) in
+    let first : mark_depth (mark_of N M c.args.mark) < MOST_MARK_DEPTH = omega (arith, c.depth-first.ensures N) in
+    let second : mark_depth (mark_of N M c.args.callable) < MOST_MARK_DEPTH = omega (arith, c.depth-second.ensures N) in
     cur_reads N M c.args.mark c.args.callable ∙ sym (curried_kept (mark_of N M c.args.mark) (mark_of N M c.args.callable) callable first second) in
     renamed c.make.new.self _ _ made c.make.result c.make.ensures.made
 

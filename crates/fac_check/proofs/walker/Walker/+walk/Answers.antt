@@ -10,11 +10,11 @@ use Rattle.fac_locals.specs.Literals.{first_of_word, first_of_literal, literal_n
 use Rattle.fac_locals.specs.Frames.{Opens}
 use Rattle.fac_check.specs.declared.subject.Subject.{Subject}
 use Rattle.fac_abs.proofs.SeenLemmas.{grows_refl, grows_trans}
-use Rattle.fac_lang.specs.Signatures.{signature}
-use Rattle.fac_lang.specs.declared.effect.Input.{Input}
-use Rattle.fac_lang.specs.EffectView.{inputs_tree, outs_leaving}
-use Rattle.fac_lang.specs.Effects.{effect_height}
-use Rattle.fac_lang.proofs.EffectLemmas.{inputs_counted}
+use Rattle.fac_base.specs.Signatures.{signature}
+use Rattle.fac_base.specs.declared.effect.Input.{Input}
+use Rattle.fac_base.specs.EffectView.{inputs_tree, outs_leaving}
+use Rattle.fac_base.specs.Effects.{effect_height}
+use Rattle.fac_base.proofs.EffectLemmas.{inputs_counted}
 use Rattle.fac_rows.specs.SeenBindings.{binding_seen, IsStart, IsTie}
 use Rattle.fac_rows.proofs.BindingLemmas.{binding_later}
 use Rattle.fac_check.proofs.UseWalks.{inputs_next, quotation_refused, quotation_tied, quotation_untied, used_effect}

@@ -1,6 +1,6 @@
 use Rattle.std.proofs.Common.{◌∙◌, sym, ap, subst, Some}
-use Rattle.fac_lang.specs.Effects.{inputs_count}
-use Rattle.fac_lang.specs.RowVariables.{effect_inputs}
+use Rattle.fac_base.specs.Effects.{inputs_count}
+use Rattle.fac_abs.specs.RowVariables.{effect_inputs}
 use Rattle.fac_abs.specs.SeenMarks.{mark_of, stack_of, base_seen}
 use Rattle.fac_abs.specs.declared.reached.Reached.{Reached}
 use Rattle.fac_rows.specs.SeenBindings.{IsStart}

@@ -1,7 +1,7 @@
 use Rattle.std.proofs.Common.{◌≡◌, suc, ◌∷◌, drop, drop-cons, sym, ap, subst, ◌∙◌}
-use Rattle.fac_lang.specs.declared.effect.Input.{Input}
-use Rattle.fac_lang.specs.Effects.{inputs_count}
-use Rattle.fac_lang.specs.RowVariables.{row_name, effect_inputs}
+use Rattle.fac_base.specs.declared.effect.Input.{Input}
+use Rattle.fac_base.specs.Effects.{inputs_count}
+use Rattle.fac_abs.specs.RowVariables.{row_name, effect_inputs}
 use Rattle.fac_abs.specs.MarkPromises.{HasTop}
 use Rattle.fac_abs.specs.SeenMarks.{mark_of}
 use Rattle.fac_rows.specs.RowBinding.{start_row}

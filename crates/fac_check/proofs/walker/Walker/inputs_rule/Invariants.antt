@@ -1,5 +1,5 @@
 use Rattle.std.proofs.Common.{◌≡◌, drop}
-use Rattle.fac_lang.specs.EffectView.{inputs_tree}
+use Rattle.fac_base.specs.EffectView.{inputs_tree}
 use Rattle.fac_abs.specs.SeenMarks.{IsStack, stack_of}
 use Rattle.fac_rows.specs.SeenBindings.{binding_seen}
 use Rattle.fac_check.specs.Flow.{use_rule}

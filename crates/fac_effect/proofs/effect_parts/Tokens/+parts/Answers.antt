@@ -1,5 +1,5 @@
 use Rattle.std.proofs.Common.{List, ℕ, length, sym, ap, ◌∙◌, arith}
-use Rattle.fac_lang.specs.Signatures.{Signature, quoted, no_inputs}
+use Rattle.fac_base.specs.Signatures.{Signature, quoted, no_inputs}
 use Rattle.fac_effect.specs.inner.EffectParts.{behind_first}
 use Rattle.fac_effect.proofs.PartLemmas as lemma
 use Rattle.fac_effect.proofs.effect_parts.Tokens.+parts.Goals as goal

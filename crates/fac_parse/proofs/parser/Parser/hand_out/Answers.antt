@@ -1,5 +1,5 @@
 use Rattle.std.proofs.Common.{List, refl, ap, ◌∙◌}
-use Rattle.fac_lang.specs.declared.tree.Form.{Form}
+use Rattle.fac_source.specs.declared.tree.Form.{Form}
 use Rattle.fac_parse.specs.declared.parser.Parser.{Parser}
 use Rattle.fac_parse.specs.inner.Reader.{Open, in_state, open_of}
 use Rattle.fac_parse.proofs.ParseLemmas.{hands_out, open_kept}

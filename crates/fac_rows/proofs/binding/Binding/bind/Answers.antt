@@ -1,7 +1,7 @@
 use Rattle.std.proofs.Common.{◌≡◌, sym, ap, ◌∙◌}
-use Rattle.fac_lang.specs.Signatures.{Signature, never}
-use Rattle.fac_lang.specs.EffectView.{outs_leaving}
-use Rattle.fac_lang.specs.RowVariables.{row_name, effect_leaving}
+use Rattle.fac_base.specs.Signatures.{Signature, never}
+use Rattle.fac_base.specs.EffectView.{outs_leaving}
+use Rattle.fac_abs.specs.RowVariables.{row_name, effect_leaving}
 use Rattle.fac_rows.proofs.BindingLemmas.{never_tied}
 use Rattle.fac_rows.proofs.binding.Binding.bind.Goals as goal
 

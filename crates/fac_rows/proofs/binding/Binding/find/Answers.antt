@@ -1,6 +1,6 @@
 use Rattle.std.proofs.Common.{List, reverse, ap, ◌∙◌}
 use Rattle.std.specs.Option.{option_copied}
-use Rattle.fac_lang.specs.RowVariables.{Row}
+use Rattle.fac_abs.specs.RowVariables.{Row}
 use Rattle.fac_abs.specs.declared.reached.Reached.{Reached}
 use Rattle.fac_rows.specs.declared.binding.Bound.{Bound}
 use Rattle.fac_rows.specs.RowBinding.{bound_to}

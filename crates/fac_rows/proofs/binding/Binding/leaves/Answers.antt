@@ -1,7 +1,7 @@
 use Rattle.std.proofs.Common.{◌≡◌, Some, ap, ◌∙◌, subst}
-use Rattle.fac_lang.specs.EffectView.{outs_leaving}
-use Rattle.fac_lang.specs.Signatures.{Leaving}
-use Rattle.fac_lang.specs.RowVariables.{effect_leaving}
+use Rattle.fac_base.specs.EffectView.{outs_leaving}
+use Rattle.fac_base.specs.Signatures.{Leaving}
+use Rattle.fac_abs.specs.RowVariables.{effect_leaving}
 use Rattle.fac_abs.specs.MarkTrees.{Naming}
 use Rattle.fac_abs.specs.SeenMarks.{IsReached, base_seen, stack_of, reached_seen}
 use Rattle.fac_abs.specs.declared.reached.Reached.{Reached}

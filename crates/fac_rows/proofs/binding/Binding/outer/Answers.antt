@@ -1,6 +1,6 @@
 use Rattle.std.proofs.Common.{◌≡◌, Option, Some, sym, ap, ◌∙◌, subst}
-use Rattle.fac_lang.specs.EffectView.{inputs_tree, outs_leaving}
-use Rattle.fac_lang.specs.RowVariables.{Row, hidden, named_row, outer_out}
+use Rattle.fac_base.specs.EffectView.{inputs_tree, outs_leaving}
+use Rattle.fac_abs.specs.RowVariables.{Row, hidden, named_row, outer_out}
 use Rattle.fac_abs.specs.MarkPromises.{IsReachedWhere}
 use Rattle.fac_rows.specs.RowBinding.{row_bound}
 use Rattle.fac_rows.specs.SeenBindings.{binding_seen}

@@ -1,5 +1,5 @@
 use Rattle.std.proofs.Common.{◌≡◌, ℕ, List, Option, Some, sym, ap, ◌∙◌, subst}
-use Rattle.fac_lang.specs.RowVariables.{row_name}
+use Rattle.fac_abs.specs.RowVariables.{row_name}
 use Rattle.fac_abs.specs.Marks.{unknowns}
 use Rattle.fac_abs.specs.SeenMarks.{IsReached, stack_of, reached_seen}
 use Rattle.fac_abs.specs.declared.reached.Reached.{Reached}

@@ -1,4 +1,4 @@
-use Rattle.fac_lang.specs.RowVariables.{named_row}
+use Rattle.fac_abs.specs.RowVariables.{named_row}
 use Rattle.fac_rows.proofs.BindingLemmas.{bound_tied}
 use Rattle.fac_rows.proofs.binding.Binding.tie_row.Goals as goal
 

@@ -1,0 +1,3 @@
+pub mod ExamplesOfNumbers
+pub mod EffectLemmas
+pub mod SameBytes

@@ -1,0 +1,2 @@
+pub mod EffectFalls
+pub mod IntegerHalves

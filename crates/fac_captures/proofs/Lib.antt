@@ -1,5 +1,0 @@
-pub mod SetLemmas
-pub mod CellLemmas
-pub mod AskLemmas
-pub mod MethodCells
-pub mod ExamplesOfAsked

@@ -1,7 +1,0 @@
-use Rattle.std.proofs.Common.{◌∙◌}
-use Rattle.fac_captures.specs.Asked.{has_cell}
-use Rattle.fac_captures.proofs.CellLemmas.{kept_are_captured}
-use Rattle.fac_captures.proofs.keeping.captures_of.Goals as goal
-
-pub returns : goal.returns
-returns c = λ i h. c.in_ok-captures.ensures.ok ∙ c.reverse.ensures.items ∙ c.in_ok-numbers.ensures ∙ kept_are_captured 0 c.args.cells.now i (has_cell c.args.asked) h

@@ -1,0 +1,244 @@
+-- The steps of the cases that call, from what stands behind the call to the case itself.
+use Rattle.std.proofs.Common.{◌≡◌, ◌≢◌, ℕ, zero, suc, ◌+◌, ◌≤◌, ◌<◌, List, [], ◌∷◌, ◌++◌, Bool, true, false, Option, Some, None, refl, ap, sym, subst, ◌∙◌, arith}
+use Rattle.std.specs.Prelude.{slice_get}
+use Rattle.fac_base.specs.declared.place.Place.{Place}
+use Rattle.fac_lang.specs.declared.program.Program.{Program}
+use Rattle.fac_lang.specs.declared.program.Sort.{Sort}
+use Rattle.fac_lang.specs.declared.program.Sort.TheVariants.{Core as core_sort, Body as body, Method as method}
+use Rattle.fac_lang.specs.Phrases.{Phrase, then, Item, word, Value, fun, Callable, of_phrase}
+use Rattle.fac_lang.specs.World.{World, State, pile, push_each}
+use Rattle.fac_lang.specs.Operations.{seen_no}
+use Rattle.fac_lang.specs.Eval.{Result, Stuck, then_do, Act, runs, Run, run_callable}
+use Rattle.fac_base.specs.HeightArithmetic.{fits}
+use Rattle.fac_lang.specs.declared.core_table.CoreWord.{CoreWord}
+use Rattle.fac_lang.specs.declared.core_table.CoreWord.TheVariants.{Call as w_call, Dip as w_dip, If as w_if}
+use Rattle.fac_lang.specs.Meaning.{sort_of, sort_phrase, word_phrase, core_act, sort_act, act}
+use Rattle.fac_lang.proofs.Laws.{Within, within_call}
+use Rattle.fac_code.specs.declared.image.Instr.{Instr}
+use Rattle.fac_code.specs.declared.image.Instr.TheVariants.{Callw, Call, Dip, If, Ret}
+use Rattle.fac_code.specs.declared.image.Image.{Image}
+use Rattle.fac_code.specs.declared.image.WordRow.{WordRow}
+use Rattle.fac_code.specs.declared.image.Action.TheVariants as action
+use Rattle.fac_code.specs.declared.names.TrapWhy.TheVariants.{Kind as t_kind}
+use Rattle.fac_store.specs.MachineValues.{MValue, m_plain, m_fun, MCallable, m_lit, m_cur, m_com, kept_list, m_seen}
+use Rattle.fac_machine.specs.Machine.{Machine, Entry, resume, put_back, enter, Step, goes_on, or_trap, code_of, branch, entering, fetched, step}
+use Rattle.fac_machine.proofs.Leading.{ends_step}
+use Rattle.fac_carry.specs.MachineView.{Templates, value_view, callable_view, values_view, world_view, state_view}
+use Rattle.fac_carry.specs.Stands.{RunsPhrase, HasCode}
+use Rattle.fac_carry.specs.WholeValues as whole
+use Rattle.fac_carry.specs.Symbols.{Sym, Task, do_phrase, AllHere}
+use Rattle.fac_carry.proofs.RunLaws.{free, spares, Stays, stays_phrase, stays_call, live_first, live_rest}
+use Rattle.fac_carry.proofs.SymbolicStacks.{Left, l_phrase, Lies, lies_none, Keeps, keeps_phrase, all_here}
+use Rattle.fac_carry.proofs.WholeValueLemmas.{pile_whole, kept_whole, branch_whole}
+use Rattle.fac_carry.proofs.SamePrimitives.{seen_same}
+use Rattle.fac_carry.specs.Setting.{Setting}
+use Rattle.fac_carry.proofs.Following.{state, HasNoGuard, at, left, Follows, step_before, fetch, spent_here, then_follows, Live, Go}
+use Rattle.fac_carry.proofs.Following.{CallsTo, Templated, first_runs, live_runs, wrong_here, stays_left}
+
+module _ (Y : Setting) where
+  -- short names of what a setting has, as in Following: names under a module's argument aren't handed on without it
+  abbrev P : Program
+  P = Y.program
+
+  abbrev M : Image
+  M = Y.image
+
+  abbrev T : Templates
+  T = Y.texts
+
+  abbrev A : Item → State Value → Act
+  A = act P fits Y.callable_height
+
+  abbrev run : Run
+  run = free A
+
+  abbrev stepping : Machine → ℕ → Step
+  stepping = step M
+
+  abbrev V : World MValue → World Value
+  V = world_view T
+
+  abbrev AllWhole : List MValue → Type 0
+  AllWhole = whole.AllWhole P M
+
+  abbrev Fine : List MValue → List MValue → List MValue → World MValue → Type 0
+  Fine = whole.Fine P M
+
+  abbrev Whole : MValue → Type 0
+  Whole = whole.Whole P M
+
+  abbrev WholeCallable : MCallable → Type 0
+  WholeCallable = whole.WholeCallable P M
+
+  pub pile_views : (put ms : List MValue) → values_view T (pile put ms) ≡ pile (values_view T put) (values_view T ms)
+  pile_views [] ms = refl
+  pile_views (v ∷ put) ms = pile_views put (v ∷ ms)
+
+  -- What runs behind a run that a step entered: at its `ret` the machine goes on behind the instruction, where values are put back.
+  behind : (f : ℕ) (F : List MValue) (last : Option Instr) (t : Phrase) (K : List Task) (pc : ℕ) → Go Y f F last zero [] (do_phrase t ∷ K) (pc + 1) → (R own : List Entry) → HasNoGuard own → (base rs : List MValue) (L : List Left) →
+      Keeps T base K rs L → AllWhole F → AllWhole rs → (put : List MValue) → AllWhole put →
+      ((G : List MValue) (pc2 : ℕ) (ms2 : List MValue) (w2 : World MValue) (m : ℕ) → fetched M (Some Ret) (at G pc2 ms2 rs (own ++ R) w2) m ≡ goes_on (at F (pc + 1) (pile put ms2) rs R w2) m) → (X : ℕ → Result) →
+      Stays X → (s : Machine) (N n : ℕ) → n ≤ f → Within n (X n) → ((m : ℕ) → then_do (X m) (λ st k. left Y (l_phrase t ∷ L) (push_each (values_view T put) st) k) ≢ Stuck) → Follows Y (Some Ret) (own ++ R) rs s N (X n) →
+      Follows Y last R base s N (then_do (X n) (λ st k. left Y (l_phrase t ∷ L) (push_each (values_view T put) st) k))
+  behind f F last t K pc go R own none base rs L h hf hr put hp back_step X stays s N n le within lv first =
+      let rest = λ (st : State Value) (k : ℕ). left Y (l_phrase t ∷ L) (push_each (values_view T put) st) k in
+      let rest_stays = λ (st : State Value). stays_left Y (l_phrase t ∷ L) (push_each (values_view T put) st) in
+      then_follows Y n last R own none base rs s N (X n) rest within first (λ x j G pc2 ms2 w2 m lem ok is does.
+      let live = live_rest X rest stays rest_stays lv n m (state_view T ms2 w2) is in
+      let same = pile_views put ms2 in
+      let ok1 : Fine F rs (pile put ms2) w2 = record { cells = hf; held = hr; values = pile_whole P M put ms2 hp ok.values; objects = ok.objects } in
+      step_before Y last R base x (at F (pc + 1) (pile put ms2) rs R w2) j m _ (does ∙ back_step G pc2 ms2 w2 m)
+      (subst (λ (us : List Value). Follows Y last R base (at F (pc + 1) (pile put ms2) rs R w2) m (left Y (l_phrase t ∷ L) (state us (V w2)) m)) same
+      (go R base (pile put ms2) rs (values_view T (pile put ms2)) (l_phrase t ∷ L) w2 m (omega (arith, lem, le)) ok1 (λ k. subst (λ (us : List Value). left Y (l_phrase t ∷ L) (state us (V w2)) k ≢ Stuck) (sym same) (live k)) lies_none (keeps_phrase h))))
+
+  -- a `ret` goes on behind the call
+  pub ret_resume : (F : List MValue) (pc : ℕ) (R : List Entry) (rs G : List MValue) (pc2 : ℕ) (ms2 : List MValue) (w2 : World MValue) (m : ℕ) → fetched M (Some Ret) (at G pc2 ms2 rs (resume (pc + 1) F ∷ R) w2) m ≡ goes_on (at F (pc + 1) ms2 rs R w2) m
+  ret_resume F pc R rs G pc2 ms2 w2 m = refl
+
+  -- and behind a `dip` it first puts the value back
+  ret_put : (x : MValue) (F : List MValue) (pc : ℕ) (R : List Entry) (rs G : List MValue) (pc2 : ℕ) (ms2 : List MValue) (w2 : World MValue) (m : ℕ) →
+      fetched M (Some Ret) (at G pc2 ms2 rs (put_back x ∷ resume (pc + 1) F ∷ R) w2) m ≡ goes_on (at F (pc + 1) (x ∷ ms2) rs R w2) m
+  ret_put x F pc R rs G pc2 ms2 w2 m = refl
+
+  -- a phrase whose code is called at a place under a frame, and the rest behind the instruction
+  pub called_at : (f : ℕ) (F : List MValue) (last : Option Instr) (x : Instr) (i : Item) (b : Phrase) (p : Place) (t : Phrase) (G : List MValue) (a : ℕ) (S : List Sym) (K : List Task) (pc : ℕ) → AllWhole G → slice_get M.code pc ≡ Some x →
+      CallsTo Y (Some Ret) f G a S b → Go Y f F last zero [] (do_phrase t ∷ K) (pc + 1) → (R : List Entry) (base ms rs : List MValue) (vs : List Value) (L : List Left) (w : World MValue) (n : ℕ) → suc n ≤ f → Fine F rs ms w →
+      Live Y (l_phrase (then i p t) ∷ L) (state vs (V w)) → Lies T S ms vs → Keeps T base K rs L → A i (state vs (V w)) ≡ runs (of_phrase b) (state vs (V w)) [] → fetched M (Some x) (at F pc ms rs R w) (suc n) ≡ goes_on (at G a ms rs (resume (pc + 1) F ∷ R) w) n →
+      Follows Y last R base (at F pc ms rs R w) (suc n) (left Y (l_phrase (then i p t) ∷ L) (state vs (V w)) (suc n))
+  called_at f F last x i b p t G a S K pc hg e calls go R base ms rs vs L w n le ok lv l h acts steps =
+      let s = at F pc ms rs R w in
+      let st = state vs (V w) in
+      let entry = resume (pc + 1) F in
+      let live = live_runs Y i p t L st st (of_phrase b) [] acts lv in
+      let ok1 : Fine G rs ms w = record { cells = hg; held = ok.held; values = ok.values; objects = ok.objects } in
+      let first = step_before Y (Some Ret) (entry ∷ R) rs s (at G a ms rs (entry ∷ R) w) (suc n) n (run b st n) (fetch Y s (suc n) x e ∙ steps)
+      (calls (entry ∷ R) rs ms vs w n (omega (arith, le)) ok1 (live_first (run b st) (left Y (l_phrase t ∷ L)) live) l) in
+      subst (λ (r : Result). Follows Y last R base s (suc n) r) (sym (first_runs Y i p t L st st (of_phrase b) [] n acts))
+      (behind f F last t K pc go R (entry ∷ []) (tt, tt) base rs L h ok.cells ok.held [] tt (ret_resume F pc R rs) (run b st) (stays_phrase A b st) s (suc n) n (omega (arith, le)) (spares A n b st n (omega arith)) live first)
+
+  -- what the item of a word does that runs a phrase
+  pub phrase_runs : (wd : ℕ) (o : Option Sort) (st : State Value) → RunsPhrase o → sort_act P wd o st ≡ runs (of_phrase (sort_phrase P wd o)) st []
+  phrase_runs wd (Some (body b)) st h = refl
+  phrase_runs wd (Some (method c g b)) st h = refl
+  phrase_runs wd (Some _) st h = absurd h
+  phrase_runs wd None st h = absurd h
+
+  word_goes : (wd a : ℕ) (r : WordRow) (F : List MValue) (pc : ℕ) → slice_get M.words wd ≡ Some r → r.action ≡ action.Code a → (ms rs : List MValue) (R : List Entry) (w : World MValue) (n : ℕ) →
+      fetched M (Some (Callw wd false)) (at F pc ms rs R w) (suc n) ≡ goes_on (at [] a ms rs (resume (pc + 1) F ∷ R) w) n
+  word_goes wd a r F pc er ea ms rs R w n =
+      let s = at F pc ms rs (resume (pc + 1) F ∷ R) w in
+      let one = ap (λ o. or_trap o t_kind s n (λ r. or_trap (code_of r.action) t_kind s n (λ d. goes_on (at [] d ms rs (resume (pc + 1) F ∷ R) w) n))) er in
+      let two = ap (λ c. or_trap (code_of c) t_kind s n (λ d. goes_on (at [] d ms rs (resume (pc + 1) F ∷ R) w) n)) ea in
+      one ∙ two
+
+  pub g_word : (f : ℕ) (F : List MValue) (last : Option Instr) (wd a : ℕ) (p : Place) (t : Phrase) (S : List Sym) (K : List Task) (pc : ℕ) → HasCode P M wd a → slice_get M.code pc ≡ Some (Callw wd false) → CallsTo Y (Some Ret) f [] a S (word_phrase P wd) →
+      Go Y f F last zero [] (do_phrase t ∷ K) (pc + 1) → Go Y f F last zero S (do_phrase (then (word wd) p t) ∷ K) pc
+  g_word f F last wd a p t S K pc hc e calls go R base ms rs vs L w zero le ok lv l (keeps_phrase h) = spent_here Y last R base (at F pc ms rs R w) (state vs (V w)) (Some (word wd)) (Callw wd false) e refl refl
+  g_word f F last wd a p t S K pc hc e calls go R base ms rs vs L w (suc n) le ok lv l (keeps_phrase {L = L1} h) =
+      called_at f F last (Callw wd false) (word wd) (word_phrase P wd) p t [] a S K pc tt e calls go R base ms rs vs L1 w n le ok lv l h (phrase_runs wd (sort_of P wd) (state vs (V w)) hc.runs) (word_goes wd a hc.row F pc hc.there hc.does ms rs R w n)
+
+  -- A callable that a step enters. What `compose` made leaves an entry for its second part, which is entered at the `ret` of the first.
+  pub enters : (f : ℕ) → Templated Y f → (c : MCallable) → WholeCallable c → (F : List MValue) (pc : ℕ) (R : List Entry) (base ms : List MValue) (w : World MValue) (n : ℕ) → n < f → Fine [] base ms w →
+      ((m : ℕ) → run_callable run (callable_view T c) (state_view T ms w) m ≢ Stuck) → (s : Machine) (k : ℕ) → stepping s k ≡ entering M c (at F pc ms base R w) n →
+      Follows Y (Some Ret) R base s k (run_callable run (callable_view T c) (state_view T ms w) n)
+  enters f tpl (m_lit q vs) h F pc R base ms w n lt ok lv s k e =
+      let go = ap (λ o. or_trap o t_kind (at F pc ms base R w) n (λ u. goes_on (at (kept_list vs) u.entry ms base R w) n)) h.1 in
+      let ok1 : Fine (kept_list vs) base ms w = record { cells = kept_whole P M vs h.3; held = ok.held; values = ok.values; objects = ok.objects } in
+      step_before Y (Some Ret) R base s (at (kept_list vs) h.0.entry ms base R w) k n _ (e ∙ go) (tpl q h.0 vs h.1 h.2 h.3 R base ms (values_view T ms) w n lt ok1 lv lies_none)
+  enters f tpl (m_cur v c) h F pc R base ms w zero lt ok lv s k e = (at F pc ms base R w, ends_step M s k _ e, refl)
+  enters f tpl (m_cur v c) h F pc R base ms w (suc n) lt ok lv s k e =
+      enters f tpl c h.1 F pc R base (v ∷ ms) w n (omega (arith, lt)) (record { cells = tt; held = ok.held; values = (h.0, ok.values); objects = ok.objects }) (λ m. lv (suc m)) s k e
+  enters f tpl (m_com c d) h F pc R base ms w zero lt ok lv s k e = (at F pc ms base R w, ends_step M s k _ e, refl)
+  enters f tpl (m_com c d) h F pc R base ms w (suc n) lt ok lv s k e =
+      let st = state_view T ms w in
+      let X = run_callable run (callable_view T c) st in
+      let go = run_callable run (callable_view T d) in
+      let live = λ (m : ℕ). lv (suc m) in
+      then_follows Y n (Some Ret) R (enter d ∷ []) (tt, tt) base base s k (X n) go (within_call run (spares A) n (callable_view T c) st n (omega arith))
+      (enters f tpl c h.0 F pc (enter d ∷ R) base ms w n (omega (arith, lt)) ok (live_first X go live) s k e) (λ x j G pc2 ms2 w2 m lem ok2 is does.
+      let ok3 : Fine [] base ms2 w2 = record { cells = tt; held = ok.held; values = ok2.values; objects = ok2.objects } in
+      enters f tpl d h.1 G pc2 R base ms2 w2 m (omega (arith, lem, lt)) ok3 (live_rest X go (stays_call A (callable_view T c) st) (stays_call A (callable_view T d)) live n m (state_view T ms2 w2) is) x j does)
+
+  -- an instruction that runs a callable of the meaning, and the rest behind it
+  pub g_ran : (f : ℕ) (F : List MValue) (last : Option Instr) (i : Item) (p : Place) (t : Phrase) (K : List Task) (pc : ℕ) → Go Y f F last zero [] (do_phrase t ∷ K) (pc + 1) → (R own : List Entry) → HasNoGuard own → (base rs : List MValue) (L : List Left) (n : ℕ) →
+      suc n ≤ f → AllWhole F → AllWhole rs → Keeps T base K rs L → (st st' : State Value) (c : Callable) (put : List MValue) → AllWhole put → A i st ≡ runs c st' (values_view T put) →
+      ((G : List MValue) (pc2 : ℕ) (ms2 : List MValue) (w2 : World MValue) (m : ℕ) → fetched M (Some Ret) (at G pc2 ms2 rs (own ++ R) w2) m ≡ goes_on (at F (pc + 1) (pile put ms2) rs R w2) m) → Live Y (l_phrase (then i p t) ∷ L) st → (s : Machine) (N : ℕ) →
+      (((m : ℕ) → run_callable run c st' m ≢ Stuck) → Follows Y (Some Ret) (own ++ R) rs s N (run_callable run c st' n)) → Follows Y last R base s N (left Y (l_phrase (then i p t) ∷ L) st (suc n))
+  g_ran f F last i p t K pc go R own none base rs L n le hf hr h st st' c put hp acts back_step lv s N first =
+      let rest = λ (st : State Value) (k : ℕ). left Y (l_phrase t ∷ L) (push_each (values_view T put) st) k in
+      let live = live_runs Y i p t L st st' c (values_view T put) acts lv in
+      subst (λ (r : Result). Follows Y last R base s N r) (sym (first_runs Y i p t L st st' c (values_view T put) n acts))
+      (behind f F last t K pc go R own none base rs L h hf hr put hp back_step (run_callable run c st') (stays_call A c st') s N n (omega (arith, le)) (within_call run (spares A) n c st' n (omega arith)) live
+      (first (live_first (run_callable run c st') rest live)))
+
+  -- an instruction that enters a callable of the machine, and the rest behind it
+  pub g_entered : (f : ℕ) (F : List MValue) → Templated Y f → (last : Option Instr) (i : Item) (p : Place) (t : Phrase) (K : List Task) (pc : ℕ) → Go Y f F last zero [] (do_phrase t ∷ K) (pc + 1) → (R own : List Entry) → HasNoGuard own →
+      (base all ms rs : List MValue) (vs : List Value) (L : List Left) (w : World MValue) (n : ℕ) → suc n ≤ f → AllWhole F → Fine [] rs ms w → Keeps T base K rs L → (c : MCallable) → WholeCallable c → (put : List MValue) → AllWhole put →
+      A i (state vs (V w)) ≡ runs (callable_view T c) (state_view T ms w) (values_view T put) → stepping (at F pc all rs R w) (suc n) ≡ entering M c (at F pc ms rs (own ++ R) w) n →
+      ((G : List MValue) (pc2 : ℕ) (ms2 : List MValue) (w2 : World MValue) (m : ℕ) → fetched M (Some Ret) (at G pc2 ms2 rs (own ++ R) w2) m ≡ goes_on (at F (pc + 1) (pile put ms2) rs R w2) m) →
+      Live Y (l_phrase (then i p t) ∷ L) (state vs (V w)) → Follows Y last R base (at F pc all rs R w) (suc n) (left Y (l_phrase (then i p t) ∷ L) (state vs (V w)) (suc n))
+  g_entered f F tpl last i p t K pc go R own none base all ms rs vs L w n le hf ok h c hc put hp acts e back_step lv =
+      let s = at F pc all rs R w in
+      g_ran f F last i p t K pc go R own none base rs L n le hf ok.held h (state vs (V w)) (state_view T ms w) (callable_view T c) put hp acts back_step lv s (suc n)
+      (λ live. enters f tpl c hc F pc (own ++ R) rs ms w n (omega (arith, le)) ok live s (suc n) e)
+
+  -- `call`, `dip` and `if` of values
+  pub core_is : (wd : ℕ) (c : CoreWord) (st : State Value) → sort_of P wd ≡ Some (core_sort c) → A (word wd) st ≡ core_act P c st
+  core_is wd c st es = ap (λ (o : Option Sort). sort_act P wd o st) es
+
+  pub g_call : (f : ℕ) (F : List MValue) → Templated Y f → (last : Option Instr) (wd : ℕ) (p : Place) (t : Phrase) (S : List Sym) (K : List Task) (pc : ℕ) → sort_of P wd ≡ Some (core_sort w_call) → AllHere S →
+      slice_get M.code pc ≡ Some (Call false) → Go Y f F last zero [] (do_phrase t ∷ K) (pc + 1) → Go Y f F last zero S (do_phrase (then (word wd) p t) ∷ K) pc
+  g_call f F tpl last wd p t S K pc es a e go R base ms rs vs L w zero le ok lv l (keeps_phrase h) = spent_here Y last R base (at F pc ms rs R w) (state vs (V w)) (Some (word wd)) (Call false) e refl refl
+  g_call f F tpl last wd p t S K pc es a e go R base ms rs vs L w (suc n) le ok lv l (keeps_phrase {L = L1} h) = one ms vs (sym (all_here T S ms vs a l)) ok lv
+    where
+      one : (ms : List MValue) (vs : List Value) → vs ≡ values_view T ms → Fine F rs ms w → Live Y (l_phrase (then (word wd) p t) ∷ L1) (state vs (V w)) →
+          Follows Y last R base (at F pc ms rs R w) (suc n) (left Y (l_phrase (then (word wd) p t) ∷ L1) (state vs (V w)) (suc n))
+      one [] vs is ok lv = wrong_here Y (word wd) p t L1 (state vs (V w)) (core_is wd w_call (state vs (V w)) es ∙ rw is refl) lv
+      one (m_plain x ∷ ms) vs is ok lv = wrong_here Y (word wd) p t L1 (state vs (V w)) (core_is wd w_call (state vs (V w)) es ∙ rw is refl) lv
+      one (m_fun c ∷ ms) vs is ok lv =
+          let s = at F pc (m_fun c ∷ ms) rs R w in
+          g_entered f F tpl last (word wd) p t K pc go R (resume (pc + 1) F ∷ []) (tt, tt) base (m_fun c ∷ ms) ms rs vs L1 w n le ok.cells (record { cells = tt; held = ok.held; values = ok.values.1; objects = ok.objects }) h c ok.values.0
+          [] tt (core_is wd w_call (state vs (V w)) es ∙ rw is refl) (fetch Y s (suc n) (Call false) e) (ret_resume F pc R rs) lv
+
+  pub g_dip : (f : ℕ) (F : List MValue) → Templated Y f → (last : Option Instr) (wd : ℕ) (p : Place) (t : Phrase) (S : List Sym) (K : List Task) (pc : ℕ) → sort_of P wd ≡ Some (core_sort w_dip) → AllHere S →
+      slice_get M.code pc ≡ Some Dip → Go Y f F last zero [] (do_phrase t ∷ K) (pc + 1) → Go Y f F last zero S (do_phrase (then (word wd) p t) ∷ K) pc
+  g_dip f F tpl last wd p t S K pc es a e go R base ms rs vs L w zero le ok lv l (keeps_phrase h) = spent_here Y last R base (at F pc ms rs R w) (state vs (V w)) (Some (word wd)) Dip e refl refl
+  g_dip f F tpl last wd p t S K pc es a e go R base ms rs vs L w (suc n) le ok lv l (keeps_phrase {L = L1} h) = one ms vs (sym (all_here T S ms vs a l)) ok lv
+    where
+      one : (ms : List MValue) (vs : List Value) → vs ≡ values_view T ms → Fine F rs ms w → Live Y (l_phrase (then (word wd) p t) ∷ L1) (state vs (V w)) →
+          Follows Y last R base (at F pc ms rs R w) (suc n) (left Y (l_phrase (then (word wd) p t) ∷ L1) (state vs (V w)) (suc n))
+      one [] vs is ok lv = wrong_here Y (word wd) p t L1 (state vs (V w)) (core_is wd w_dip (state vs (V w)) es ∙ rw is refl) lv
+      one (q ∷ []) vs is ok lv = wrong_here Y (word wd) p t L1 (state vs (V w)) (core_is wd w_dip (state vs (V w)) es ∙ rw is refl) lv
+      one (m_plain y ∷ x ∷ ms) vs is ok lv = wrong_here Y (word wd) p t L1 (state vs (V w)) (core_is wd w_dip (state vs (V w)) es ∙ rw is refl) lv
+      one (m_fun c ∷ x ∷ ms) vs is ok lv =
+          let s = at F pc (m_fun c ∷ x ∷ ms) rs R w in
+          g_entered f F tpl last (word wd) p t K pc go R (put_back x ∷ resume (pc + 1) F ∷ []) (tt, (tt, tt)) base (m_fun c ∷ x ∷ ms) ms rs vs L1 w n le ok.cells
+          (record { cells = tt; held = ok.held; values = ok.values.1.1; objects = ok.objects }) h c ok.values.0 (x ∷ []) (ok.values.1.0, tt) (core_is wd w_dip (state vs (V w)) es ∙ rw is refl) (fetch Y s (suc n) Dip e) (ret_put x F pc R rs) lv
+
+  -- which of two callables `if` runs: the second exactly for `f`
+  pub chosen : (m : MValue) (c d : MCallable) (us : List Value) (w : World Value) →
+      core_act P w_if (state (fun (callable_view T d) ∷ fun (callable_view T c) ∷ value_view T m ∷ us) w) ≡ runs (callable_view T (branch (seen_no (m_seen m)) c d)) (state us w) []
+  chosen m c d us w = rw (seen_same T m) (choose (seen_no (m_seen m)))
+    where
+      choose : (b : Bool) → runs (elim b [ true ↦ callable_view T d | false ↦ callable_view T c ]) (state us w) [] ≡ runs (callable_view T (branch b c d)) (state us w) []
+      choose true = refl
+      choose false = refl
+
+  pub g_if : (f : ℕ) (F : List MValue) → Templated Y f → (last : Option Instr) (wd : ℕ) (p : Place) (t : Phrase) (S : List Sym) (K : List Task) (pc : ℕ) → sort_of P wd ≡ Some (core_sort w_if) → AllHere S →
+      slice_get M.code pc ≡ Some (If false) → Go Y f F last zero [] (do_phrase t ∷ K) (pc + 1) → Go Y f F last zero S (do_phrase (then (word wd) p t) ∷ K) pc
+  g_if f F tpl last wd p t S K pc es a e go R base ms rs vs L w zero le ok lv l (keeps_phrase h) = spent_here Y last R base (at F pc ms rs R w) (state vs (V w)) (Some (word wd)) (If false) e refl refl
+  g_if f F tpl last wd p t S K pc es a e go R base ms rs vs L w (suc n) le ok lv l (keeps_phrase {L = L1} h) = one ms vs (sym (all_here T S ms vs a l)) ok lv
+    where
+      one : (ms : List MValue) (vs : List Value) → vs ≡ values_view T ms → Fine F rs ms w → Live Y (l_phrase (then (word wd) p t) ∷ L1) (state vs (V w)) →
+          Follows Y last R base (at F pc ms rs R w) (suc n) (left Y (l_phrase (then (word wd) p t) ∷ L1) (state vs (V w)) (suc n))
+      one [] vs is ok lv = wrong_here Y (word wd) p t L1 (state vs (V w)) (core_is wd w_if (state vs (V w)) es ∙ rw is refl) lv
+      one (q ∷ []) vs is ok lv = wrong_here Y (word wd) p t L1 (state vs (V w)) (core_is wd w_if (state vs (V w)) es ∙ rw is refl) lv
+      one (q ∷ y ∷ []) vs is ok lv = wrong_here Y (word wd) p t L1 (state vs (V w)) (core_is wd w_if (state vs (V w)) es ∙ rw is refl) lv
+      one (q ∷ m_plain y ∷ x ∷ ms) vs is ok lv = wrong_here Y (word wd) p t L1 (state vs (V w)) (core_is wd w_if (state vs (V w)) es ∙ rw is refl) lv
+      one (m_plain q ∷ m_fun c ∷ x ∷ ms) vs is ok lv = wrong_here Y (word wd) p t L1 (state vs (V w)) (core_is wd w_if (state vs (V w)) es ∙ rw is refl) lv
+      one (m_fun d ∷ m_fun c ∷ x ∷ ms) vs is ok lv =
+          let s = at F pc (m_fun d ∷ m_fun c ∷ x ∷ ms) rs R w in
+          let b = seen_no (m_seen x) in
+          let acts : A (word wd) (state vs (V w)) ≡ runs (callable_view T (branch b c d)) (state_view T ms w) [] = core_is wd w_if (state vs (V w)) es ∙ rw is (chosen x c d (values_view T ms) (V w)) in
+          g_entered f F tpl last (word wd) p t K pc go R (resume (pc + 1) F ∷ []) (tt, tt) base (m_fun d ∷ m_fun c ∷ x ∷ ms) ms rs vs L1 w n le ok.cells
+          (record { cells = tt; held = ok.held; values = ok.values.1.1.1; objects = ok.objects }) h (branch b c d) (branch_whole P M b c d ok.values.1.0 ok.values.0) [] tt acts (fetch Y s (suc n) (If false) e) (ret_resume F pc R rs) lv

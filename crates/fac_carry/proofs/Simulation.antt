@@ -1,0 +1,154 @@
+-- The machine follows the meaning, tick for tick.
+use Rattle.std.proofs.Common.{◌≡◌, ◌≢◌, ℕ, zero, suc, ◌+◌, ◌<◌, List, [], ◌∷◌, ◌++◌, Option, Some, refl, ap, subst, arith}
+use Rattle.std.specs.Prelude.{slice_get}
+use Rattle.fac_lang.specs.declared.program.Program.{Program}
+use Rattle.fac_lang.specs.Phrases.{int, yes, no, str, wrd, Phrase, Item, lit, word, held, Value}
+use Rattle.fac_lang.specs.Substitution.{put_local}
+use Rattle.fac_lang.specs.World.{World, State}
+use Rattle.fac_lang.specs.Eval.{Result, Done, Failed, Spent, Stuck, Act, Run}
+use Rattle.fac_base.specs.HeightArithmetic.{fits}
+use Rattle.fac_lang.specs.Meaning.{word_phrase, sort_of, act}
+use Rattle.fac_code.specs.declared.image.Instr.{Instr}
+use Rattle.fac_code.specs.declared.image.Instr.TheVariants.{Halt, Int, True, False, Text, Word, Ret}
+use Rattle.fac_code.specs.declared.image.Image.{Image}
+use Rattle.fac_code.specs.declared.image.WordRow.{WordRow}
+use Rattle.fac_code.specs.declared.names.TrapWhy.TheVariants.{Kind as t_kind}
+use Rattle.fac_store.specs.MachineValues.{MValue, m_plain, kept_list}
+use Rattle.fac_machine.specs.Machine.{Machine, Entry, End, done, failed, spent, goes_on, or_trap, fetched, Ends}
+use Rattle.fac_machine.proofs.Leading.{ends_after, ends_step}
+use Rattle.fac_carry.specs.MachineView.{Templates, value_view, values_view, kept_view, world_view, state_view}
+use Rattle.fac_carry.specs.Carries.{SameEnd}
+use Rattle.fac_carry.specs.WholeValues as whole
+use Rattle.fac_carry.specs.Accessors.{accessor_outs}
+use Rattle.fac_carry.specs.Stands.{HasCode}
+use Rattle.fac_carry.specs.Symbols.{Sym, here, off, k_phrase, Task, do_phrase, heres, AllHere, all_none, outs, Special}
+use Rattle.fac_carry.specs.Expanded.{Code, c_last, c_make, c_trim, c_end, c_off, c_int, c_true, c_false, c_text, c_array, c_reference, c_symbol, c_prim, c_accessor, c_isa, c_boa, c_held, c_bind, c_fry, c_stuck, c_word, c_call, c_dip, c_if, c_execute, c_call_effect, c_execute_effect, c_generic, c_next, EachCalled}
+use Rattle.fac_carry.proofs.RunLaws.{free}
+use Rattle.fac_carry.proofs.SymbolicStacks.{l_phrase, Lies, lies_none, keeps_none, keeps_phrase, all_here}
+use Rattle.fac_carry.specs.Setting.{Setting}
+use Rattle.fac_carry.proofs.Following.{state, at, Follows, LivePhrase, Go, CallsTo, Templated, Valid, then_done, live_phrase}
+use Rattle.fac_carry.proofs.CaseLemmas.{g_array, g_end, g_last, g_make, g_off, g_prim, g_push, g_stuck, g_trim}
+use Rattle.fac_carry.proofs.CallLemmas.{g_call, g_dip, g_if, g_word}
+use Rattle.fac_carry.proofs.FrameCases.{g_held, g_bind, g_fry}
+use Rattle.fac_carry.proofs.ClassCases.{g_accessor, g_boa, g_generic, g_isa, g_next}
+use Rattle.fac_carry.proofs.ActionCases.{itself_pushed, g_execute, g_call_effect, g_execute_effect}
+
+module _ (Y : Setting) where
+  -- short names of what a setting has, as in Following: names under a module's argument aren't handed on without it
+  abbrev P : Program
+  P = Y.program
+
+  abbrev M : Image
+  M = Y.image
+
+  abbrev T : Templates
+  T = Y.texts
+
+  abbrev A : Item → State Value → Act
+  A = act P fits Y.callable_height
+
+  abbrev run : Run
+  run = free A
+
+  abbrev V : World MValue → World Value
+  V = world_view T
+
+  abbrev Fine : List MValue → List MValue → List MValue → World MValue → Type 0
+  Fine = whole.Fine P M
+
+  -- The induction on the ticks, and inside on the derivation.
+  abbrev Main : ℕ → Type 0
+  Main f = (Γ : List Special) (last : Option Instr) (F : List MValue) (d : ℕ) (S : List Sym) (K : List Task) (pc : ℕ) → Code P M T Γ last F d S K pc → Valid Y f Γ → Go Y f F last d S K pc
+
+  abbrev Below : ℕ → Type 0
+  Below f = (g : ℕ) → g < f → Main g
+
+  -- a phrase whose code stands at a place, at fewer ticks
+  called_phrase : (last : Option Instr) (f : ℕ) → Below f → (Γ : List Special) (F : List MValue) (a : ℕ) (S : List Sym) (b : Phrase) → Code P M T Γ last F zero S (do_phrase b ∷ []) a → ((g : ℕ) → g < f → Valid Y g Γ) → CallsTo Y last f F a S b
+  called_phrase last f below Γ F a S b code v R base ms vs w n lt ok lv l =
+      subst (λ (r : Result). Follows Y last R base (at F a ms base R w) n r) (then_done Y (run b (state vs (V w)) n))
+      (below n lt Γ last F zero S (do_phrase b ∷ []) a code (v n lt) R base ms base vs (l_phrase b ∷ []) w n (omega arith) ok (live_phrase Y b (state vs (V w)) lv) l (keeps_phrase keeps_none))
+
+  -- a stack on which nothing is put off needs no names
+  on_all : (S : List Sym) (F : List MValue) (a : ℕ) (b : Phrase) (f : ℕ) → AllHere S → CallsTo Y (Some Ret) f F a [] b → CallsTo Y (Some Ret) f F a S b
+  on_all S F a b f h calls R base ms vs w n lt ok lv l = calls R base ms vs w n lt ok lv (subst (λ (us : List Value). Lies T [] ms us) (all_here T S ms vs h l) lies_none)
+
+  text_goes : (F : List MValue) (pc k : ℕ) (cs : List ℕ) → slice_get M.texts k ≡ Some cs → (ms rs : List MValue) (R : List Entry) (w : World MValue) (n : ℕ) → fetched M (Some (Text k)) (at F pc ms rs R w) (suc n) ≡ goes_on (at F (pc + 1) (m_plain (str cs) ∷ ms) rs R w) n
+  text_goes F pc k cs ek ms rs R w n = ap (λ (o : Option (List ℕ)). or_trap o t_kind (at F pc ms rs R w) n (λ us. goes_on (at F (pc + 1) (m_plain (str us) ∷ ms) rs R w) n)) ek
+
+  push_goes : (F : List MValue) (pc a : ℕ) (r : WordRow) → slice_get M.words a ≡ Some r → (ms rs : List MValue) (R : List Entry) (w : World MValue) (n : ℕ) → fetched M (Some (Word a)) (at F pc ms rs R w) (suc n) ≡ goes_on (at F (pc + 1) (m_plain (wrd a) ∷ ms) rs R w) n
+  push_goes F pc a r er ms rs R w n = ap (λ (o : Option WordRow). or_trap o t_kind (at F pc ms rs R w) n (λ r. goes_on (at F (pc + 1) (m_plain (wrd a) ∷ ms) rs R w) n)) er
+
+  -- the code of a word that runs a phrase, or of a method, at fewer ticks
+  word_called : (f : ℕ) → Below f → EachCalled P M T → (S : List Sym) → AllHere S → (wd a : ℕ) → HasCode P M wd a → CallsTo Y (Some Ret) f [] a S (word_phrase P wd)
+  word_called f below each S h wd a code = on_all S [] a (word_phrase P wd) f h (called_phrase (Some Ret) f below [] [] a [] (word_phrase P wd) (each.words wd a code) (λ g less. tt))
+
+  main : (f : ℕ) → Below f → EachCalled P M T → Templated Y f → Main f
+  main f below each tpl Γ last F d S K pc (c_last {last = x} a e) v = g_last Y f F x S pc a e
+  main f below each tpl Γ last F d S K pc (c_make {d = d1} {S = S1} q r ks e et eh ec c) v = g_make Y f F last d1 S1 K pc q r ks e et eh ec (main f below each tpl Γ last F d1 (here ∷ S1) K (pc + 1) c v)
+  main f below each tpl Γ last F d S K pc (c_trim {S = S1} H a c) v = g_trim Y f F last d S1 H K pc a (main f below each tpl Γ last F d S1 K pc c v)
+  main f below each tpl Γ last F d S K pc (c_end {K = K1} c) v = g_end Y f F last d S K1 pc (main f below each tpl Γ last F d S K1 pc c v)
+  main f below each tpl Γ last F d S K pc (c_off {b = b} {t = t} {p = p} {K = K1} c) v = g_off Y f F last d b p t S K1 pc (main f below each tpl Γ last F (suc d) (off (k_phrase b) ∷ S) (do_phrase t ∷ K1) pc c v)
+  main f below each tpl Γ last F d S K pc (c_int {p = p} {t = t} {K = K1} z e c) v = g_push Y f F last (lit (int z)) p t S K1 pc (Int z) (m_plain (int z)) (λ h. tt) e (λ s. refl) (λ ms rs R w n. refl) (λ st. refl)
+      (main f below each tpl Γ last F zero (here ∷ S) (do_phrase t ∷ K1) (pc + 1) c v)
+  main f below each tpl Γ last F d S K pc (c_true {p = p} {t = t} {K = K1} e c) v = g_push Y f F last (lit yes) p t S K1 pc True (m_plain yes) (λ h. tt) e (λ s. refl) (λ ms rs R w n. refl) (λ st. refl)
+      (main f below each tpl Γ last F zero (here ∷ S) (do_phrase t ∷ K1) (pc + 1) c v)
+  main f below each tpl Γ last F d S K pc (c_false {p = p} {t = t} {K = K1} e c) v = g_push Y f F last (lit no) p t S K1 pc False (m_plain no) (λ h. tt) e (λ s. refl) (λ ms rs R w n. refl) (λ st. refl)
+      (main f below each tpl Γ last F zero (here ∷ S) (do_phrase t ∷ K1) (pc + 1) c v)
+  main f below each tpl Γ last F d S K pc (c_text {p = p} {t = t} {K = K1} cs k e ek c) v = g_push Y f F last (lit (str cs)) p t S K1 pc (Text k) (m_plain (str cs)) (λ h. tt) e (λ s. refl) (text_goes F pc k cs ek) (λ st. refl)
+      (main f below each tpl Γ last F zero (here ∷ S) (do_phrase t ∷ K1) (pc + 1) c v)
+  main f below each tpl Γ last F d S K pc (c_array {p = p} {t = t} {K = K1} a e c) v = g_array Y f F last a p t S K1 pc e (main f below each tpl Γ last F zero (here ∷ S) (do_phrase t ∷ K1) (pc + 1) c v)
+  main f below each tpl Γ last F d S K pc (c_reference {p = p} {t = t} {K = K1} wd r none e er c) v = g_push Y f F last (lit (wrd wd)) p t S K1 pc (Word wd) (m_plain (wrd wd)) (λ h. none) e (λ s. refl) (push_goes F pc wd r er) (λ st. refl)
+      (main f below each tpl Γ last F zero (here ∷ S) (do_phrase t ∷ K1) (pc + 1) c v)
+  main f below each tpl Γ last F d S K pc (c_symbol {p = p} {t = t} {K = K1} wd r es none e er c) v = g_push Y f F last (word wd) p t S K1 pc (Word wd) (m_plain (wrd wd)) (λ h. none) e (λ s. refl) (push_goes F pc wd r er) (itself_pushed Y wd (sort_of P wd) es)
+      (main f below each tpl Γ last F zero (here ∷ S) (do_phrase t ∷ K1) (pc + 1) c v)
+  main f below each tpl Γ last F d S K pc (c_prim {p = p} {t = t} {S1 = S1} {K = K1} wd k q es en ew needs e c) v = g_prim Y f F last wd k q p t S S1 K1 pc es en ew needs e (main f below each tpl Γ last F zero (heres (outs q) S1) (do_phrase t ∷ K1) (pc + 1) c v)
+  main f below each tpl Γ last F d S K pc (c_accessor {p = p} {t = t} {S1 = S1} {K = K1} x wd k cs es et ew needs e c) v =
+      g_accessor Y f F last x wd k cs p t S S1 K1 pc es et ew needs e (main f below each tpl Γ last F zero (heres (accessor_outs x) S1) (do_phrase t ∷ K1) (pc + 1) c v)
+  main f below each tpl Γ last F d S K pc (c_isa {p = p} {t = t} {S1 = S1} {K = K1} wd k n es same needs e c) v = g_isa Y f F last wd k n p t S S1 K1 pc es same needs e (main f below each tpl Γ last F zero (here ∷ S1) (do_phrase t ∷ K1) (pc + 1) c v)
+  main f below each tpl Γ last F d S K pc (c_boa {p = p} {t = t} {K = K1} wd es a e c) v = g_boa Y f F last wd p t S K1 pc es a e (main f below each tpl Γ last F zero (here ∷ []) (do_phrase t ∷ K1) (pc + 1) c v)
+  main f below each tpl Γ last F d S K pc (c_held {p = p} {t = t} {K = K1} k m e ek c) v = g_held Y f F last k m p t S K1 pc e ek (main f below each tpl Γ last F zero (here ∷ S) (do_phrase t ∷ K1) (pc + 1) c v)
+  main f below each tpl Γ last F d S K pc (c_bind {p = p} {y = y} {t = t} {S1 = S1} {K = K1} needs e c) v =
+      g_bind Y f F last y p t S S1 K1 pc needs e (λ m h. main f below each tpl Γ last (F ++ m ∷ []) zero S1 (do_phrase (put_local y (held (value_view T m)) t) ∷ K1) (pc + 1) (c m h) v)
+  main f below each tpl Γ last F d S K pc (c_fry {p = p} {t = t} {S1 = S1} {K = K1} q r ks b e et ec eh needs c) v =
+      g_fry Y f F last q r ks b p t S S1 K1 pc e et ec eh needs (main f below each tpl Γ last F zero (here ∷ S1) (do_phrase t ∷ K1) (pc + 1) c v)
+  main f below each tpl Γ last F d S K pc (c_stuck {p = p} {t = t} {i = i} {K = K1} stuck) v = g_stuck Y f F last i p t S K1 pc (stuck fits Y.callable_height)
+  main f below each tpl Γ last F d S K pc (c_word {p = p} {t = t} {K = K1} wd at code a e c) v = g_word Y f F last wd at p t S K1 pc code e (word_called f below each S a wd at code) (main f below each tpl Γ last F zero [] (do_phrase t ∷ K1) (pc + 1) c v)
+  main f below each tpl Γ last F d S K pc (c_call {p = p} {t = t} {K = K1} wd es a e c) v = g_call Y f F tpl last wd p t S K1 pc es a e (main f below each tpl Γ last F zero [] (do_phrase t ∷ K1) (pc + 1) c v)
+  main f below each tpl Γ last F d S K pc (c_dip {p = p} {t = t} {K = K1} wd es a e c) v = g_dip Y f F tpl last wd p t S K1 pc es a e (main f below each tpl Γ last F zero [] (do_phrase t ∷ K1) (pc + 1) c v)
+  main f below each tpl Γ last F d S K pc (c_if {p = p} {t = t} {K = K1} wd es a e c) v = g_if Y f F tpl last wd p t S K1 pc es a e (main f below each tpl Γ last F zero [] (do_phrase t ∷ K1) (pc + 1) c v)
+  main f below each tpl Γ last F d S K pc (c_execute {p = p} {t = t} {K = K1} wd es a e c) v =
+      g_execute Y f F tpl (word_called f below each [] all_none) each.actions last wd p t S K1 pc es a e (main f below each tpl Γ last F zero [] (do_phrase t ∷ K1) (pc + 1) c v)
+  main f below each tpl Γ last F d S K pc (c_call_effect {p = p} {t = t} {K = K1} h a e c) v = g_call_effect Y f F tpl last h p t S K1 pc a e (main f below each tpl Γ last F zero [] (do_phrase t ∷ K1) (pc + 1) c v)
+  main f below each tpl Γ last F d S K pc (c_execute_effect {p = p} {t = t} {K = K1} h a e c) v =
+      g_execute_effect Y f F tpl (word_called f below each [] all_none) each.actions last h p t S K1 pc a e (main f below each tpl Γ last F zero [] (do_phrase t ∷ K1) (pc + 1) c v)
+  main f below each tpl Γ last F d S K pc (c_generic {p = p} {t = t} {K = K1} wd n r es er ew same a e c) v =
+      g_generic Y f F last wd n r p t S K1 pc es er ew same a e (word_called f below each S a) (main f below each tpl Γ last F zero [] (do_phrase t ∷ K1) (pc + 1) c v)
+  main f below each tpl Γ last F d S K pc (c_next {p = p} {t = t} {K = K1} m n j r em er ew same a e c) v =
+      g_next Y f F last m n j r p t S K1 pc em er ew same a e (word_called f below each S a) (main f below each tpl Γ last F zero [] (do_phrase t ∷ K1) (pc + 1) c v)
+
+  below_all : EachCalled P M T → (f : ℕ) → Below f
+  below_all each zero g lt = absurd (omega (arith, lt))
+  below_all each (suc f) g lt =
+      let lower : Below g = λ j less. below_all each f j (omega (arith, lt, less)) in
+      main g lower each (λ q r k e size hk. called_phrase (Some Ret) g lower [] (kept_list k) r.entry [] (T q (kept_view T k)) (each.templates q r k e size hk) (λ j less. tt))
+
+  -- what stands at a place does in the machine what is left of the meaning
+  pub follows : EachCalled P M T → (f : ℕ) → Main f
+  follows each f = below_all each (suc f) f (omega arith)
+
+  ending : (s : Machine) (n : ℕ) (r : Result) → r ≢ Stuck → Follows Y (Some Halt) [] [] s n r → (e : End) × Ends M s n e × SameEnd T r e
+  ending s n (Done st m) ns h =
+      let last = at h.frame h.pc h.stack [] [] h.world in (done last m, ends_after M s h.stood n h.ticks (done last m) h.leads (ends_step M h.stood h.ticks (done last m) h.does), (h.same, refl))
+  ending s n (Failed e st m) ns h = (failed h.error h.fallen m, ends_after M s h.stood n h.ticks _ h.leads (ends_step M h.stood h.ticks _ h.fails), (h.same, h.world, refl))
+  ending s n (Spent st i) ns h = (spent h.0, h.1, h.2)
+  ending s n Stuck ns h = absurd (ns refl)
+
+  -- The code of a phrase stands at a place, and then `halt`: from there the machine ends as the meaning does, tick for tick, at every budget, where the
+  -- meaning is stuck at none.
+  pub carried : EachCalled P M T → (pc : ℕ) (t : Phrase) → Code P M T [] (Some Halt) [] zero [] (do_phrase t ∷ []) pc → (stack : List MValue) (world : World MValue) → Fine [] [] stack world → LivePhrase Y t (state_view T stack world) → (n : ℕ) →
+      (e : End) × Ends M (at [] pc stack [] [] world) n e × SameEnd T (run t (state_view T stack world) n) e
+  carried each pc t code stack world ok lv n =
+      let st = state_view T stack world in
+      ending (at [] pc stack [] [] world) n (run t st n) (lv n) (subst (λ (r : Result). Follows Y (Some Halt) [] [] (at [] pc stack [] [] world) n r) (then_done Y (run t st n))
+      (follows each n [] (Some Halt) [] zero [] (do_phrase t ∷ []) pc code tt [] [] stack [] (values_view T stack) (l_phrase t ∷ []) world n (omega arith) ok (live_phrase Y t st lv) lies_none (keeps_phrase keeps_none)))

@@ -1,0 +1,11 @@
+pub mod MachineView
+pub mod Carries
+pub mod WholeValues
+pub mod Accessors
+pub mod Stands
+pub mod TestedCalls
+pub mod Setting
+pub mod Symbols
+pub mod Expanded
+pub mod PrintedForms
+pub mod CodeLaws

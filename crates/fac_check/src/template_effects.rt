@@ -1,0 +1,51 @@
+//! The effects of templates.
+ghost use Rattle.std.specs.Prelude.{◌≡◌, ◌<◌, length, IfOk};
+ghost use Rattle.fac_check.specs.Judged.{StandsForWhole};
+ghost use Rattle.fac_check.specs.TemplateEffects.{AreEffects, IsEffect, within_outs};
+
+use crate::searching::least;
+use fac_base::limits::MOST_CALLABLE_VALUES;
+use fac_base::{Height, List, Memory};
+use fac_locals::Closed;
+use std::alloc::Global;
+
+// A height, where no more values are left than a callable may leave.
+fn within(height: Height) -> Option<Height>
+    ensures { result ≡ within_outs height.outs height }
+{
+    match height.outs {
+        None => Some(height),
+        Some(outs) => {
+            if outs as u64 > MOST_CALLABLE_VALUES {
+                return None;
+            }
+            Some(height)
+        }
+    }
+}
+
+// That of the template with this number.
+fn effect(alloc: Global, closed: &Closed, template: u32) -> Result<Option<Height>, Memory>
+    requires stands { StandsForWhole closed.now }
+    requires template { template < length closed.now.templates }
+    ensures { IfOk result (IsEffect closed.now template) }
+{
+    match least(alloc, closed, template)? {
+        Some(height) => Ok(within(height)),
+        None => Ok(None),
+    }
+}
+
+/// The effects of the templates, in their order: of each callable that a template makes, whatever values it holds for what it captures and for
+/// its holes, the least number of inputs up to 1,024 from which its phrase breaks no rule of the checker, and how many values it leaves then.
+/// None where there is no such number, or where more than a million values are left. Each is found by a few walks of its phrase.
+pub fn effects(alloc: Global, closed: &Closed) -> Result<List<Option<Height>>, Memory>
+    requires { StandsForWhole closed.now }
+    ensures { IfOk result (AreEffects closed.now) }
+{
+    let mut heights = List::new(alloc);
+    for number in 0..closed.templates.len() {
+        heights.push(effect(alloc, closed, number)?)?;
+    }
+    Ok(heights)
+}

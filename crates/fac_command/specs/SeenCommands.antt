@@ -1,0 +1,14 @@
+-- A command as it is read, whose files and image are words of the command line.
+use Rattle.std.specs.Prelude.{map, string_bytes}
+use Rattle.fac_command.specs.declared.command.Command.{Command as CommandRead}
+use Rattle.fac_command.specs.declared.command.Command.TheVariants as read
+use Rattle.fac_command.specs.Command.{Command, check, run, run_stack, build, exec, list}
+
+-- what it asks for
+abbrev pub command_seen : CommandRead → Command
+command_seen (read.Check files) = check (map string_bytes files.now)
+command_seen (read.Run steps files) = run steps (map string_bytes files.now)
+command_seen (read.RunStack steps files) = run_stack steps (map string_bytes files.now)
+command_seen (read.Build files image) = build (map string_bytes files.now) image.now
+command_seen (read.Exec steps image) = exec steps image.now
+command_seen (read.List image) = list image.now

@@ -1,7 +1,0 @@
-use Rattle.std.proofs.Common.{◌≡◌, drop}
-use Rattle.fac_lang.specs.EffectView.{inputs_tree}
-use Rattle.fac_lang.specs.RowVariables.{nested_one_sided}
-use Rattle.fac_effect.proofs.row_variables.+lone.Given as goal
-
-abbrev pub invariant-any_lone-loop-input : goal.invariant-any_lone-loop-input
-invariant-any_lone-loop-input l = nested_one_sided (inputs_tree l.inputs) ≡ nested_one_sided (inputs_tree (drop l.input-index l.inputs))

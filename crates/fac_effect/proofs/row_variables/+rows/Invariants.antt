@@ -1,7 +1,0 @@
-use Rattle.std.proofs.Common.{◌≡◌, drop}
-use Rattle.fac_lang.specs.EffectView.{inputs_tree}
-use Rattle.fac_lang.specs.RowVariables.{inputs_rows}
-use Rattle.fac_effect.proofs.row_variables.+rows.Given as goal
-
-abbrev pub invariant-inputs_have_rows-loop-input : goal.invariant-inputs_have_rows-loop-input
-invariant-inputs_have_rows-loop-input l = inputs_rows (inputs_tree l.inputs) ≡ inputs_rows (inputs_tree (drop l.input-index l.inputs))

@@ -1,7 +1,0 @@
-use Rattle.std.proofs.Common.{◌≡◌, drop}
-use Rattle.fac_lang.specs.EffectView.{inputs_tree}
-use Rattle.fac_effect.specs.inner.BoundRows.{inputs_bind}
-use Rattle.fac_effect.proofs.row_variables.any_binds.Given as goal
-
-abbrev pub invariant-loop-input : goal.invariant-loop-input
-invariant-loop-input l = inputs_bind l.row (inputs_tree l.inputs) ≡ inputs_bind l.row (inputs_tree (drop l.input-index l.inputs))

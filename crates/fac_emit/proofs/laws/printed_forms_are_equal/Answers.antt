@@ -1,5 +1,0 @@
-use Rattle.fac_emit.proofs.SamePrimitives.{stack_printed}
-use Rattle.fac_emit.proofs.laws.printed_forms_are_equal.Goals as goal
-
-pub returns : goal.returns
-returns c = λ N T w vs. stack_printed T N w vs

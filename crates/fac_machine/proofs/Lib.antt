@@ -1,0 +1,4 @@
+mod ExamplesOfFrames
+mod ExamplesOfJumps
+mod ExamplesOfWords
+pub mod Leading

@@ -1,5 +1,0 @@
-pub mod FewerInputs
-pub mod LeastHeights
-pub mod SearchLemmas
-pub mod EffectLists
-mod ExamplesOfEffects

@@ -1,2 +1,0 @@
-pub mod TemplateEffects
-pub mod inner

@@ -1,3 +1,0 @@
-pub mod Toks
-pub mod Refusals
-pub mod inner

@@ -1,0 +1,4 @@
+pub mod Toks
+pub mod Refusals
+pub mod inner
+pub mod FormRows
