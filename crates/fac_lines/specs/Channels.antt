@@ -1,5 +1,5 @@
 -- The input and the output of a run: what they tell, took and counted.
-use Rattle.std.specs.Prelude.{◌≡◌, ℕ, List, Bool, Result, IsErr, OnOk, refl}
+use Rattle.std.specs.Prelude.{◌≡◌, ◌≤◌, ℕ, List, Bool, Result, IsErr, OnOk, refl}
 use Rattle.std.specs.declared.option.Option.{Option}
 use Rattle.std.specs.Coded.{Coded, code_by, coded×, coded_ℕ, coded_list, coded_bool, coded_option}
 use Rattle.fac_io.specs.Faults.{HasCause}
@@ -24,6 +24,20 @@ output_code = code_by (Option (List ℕ) × Option (List (List ℕ))) (coded× (
 pub channels_code : Coded ChannelsTold
 channels_code =
     code_by ((InputTold × ℕ) × (SinkTold × ℕ)) (coded× (coded× input_code coded_ℕ) (coded× output_code coded_ℕ)) (λ c. ((c.input, c.input_faults), (c.output, c.output_faults))) (λ p. record { input = p.0.0; input_faults = p.0.1; output = p.1.0; output_faults = p.1.1 }) (λ _. refl)
+
+-- Something is so of what was taken of the output till then and till now, and of the bytes that were left of the input before and of those that are left now.
+abbrev pub OnChannels : ChannelsTold → ChannelsTold → (SinkTold → SinkTold → List ℕ → List ℕ → Type 0) → Type 0
+OnChannels before now Holds = ReadsInput before.input now.input (Holds before.output now.output)
+
+-- No count of faults fell. Where it is answered that the input failed its count rose, and where it is answered that the output failed that one's.
+pub record CountsFaults (before now : ChannelsTold) (InputFailed OutputFailed : Type 0) : Type 0 where
+  pub input : HasCause before.input_faults now.input_faults InputFailed
+  pub output : HasCause before.output_faults now.output_faults OutputFailed
+
+-- no count of faults fell
+pub record CountsStand (before now : ChannelsTold) : Type 0 where
+  pub input : before.input_faults ≤ now.input_faults
+  pub output : before.output_faults ≤ now.output_faults
 
 -- nothing was written, and no write failed
 pub record IsUnwritten (before now : ChannelsTold) : Type 0 where

@@ -1,5 +1,6 @@
 //! The input and the output of a run.
-ghost use Rattle.std.specs.Prelude.{◌≡◌, ◌<◌, [], length, false};
+ghost use Rattle.std.specs.Prelude.{◌≡◌, ◌<◌, [], length, true, false};
+ghost use Rattle.std.specs.Io.KnownBytes.{IsAtEnd};
 ghost use Rattle.fac_io.specs.Told.{sink_tells};
 ghost use Rattle.fac_lines.specs.Channels.{TakesLine, TakesPiece};
 
@@ -40,6 +41,13 @@ impl<S: Source, K: Sink> Channels<S, K> {
             input: Lines::new(alloc, source),
             output,
         }
+    }
+
+    /// Where the input's source answered that nothing is left, it has nothing left, if it tells that.
+    pub fn nothing_is_behind_the_end(&self)
+        ensures { self.now.input.ended ≡ true → IsAtEnd self.now.input.left }
+    {
+        let _input = &self.input;
     }
 
     /// The next line of the input without its newline, or `None` where no byte is left.
