@@ -57,6 +57,14 @@ impl<S: Source, K: Sink> Channels<S, K> {
         self.input.line()
     }
 
+    /// The output.
+    pub fn output(&self) -> &K
+        ensures tells { sink_tells (K.taken result.now) (K.pieces result.now) ≡ self.now.output }
+        ensures faults { K.faults result.now ≡ self.now.output_faults }
+    {
+        &self.output
+    }
+
     /// Writes a piece to the output in one write.
     pub fn write(&mut self, piece: &[u8]) -> Result<(), Failed>
         requires { 0 < length piece.now }
