@@ -14,4 +14,4 @@ use Rattle.fac_emit.specs.Heights.{HasHeights}
 abbrev pub CarriesEach : Closed → List (Option Height) → Image → Type 0
 CarriesEach closed heights M =
     (P : Program) (callable_height : Callable → Option Height) →
-    Closes P closed.program closed.templates → IsWhole P → HasHeights P closed.program closed.templates heights callable_height → Carries P callable_height closed.start M
+    Closes P closed.program closed.templates → IsWhole P → HasHeights P closed heights callable_height → Carries P callable_height closed.start M

@@ -14,9 +14,9 @@ use std::alloc::Global;
 
 // The element of an image for one of a literal array.
 fn elem(texts: &Texts, closed: &Closed, lit: &Lit) -> Elem
-    requires texts { texts.now ≡ program_texts closed.now.program closed.now.templates }
+    requires texts { texts.now ≡ program_texts closed.now }
     requires coded { element_is_coded lit.now ≡ true }
-    ensures { result ≡ elem_of closed.now.program closed.now.templates lit.now }
+    ensures { result ≡ elem_of closed.now lit.now }
 {
     match lit {
         Lit::Int(value) => Elem::Int(value.get()),
@@ -37,9 +37,9 @@ fn elems(
     closed: &Closed,
     lits: &List<Lit>,
 ) -> Result<List<Elem>, Memory>
-    requires texts { texts.now ≡ program_texts closed.now.program closed.now.templates }
+    requires texts { texts.now ≡ program_texts closed.now }
     requires coded { array_is_coded lits.now ≡ true }
-    ensures { IfOk result (λ elems. elems ≡ elems_of closed.now.program closed.now.templates lits.now) }
+    ensures { IfOk result (λ elems. elems ≡ elems_of closed.now lits.now) }
 {
     let mut elems = List::new(alloc);
     for lit in lits.as_slice() {
@@ -50,9 +50,9 @@ fn elems(
 
 /// The literal arrays of a closed program.
 pub fn arrays_of(alloc: Global, texts: &Texts, closed: &Closed) -> Result<List<List<Elem>>, Memory>
-    requires texts { texts.now ≡ program_texts closed.now.program closed.now.templates }
+    requires texts { texts.now ≡ program_texts closed.now }
     requires coded { list_all array_is_coded closed.now.program.arrays ≡ true }
-    ensures { IfOk result (λ arrays. arrays ≡ program_arrays closed.now.program closed.now.templates) }
+    ensures { IfOk result (λ arrays. arrays ≡ program_arrays closed.now) }
 {
     let mut arrays = List::new(alloc);
     for lits in closed.program.arrays.as_slice() {

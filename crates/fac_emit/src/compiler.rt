@@ -1,5 +1,5 @@
 //! The compiler: the code of the templates and the words is linked to an image.
-ghost use Rattle.std.specs.Prelude.{◌≡◌, ℕ, true, nat_eq, nat_le, Some, IfOk, OnOk};
+ghost use Rattle.std.specs.Prelude.{◌≡◌, ℕ, true, nat_le, Some, IfOk, OnOk};
 ghost use Rattle.std.specs.List.{list_all};
 ghost use Rattle.fac_base.specs.declared.limits.TheConstants.{MOST_EFFECT_NAMES};
 ghost use Rattle.fac_lang.specs.declared.program.Program.{Program as Source};
@@ -119,10 +119,10 @@ fn row_of(
     place: u32,
     word: &WordDef,
 ) -> WordRow
-    requires numbering { IsNumbering closed.now.program closed.now.templates numbering.now }
+    requires numbering { IsNumbering closed.now numbering.now }
     requires sort { sort_of closed.now.program number ≡ Some word.now.sort }
     requires few { has_few_inputs word.now ≡ true }
-    ensures { result ≡ word_row closed.now.program closed.now.templates place number word.now }
+    ensures { result ≡ word_row closed.now place number word.now }
 {
     let is_top = number == closed.program.top;
     WordRow {
@@ -149,10 +149,10 @@ fn place_word(
     number: u32,
     word: &WordDef,
 ) -> Result<(), Memory>
-    requires numbering { IsNumbering closed.now.program closed.now.templates numbering.now }
+    requires numbering { IsNumbering closed.now numbering.now }
     requires sort { sort_of closed.now.program number ≡ Some word.now.sort }
     requires few { has_few_inputs word.now ≡ true }
-    ensures { OnOk result (PlacesWord closed.now.program closed.now.templates number (nat_eq number closed.now.program.top) word.now parts.old parts.new) }
+    ensures { OnOk result (PlacesWord closed.now number word.now parts.old parts.new) }
 {
     let place = parts.code.len();
     parts
@@ -164,9 +164,9 @@ fn place_word(
 
 // Adds the code and the rows of the words.
 fn add_words(parts: &mut Parts, closed: &Closed, numbering: &Numbering) -> Result<(), Memory>
-    requires numbering { IsNumbering closed.now.program closed.now.templates numbering.now }
+    requires numbering { IsNumbering closed.now numbering.now }
     requires few { list_all has_few_inputs closed.now.program.words ≡ true }
-    ensures { OnOk result (PlacesWords closed.now.program closed.now.templates parts.old parts.new) }
+    ensures { OnOk result (PlacesWords closed.now parts.old parts.new) }
 {
     let _count = closed.program.words.len();
     let mut number = 0u32;
@@ -185,8 +185,8 @@ fn parts_of(
     heights: &[Option<Height>],
 ) -> Result<Parts, Memory>
     requires closed { (P : Source) × Closes P closed.now.program closed.now.templates × IsWhole P }
-    requires numbering { IsNumbering closed.now.program closed.now.templates numbering.now }
-    ensures { IfOk result (AreParts closed.now.program closed.now.templates heights.now) }
+    requires numbering { IsNumbering closed.now numbering.now }
+    ensures { IfOk result (AreParts closed.now heights.now) }
 {
     let mut parts = Parts {
         code: List::new(alloc),
@@ -225,8 +225,8 @@ fn generics_for(
 ) -> Result<List<GenericRow>, Memory>
     requires classes { classes.now ≡ closed.now.program.classes }
     requires methods { HasMethods closed.now.program }
-    requires rows { rows.now ≡ program_words closed.now.program closed.now.templates }
-    ensures { IfOk result (λ generics. generics ≡ program_generics closed.now.program closed.now.templates) }
+    requires rows { rows.now ≡ program_words closed.now }
+    ensures { IfOk result (λ generics. generics ≡ program_generics closed.now) }
 {
     let methods = method_tables(alloc, &closed.program, classes)?;
     generics_of(alloc, &closed.program, &methods, rows)
@@ -241,11 +241,11 @@ fn tables_of(
     rows: &List<WordRow>,
 ) -> Result<OtherTables, Memory>
     requires coded { list_all array_is_coded closed.now.program.arrays ≡ true }
-    requires numbering { IsNumbering closed.now.program closed.now.templates numbering.now }
+    requires numbering { IsNumbering closed.now numbering.now }
     requires classes { classes.now ≡ closed.now.program.classes }
     requires methods { HasMethods closed.now.program }
-    requires rows { rows.now ≡ program_words closed.now.program closed.now.templates }
-    ensures { IfOk result (AreTables closed.now.program closed.now.templates) }
+    requires rows { rows.now ≡ program_words closed.now }
+    ensures { IfOk result (AreTables closed.now) }
 {
     let texts = numbering.texts.list(alloc)?;
     let arrays = arrays_of(alloc, &numbering.texts, closed)?;
@@ -266,9 +266,9 @@ fn tables_of(
 // The image of these parts and tables, where the templates have these effects.
 fn image_of(closed: &Closed, heights: &[Option<Height>], parts: Parts, tables: OtherTables) -> Image
     requires closed { (P : Source) × Closes P closed.now.program closed.now.templates × IsWhole P × MethodLaws P }
-    requires parts { AreParts closed.now.program closed.now.templates heights.now parts }
-    requires tables { AreTables closed.now.program closed.now.templates tables }
-    ensures { IsPlain closed.now.program closed.now.templates heights.now result }
+    requires parts { AreParts closed.now heights.now parts }
+    requires tables { AreTables closed.now tables }
+    ensures { IsPlain closed.now heights.now result }
 {
     let Parts {
         code,
@@ -304,7 +304,7 @@ fn plain_image(alloc: Global, closed: &Closed, heights: &[Option<Height>]) -> Re
     requires coded { list_all array_is_coded closed.now.program.arrays ≡ true }
     requires classes { CanBeBuilt closed.now.program }
     requires methods { HasMethods closed.now.program }
-    ensures { IfOk result (IsPlain closed.now.program closed.now.templates heights.now) }
+    ensures { IfOk result (IsPlain closed.now heights.now) }
 {
     let classes = Classes::build(alloc, &closed.program)?;
     let numbering = numbering_of(alloc, closed)?;
@@ -325,7 +325,7 @@ pub fn compile(alloc: Global, closed: &Closed, heights: &[Option<Height>]) -> Re
     requires { (P : Source) × Closes P closed.now.program closed.now.templates × IsWhole P }
     ensures carries { IfOk result (CarriesEach closed.now heights.now) }
     ensures stands { IfOk result (λ image. (P : Source) → Closes P closed.now.program closed.now.templates → IsWhole P → PlainCode P image) }
-    ensures plain { IfOk result (IsPlain closed.now.program closed.now.templates heights.now) }
+    ensures plain { IfOk result (IsPlain closed.now heights.now) }
 {
     methods_are_lawful();
     plain_image(alloc, closed, heights)

@@ -53,8 +53,8 @@ fn instr_of_sort(number: u32, word: u32, sort: &Sort) -> Instr
 
 // The instruction of the word with this number.
 fn instr_of_word(closed: &Closed, numbering: &Numbering, word: u32) -> Instr
-    requires { IsNumbering closed.now.program closed.now.templates numbering.now }
-    ensures { result ≡ word_instr closed.now.program closed.now.templates word (slice_get closed.now.program.words word) }
+    requires { IsNumbering closed.now numbering.now }
+    ensures { result ≡ word_instr closed.now word (slice_get closed.now.program.words word) }
 {
     match closed.program.words.get(word as usize) {
         Some(def) => instr_of_sort(number_of(numbering, word), word, &def.sort),
@@ -84,8 +84,8 @@ fn instr_of_made(templates: &List<Template>, number: u32) -> Instr
 
 // The instruction of an item.
 fn instr_of(closed: &Closed, numbering: &Numbering, what: &What) -> Instr
-    requires { IsNumbering closed.now.program closed.now.templates numbering.now }
-    ensures { result ≡ item_instr closed.now.program closed.now.templates (what_item what.now) }
+    requires { IsNumbering closed.now numbering.now }
+    ensures { result ≡ item_instr closed.now (what_item what.now) }
 {
     match what {
         What::Int(value) => Instr::Int(value.get()),
@@ -122,8 +122,8 @@ fn add_phrase(
     phrase: &Phrase,
     last: Instr,
 ) -> Result<(), Memory>
-    requires { IsNumbering closed.now.program closed.now.templates numbering.now }
-    ensures { OnOk result (code.new ≡ code.old ++ phrase_code closed.now.program closed.now.templates last phrase.now) }
+    requires { IsNumbering closed.now numbering.now }
+    ensures { OnOk result (code.new ≡ code.old ++ phrase_code closed.now last phrase.now) }
 {
     for item in &phrase.items {
         code.push(instr_of(closed, numbering, &item.what))?;
@@ -151,8 +151,8 @@ fn add_template(
     height: Option<Height>,
     template: &Template,
 ) -> Result<(), Memory>
-    requires { IsNumbering closed.now.program closed.now.templates numbering.now }
-    ensures { OnOk result (AddsTemplate closed.now.program closed.now.templates height template.now code.old code.new rows.old rows.new) }
+    requires { IsNumbering closed.now numbering.now }
+    ensures { OnOk result (AddsTemplate closed.now height template.now code.old code.new rows.old rows.new) }
 {
     let entry = code.len();
     let cells = template.captures.copy(alloc)?;
@@ -174,8 +174,8 @@ pub fn add_templates(
     numbering: &Numbering,
     heights: &[Option<Height>],
 ) -> Result<(), Memory>
-    requires { IsNumbering closed.now.program closed.now.templates numbering.now }
-    ensures { OnOk result (AddsTemplates closed.now.program closed.now.templates heights.now code.old code.new rows.old rows.new) }
+    requires { IsNumbering closed.now numbering.now }
+    ensures { OnOk result (AddsTemplates closed.now heights.now code.old code.new rows.old rows.new) }
 {
     let _count = closed.templates.len();
     let mut number = 0u32;
@@ -202,8 +202,8 @@ pub fn add_word(
     is_top: bool,
     sort: &Sort,
 ) -> Result<(), Memory>
-    requires { IsNumbering closed.now.program closed.now.templates numbering.now }
-    ensures { OnOk result (code.new ≡ code.old ++ sort_code closed.now.program closed.now.templates is_top sort.now) }
+    requires { IsNumbering closed.now numbering.now }
+    ensures { OnOk result (code.new ≡ code.old ++ sort_code closed.now is_top sort.now) }
 {
     match sort {
         Sort::Body(phrase) => add_phrase(code, closed, numbering, phrase, last(is_top)),

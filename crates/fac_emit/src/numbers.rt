@@ -34,9 +34,9 @@ pub fn number_of(numbering: &Numbering, word: u32) -> u32
 
 // The number of a word of this sort, behind so many generics.
 fn number_of_sort(texts: &Texts, closed: &Closed, generics: u32, word: u32, sort: &Sort) -> u32
-    requires texts { texts.now ≡ program_texts closed.now.program closed.now.templates }
+    requires texts { texts.now ≡ program_texts closed.now }
     requires generics { generics ≡ generic_number closed.now.program word }
-    ensures { result ≡ sort_number closed.now.program closed.now.templates word sort.now }
+    ensures { result ≡ sort_number closed.now word sort.now }
 {
     match sort {
         Sort::Getter(slot) => texts.number(slot),
@@ -60,8 +60,8 @@ fn behind(generics: u32, sort: &Sort) -> u32
 
 // The numbers of all words.
 fn numbers_of(alloc: Global, texts: &Texts, closed: &Closed) -> Result<List<u32>, Memory>
-    requires { texts.now ≡ program_texts closed.now.program closed.now.templates }
-    ensures { IfOk result (λ numbers. numbers ≡ word_numbers closed.now.program closed.now.templates) }
+    requires { texts.now ≡ program_texts closed.now }
+    ensures { IfOk result (λ numbers. numbers ≡ word_numbers closed.now) }
 {
     let _count = closed.program.words.len();
     let mut numbers = List::new(alloc);
@@ -78,7 +78,7 @@ fn numbers_of(alloc: Global, texts: &Texts, closed: &Closed) -> Result<List<u32>
 /// The numbers by which the code of a closed program names its texts and what its words are. Want of memory is the one error, also where
 /// there are more texts than numbers for them.
 pub fn numbering_of(alloc: Global, closed: &Closed) -> Result<Numbering, Memory>
-    ensures { IfOk result (IsNumbering closed.now.program closed.now.templates) }
+    ensures { IfOk result (IsNumbering closed.now) }
 {
     let texts = texts_of(alloc, closed)?;
     let words = numbers_of(alloc, &texts, closed)?;

@@ -20,8 +20,8 @@ fn numbers_of_slots(
     closed: &Closed,
     slots: &List<Text>,
 ) -> Result<List<u32>, Memory>
-    requires { texts.now ≡ program_texts closed.now.program closed.now.templates }
-    ensures { IfOk result (λ numbers. numbers ≡ map (text_number closed.now.program closed.now.templates) slots.now) }
+    requires { texts.now ≡ program_texts closed.now }
+    ensures { IfOk result (λ numbers. numbers ≡ map (text_number closed.now) slots.now) }
 {
     let mut numbers = List::new(alloc);
     for slot in slots.as_slice() {
@@ -39,10 +39,10 @@ fn slots_of_class(
     class: u32,
     shape: &Shape,
 ) -> Result<Option<List<u32>>, Memory>
-    requires texts { texts.now ≡ program_texts closed.now.program closed.now.templates }
+    requires texts { texts.now ≡ program_texts closed.now }
     requires classes { classes.now ≡ closed.now.program.classes }
     requires class { class < length classes.now }
-    ensures { IfOk result (λ numbers. numbers ≡ slot_numbers closed.now.program closed.now.templates class shape.now) }
+    ensures { IfOk result (λ numbers. numbers ≡ slot_numbers closed.now class shape.now) }
 {
     match shape {
         Shape::Tuple { .. } => {
@@ -74,10 +74,10 @@ fn add_kind(
     number: u32,
     class: &ClassDef,
 ) -> Result<(), Memory>
-    requires texts { texts.now ≡ program_texts closed.now.program closed.now.templates }
+    requires texts { texts.now ≡ program_texts closed.now }
     requires classes { classes.now ≡ closed.now.program.classes }
     requires class { number < length classes.now }
-    ensures { OnOk result (rows.new ≡ rows.old ++ own_rows closed.now.program closed.now.templates number class.now) }
+    ensures { OnOk result (rows.new ≡ rows.old ++ own_rows closed.now number class.now) }
 {
     if has_own_kind(&class.shape) {
         let slots = slots_of_class(alloc, texts, closed, classes, number, &class.shape)?;
@@ -97,9 +97,9 @@ pub fn kinds_of(
     closed: &Closed,
     classes: &Classes,
 ) -> Result<List<KindRow>, Memory>
-    requires texts { texts.now ≡ program_texts closed.now.program closed.now.templates }
+    requires texts { texts.now ≡ program_texts closed.now }
     requires classes { classes.now ≡ closed.now.program.classes }
-    ensures { IfOk result (λ kinds. kinds ≡ program_kinds closed.now.program closed.now.templates) }
+    ensures { IfOk result (λ kinds. kinds ≡ program_kinds closed.now) }
 {
     let _count = closed.program.classes.len();
     let mut rows = List::new(alloc);

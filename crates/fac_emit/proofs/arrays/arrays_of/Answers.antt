@@ -14,4 +14,4 @@ loop-lits-preserved c =
     let at = c.loop-lits in
     let items = c.as_slice-lits-items in
     let closed = c.args.closed.now in
-    mapped_step (elems_of closed.program closed.templates) closed.program.arrays at.lits-index c.lits-item.result items.result.now items.ensures c.loop-lits-test.true c.lits-item.is _ at.arrays _ _ at.invariant c.in_ok-elems.ensures c.in_ok-push.ensures.ok
+    mapped_step (elems_of closed) closed.program.arrays at.lits-index c.lits-item.result items.result.now items.ensures c.loop-lits-test.true c.lits-item.is _ at.arrays _ _ at.invariant c.in_ok-elems.ensures c.in_ok-push.ensures.ok

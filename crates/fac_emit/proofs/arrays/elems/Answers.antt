@@ -14,4 +14,4 @@ loop-lit-preserved c =
     let at = c.loop-lit in
     let items = c.as_slice-lit-items in
     let closed = c.args.closed.now in
-    mapped_step (elem_of closed.program closed.templates) c.args.lits.now at.lit-index c.lit-item.result items.result.now items.ensures c.loop-lit-test.true c.lit-item.is _ at.elems _ c.elem.result at.invariant c.elem.ensures c.in_ok-push.ensures.ok
+    mapped_step (elem_of closed) c.args.lits.now at.lit-index c.lit-item.result items.result.now items.ensures c.loop-lit-test.true c.lit-item.is _ at.elems _ c.elem.result at.invariant c.elem.ensures c.in_ok-push.ensures.ok

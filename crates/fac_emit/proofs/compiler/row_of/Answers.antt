@@ -13,7 +13,7 @@ returns c =
     let name = c.args.word.now.name in
     let s = c.args.word.now.sort in
     let action =
-    c.action_of.ensures ∙ ap (λ (n : ℕ). numbered_action n c.args.place s) c.number_of.ensures ∙ action_is closed.program closed.templates c.args.numbering.now.words c.args.number c.args.place s numbering.words c.requires.sort in
+    c.action_of.ensures ∙ ap (λ (n : ℕ). numbered_action n c.args.place s) c.number_of.ensures ∙ action_is closed c.args.numbering.now.words c.args.number c.args.place s numbering.words c.requires.sort in
     rw (
       c.number.ensures ∙ ap (λ (ts : List (List ℕ)). position_or_len (bytes_eq name.vocab) ts) numbering.texts,
       c.number-2.ensures ∙ ap (λ (ts : List (List ℕ)). position_or_len (bytes_eq name.name) ts) numbering.texts,

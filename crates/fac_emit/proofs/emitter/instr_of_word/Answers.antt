@@ -9,5 +9,5 @@ pub returns-in-Some : goal.returns-in-Some
 returns-in-Some c =
     let closed = c.args.closed.now in
     let d = c.in-Some.def.now in
-    let number = c.number_of.ensures ∙ number_of_word closed.program closed.templates c.args.numbering.now.words c.args.word d c.requires.words (sym c.in-Some.ensures) in
-    c.instr_of_sort.ensures ∙ ap (λ (n : ℕ). numbered_instr n c.args.word d.sort) number ∙ instr_numbered closed.program closed.templates c.args.word d.sort ∙ ap (word_instr closed.program closed.templates c.args.word) c.in-Some.ensures
+    let number = c.number_of.ensures ∙ number_of_word closed c.args.numbering.now.words c.args.word d c.requires.words (sym c.in-Some.ensures) in
+    c.instr_of_sort.ensures ∙ ap (λ (n : ℕ). numbered_instr n c.args.word d.sort) number ∙ instr_numbered closed c.args.word d.sort ∙ ap (word_instr closed c.args.word) c.in-Some.ensures
