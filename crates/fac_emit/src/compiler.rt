@@ -3,15 +3,12 @@ ghost use Rattle.std.specs.Prelude.{◌≡◌, ℕ, true, nat_le, Some, IfOk, On
 ghost use Rattle.std.specs.List.{list_all};
 ghost use Rattle.fac_base.specs.declared.limits.TheConstants.{MOST_EFFECT_NAMES};
 ghost use Rattle.fac_lang.specs.declared.program.Program.{Program as Source};
-ghost use Rattle.fac_lang.specs.Whole.{IsWhole};
 ghost use Rattle.fac_base.specs.Effects.{effect_height};
 ghost use Rattle.fac_lang.specs.Meaning.{sort_of};
-ghost use Rattle.fac_locals.specs.Closed.{Closes};
 ghost use Rattle.fac_classes.specs.ClassKinds.{CanBeBuilt};
 ghost use Rattle.fac_generic.specs.Methods.{HasMethods, MethodLaws};
-ghost use Rattle.fac_emit.specs.CarriedPrograms.{CarriesEach};
+ghost use Rattle.fac_emit.specs.CarriedPrograms.{CarriesEach, ClosesWhole, StandsForEach};
 ghost use Rattle.fac_emit.specs.Numbered.{IsNumbering};
-ghost use Rattle.fac_carry.specs.Stands.{PlainCode};
 ghost use Rattle.fac_emit.specs.ProgramCode.{core_action, word_row, program_words, program_generics, IsPlain};
 ghost use Rattle.fac_emit.specs.inner.Coded.{has_few_inputs, array_is_coded};
 ghost use Rattle.fac_emit.specs.inner.NumberedWords.{numbered_action};
@@ -184,7 +181,7 @@ fn parts_of(
     numbering: &Numbering,
     heights: &[Option<Height>],
 ) -> Result<Parts, Memory>
-    requires closed { (P : Source) × Closes P closed.now.program closed.now.templates × IsWhole P }
+    requires closed { (P : Source) × ClosesWhole P closed.now }
     requires numbering { IsNumbering closed.now numbering.now }
     ensures { IfOk result (AreParts closed.now heights.now) }
 {
@@ -265,7 +262,7 @@ fn tables_of(
 
 // The image of these parts and tables, where the templates have these effects.
 fn image_of(closed: &Closed, heights: &[Option<Height>], parts: Parts, tables: OtherTables) -> Image
-    requires closed { (P : Source) × Closes P closed.now.program closed.now.templates × IsWhole P × MethodLaws P }
+    requires closed { (P : Source) × ClosesWhole P closed.now × MethodLaws P }
     requires parts { AreParts closed.now heights.now parts }
     requires tables { AreTables closed.now tables }
     ensures { IsPlain closed.now heights.now result }
@@ -300,7 +297,7 @@ fn image_of(closed: &Closed, heights: &[Option<Height>], parts: Parts, tables: O
 
 // The image of a closed program, whose templates have these effects.
 fn plain_image(alloc: Global, closed: &Closed, heights: &[Option<Height>]) -> Result<Image, Memory>
-    requires closed { (P : Source) × Closes P closed.now.program closed.now.templates × IsWhole P × MethodLaws P }
+    requires closed { (P : Source) × ClosesWhole P closed.now × MethodLaws P }
     requires coded { list_all array_is_coded closed.now.program.arrays ≡ true }
     requires classes { CanBeBuilt closed.now.program }
     requires methods { HasMethods closed.now.program }
@@ -322,9 +319,9 @@ fn plain_image(alloc: Global, closed: &Closed, heights: &[Option<Height>]) -> Re
 /// of each class, and the words of classes with their kinds; it starts at the top-level phrase. Want of memory is the one error, also where
 /// there are more kinds or texts than numbers for them.
 pub fn compile(alloc: Global, closed: &Closed, heights: &[Option<Height>]) -> Result<Image, Memory>
-    requires { (P : Source) × Closes P closed.now.program closed.now.templates × IsWhole P }
+    requires { (P : Source) × ClosesWhole P closed.now }
     ensures carries { IfOk result (CarriesEach closed.now heights.now) }
-    ensures stands { IfOk result (λ image. (P : Source) → Closes P closed.now.program closed.now.templates → IsWhole P → PlainCode P image) }
+    ensures stands { IfOk result (StandsForEach closed.now) }
     ensures plain { IfOk result (IsPlain closed.now heights.now) }
 {
     methods_are_lawful();

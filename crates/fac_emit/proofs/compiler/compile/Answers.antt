@@ -13,10 +13,10 @@ plain_image-requires c =
     let given = c.requires in
     let closed = c.args.closed.now in
     record {
-      coded = arrays_coded given.0 closed given.1;
-      closed = (given.0, given.1, given.2, c.methods_are_lawful.ensures given.0 (whole_has given.0 given.2));
-      classes = can_be_built given.0 closed given.1 given.2;
-      methods = has_methods given.0 closed given.1 given.2;
+      coded = arrays_coded given.0 closed given.1.0;
+      closed = (given.0, given.1, c.methods_are_lawful.ensures given.0 (whole_has given.0 given.1.1));
+      classes = can_be_built given.0 closed given.1.0 given.1.1;
+      methods = has_methods given.0 closed given.1.0 given.1.1;
     }
 
 pub returns-clause-carries : goal.returns-clause-carries

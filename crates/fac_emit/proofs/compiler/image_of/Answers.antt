@@ -14,9 +14,9 @@ invariant_of-result c =
     let tables = c.requires.tables in
     let start = c.place_of-start.ensures ∙ ap (λ (rows : List WordRow). code_place rows closed.program.top) parts.word_rows in
     record {
-      built = rw parts.code (code_built given.0 closed (source_of_whole given.0 given.2) given.1);
+      built = rw parts.code (code_built given.0 closed (source_of_whole given.0 given.1.1) given.1.0);
       refers = rw (tables.texts, tables.arrays, tables.kinds, tables.sets, parts.template_rows_are, parts.word_rows, tables.generics, tables.pairs, parts.code)
-          (plain_refers given.0 closed c.args.heights.now (source_of_whole given.0 given.2) given.2 given.3 given.1 c.place_of-start.result start);
+          (plain_refers given.0 closed c.args.heights.now (source_of_whole given.0 given.1.1) given.1.1 given.2 given.1.0 c.place_of-start.result start);
     }
 
 pub returns : goal.returns

@@ -5,4 +5,4 @@ pub add_words-requires : goal.add_words-requires
 add_words-requires c =
     let given = c.requires.closed in
     let closed = c.args.closed.now in
-    record { numbering = c.requires.numbering; few = words_few given.0 closed given.2 given.1 }
+    record { numbering = c.requires.numbering; few = words_few given.0 closed given.1.1 given.1.0 }
