@@ -16,8 +16,8 @@ module _ (C : Closed) where
   number_from w zero (x ∷ ds) d e = let n : w + 0 ≡ w = omega arith in let same : x ≡ d = cc in rw (n, same) refl
   number_from w (suc k) (x ∷ ds) d e = let n : w + suc k ≡ suc w + k = omega arith in rw n (number_from (suc w) k ds d e)
 
-  pub number_of_word : (ns : List ℕ) (w : ℕ) (d : WordDef) → ns ≡ word_numbers C → slice_get C.program.words w ≡ Some d → number_at ns w ≡ sort_number C w d.sort
-  number_of_word ns w d is e = let n : 0 + w ≡ w = omega arith in ap (λ (ns : List ℕ). number_at ns w) is ∙ number_from 0 w C.program.words d e ∙ ap (λ (k : ℕ). sort_number C k d.sort) n
+  pub number_of_word : (w : ℕ) (d : WordDef) → slice_get C.program.words w ≡ Some d → number_at (word_numbers C) w ≡ sort_number C w d.sort
+  number_of_word w d e = let n : 0 + w ≡ w = omega arith in number_from 0 w C.program.words d e ∙ ap (λ (k : ℕ). sort_number C k d.sort) n
 
   pub instr_numbered : (w : ℕ) (s : Sort) → numbered_instr (sort_number C w s) w s ≡ sort_instr C w s
   instr_numbered w generic = refl
@@ -33,8 +33,8 @@ module _ (C : Closed) where
   sorted None s e = absurd (cc)
 
   -- what a word does, by its number
-  pub action_is : (ns : List ℕ) (w at : ℕ) (s : Sort) → ns ≡ word_numbers C → sort_of C.program w ≡ Some s → numbered_action (number_at ns w) at s ≡ sort_action C w at s
-  action_is ns w at s is e =
+  pub action_is : (w at : ℕ) (s : Sort) → sort_of C.program w ≡ Some s → numbered_action (number_at (word_numbers C) w) at s ≡ sort_action C w at s
+  action_is w at s e =
       let found = sorted (slice_get C.program.words w) s e in
-      let number = number_of_word ns w found.0 is found.1 ∙ ap (sort_number C w) found.2 in
+      let number = number_of_word w found.0 found.1 ∙ ap (sort_number C w) found.2 in
       ap (λ (n : ℕ). numbered_action n at s) number ∙ action_numbered w at s

@@ -4,7 +4,7 @@ use Rattle.fac_emit.proofs.compiler.add_words.Given as goal
 
 abbrev pub invariant-loop-word : goal.invariant-loop-word
 invariant-loop-word l =
-    let C = l.closed in record {
+    let C = l.emission in record {
       count : l.number ≡ l.word-index;
       code_is : l.initial.parts.code ++ code_from C 0 C.program.words ≡ l.parts.code ++ code_from C l.number (drop l.word-index C.program.words);
       templates_are : l.parts.templates ≡ l.initial.parts.templates;
