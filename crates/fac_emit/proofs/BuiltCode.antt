@@ -14,6 +14,7 @@ use Rattle.fac_lang.specs.Phrases.{int, yes, no, str, wrd, Phrase, end, then, It
 use Rattle.fac_lang.proofs.SourcePrograms.{IsSourceProgram, IsSourceSort, AreSourceWords}
 use Rattle.fac_lang.specs.Primitives.{is_built_primitive}
 use Rattle.fac_locals.specs.Closed.{Closes}
+use Rattle.fac_locals.specs.declared.closing.Closed.{Closed}
 use Rattle.fac_code.specs.declared.image.Instr.{Instr}
 use Rattle.fac_code.specs.declared.image.Instr.TheVariants.{Ret, Callp, Jump, Branch}
 use Rattle.fac_code.specs.Code.{is_built_instr, has_built_code}
@@ -50,10 +51,10 @@ module _ (P : Program) where
   built_fit [] d h f = (f, tt)
   built_fit (x ∷ ds) d h f = (built_fits x x.sort h.0, built_fit ds d h.1 f)
 
-  all_fit : (C : Program) (templates : List Template) → IsSourceProgram P → Closes P C templates → AllFit C.words
-  all_fit C templates b closes =
+  all_fit : (C : Closed) → IsSourceProgram P → Closes P C.program C.templates → AllFit C.program.words
+  all_fit C b closes =
       let phrase : Fits b.last_word.sort = rw b.last_word_is.sort_is tt in
-      all_alike P.words C.words (alike_words P 0 P.words C.words closes.words) (subst AllFit (sym b.words_are) (built_fit b.words b.last_word b.words_from_source phrase))
+      all_alike P.words C.program.words (alike_words P 0 P.words C.program.words closes.words) (subst AllFit (sym b.words_are) (built_fit b.words b.last_word b.words_from_source phrase))
 
 pub and_true : (b c : Bool) → b ≡ true → c ≡ true → (b && c) ≡ true
 and_true true c e h = h
@@ -96,50 +97,50 @@ made_plain q (Some t) = by t.holes
     by zero = refl
     by (suc n) = refl
 
-module _ (C : Program) (templates : List Template) where
-  sort_plain : (w : ℕ) (s : Sort) → Fits s → is_plain (sort_instr C templates w s) ≡ true
+module _ (C : Closed) where
+  sort_plain : (w : ℕ) (s : Sort) → Fits s → is_plain (sort_instr C w s) ≡ true
   sort_plain w (prim k) h = and_true (is_built_primitive k) true h refl
   sort_plain w (core k) h = core_plain k
   sort_plain w _ h = refl
 
-  word_plain : (ds : List WordDef) (w k : ℕ) → AllFit ds → is_plain (word_instr C templates w (slice_get ds k)) ≡ true
+  word_plain : (ds : List WordDef) (w k : ℕ) → AllFit ds → is_plain (word_instr C w (slice_get ds k)) ≡ true
   word_plain [] w k h = refl
   word_plain (d ∷ ds) w zero h = sort_plain w d.sort h.0
   word_plain (d ∷ ds) w (suc k) h = word_plain ds w k h.1
 
-  module _ (fit : AllFit C.words) where
-    item_plain : (i : Item) → is_plain (item_instr C templates i) ≡ true
+  module _ (fit : AllFit C.program.words) where
+    item_plain : (i : Item) → is_plain (item_instr C i) ≡ true
     item_plain (lit (int z)) = refl
     item_plain (lit yes) = refl
     item_plain (lit no) = refl
     item_plain (lit (str cs)) = refl
     item_plain (lit (wrd w)) = refl
     item_plain (lit_arr a) = refl
-    item_plain (word w) = word_plain C.words w w fit
-    item_plain (made q) = made_plain q (slice_get templates q)
+    item_plain (word w) = word_plain C.program.words w w fit
+    item_plain (made q) = made_plain q (slice_get C.templates q)
     item_plain _ = refl
 
-    phrase_plain : (last : Instr) (t : Phrase) → is_plain last ≡ true → ArePlain (phrase_code C templates last t)
+    phrase_plain : (last : Instr) (t : Phrase) → is_plain last ≡ true → ArePlain (phrase_code C last t)
     phrase_plain last end l = and_true (is_plain last) true l refl
-    phrase_plain last (then i p t) l = and_true (is_plain (item_instr C templates i)) (list_all is_plain (phrase_code C templates last t)) (item_plain i) (phrase_plain last t l)
+    phrase_plain last (then i p t) l = and_true (is_plain (item_instr C i)) (list_all is_plain (phrase_code C last t)) (item_plain i) (phrase_plain last t l)
 
-    templates_plain : (ts : List Template) → ArePlain (templates_code C templates ts)
+    templates_plain : (ts : List Template) → ArePlain (templates_code C ts)
     templates_plain [] = refl
-    templates_plain (t ∷ ts) = both_plain (phrase_code C templates Ret t.body) (templates_code C templates ts) (phrase_plain Ret t.body refl) (templates_plain ts)
+    templates_plain (t ∷ ts) = both_plain (phrase_code C Ret t.body) (templates_code C ts) (phrase_plain Ret t.body refl) (templates_plain ts)
 
-    sort_code_plain : (is_top : Bool) (s : Sort) → ArePlain (sort_code C templates is_top s)
+    sort_code_plain : (is_top : Bool) (s : Sort) → ArePlain (sort_code C is_top s)
     sort_code_plain is_top (body t) = phrase_plain (last_instr is_top) t (last_plain is_top)
     sort_code_plain is_top (method c g t) = phrase_plain (last_instr is_top) t (last_plain is_top)
     sort_code_plain is_top _ = refl
 
-    words_plain : (w : ℕ) (ds : List WordDef) → ArePlain (code_from C templates w ds)
+    words_plain : (w : ℕ) (ds : List WordDef) → ArePlain (code_from C w ds)
     words_plain w [] = refl
-    words_plain w (d ∷ ds) = both_plain (sort_code C templates (nat_eq w C.top) d.sort) (code_from C templates (suc w) ds) (sort_code_plain (nat_eq w C.top) d.sort) (words_plain (suc w) ds)
+    words_plain w (d ∷ ds) = both_plain (sort_code C (nat_eq w C.program.top) d.sort) (code_from C (suc w) ds) (sort_code_plain (nat_eq w C.program.top) d.sort) (words_plain (suc w) ds)
 
-pub code_plain : (P C : Program) (templates : List Template) → IsSourceProgram P → Closes P C templates → ArePlain (program_code C templates)
-code_plain P C templates b closes =
-    let fit = all_fit P C templates b closes in
-    both_plain (templates_code C templates templates) (code_from C templates 0 C.words) (templates_plain C templates fit templates) (words_plain C templates fit 0 C.words)
+pub code_plain : (P : Program) (C : Closed) → IsSourceProgram P → Closes P C.program C.templates → ArePlain (program_code C)
+code_plain P C b closes =
+    let fit = all_fit P C b closes in
+    both_plain (templates_code C C.templates) (code_from C 0 C.program.words) (templates_plain C fit C.templates) (words_plain C fit 0 C.program.words)
 
 both_true : (b c : Bool) → (b && c) ≡ true → (b ≡ true) × (c ≡ true)
 both_true true c e = (refl, e)
@@ -164,5 +165,5 @@ places_of size at (i ∷ is) h =
     let parts = both_true (is_plain i) (list_all is_plain is) h in
     and_true (place_refers size at i) (places_refer size (suc at) is) (placed_by size at i (both_true (is_built_instr i) (not (names_place i)) parts.0).1) (places_of size (suc at) is parts.1)
 
-pub code_built : (P C : Program) (templates : List Template) → IsSourceProgram P → Closes P C templates → has_built_code (program_code C templates) ≡ true
-code_built P C templates b closes = built_of (program_code C templates) (code_plain P C templates b closes)
+pub code_built : (P : Program) (C : Closed) → IsSourceProgram P → Closes P C.program C.templates → has_built_code (program_code C) ≡ true
+code_built P C b closes = built_of (program_code C) (code_plain P C b closes)

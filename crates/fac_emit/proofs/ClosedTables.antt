@@ -2,7 +2,6 @@
 use Rattle.std.proofs.Common.{◌≡◌, ℕ, zero, suc, List, [], ◌∷◌, length, Bool, true, false, Some, None, refl, ap, ◌∙◌}
 use Rattle.std.specs.Prelude.{◌&&◌, not, nat_eq, nat_lt, slice_get}
 use Rattle.std.specs.List.{list_all, list_any}
-use Rattle.fac_lang.specs.declared.phrase.Template.{Template}
 use Rattle.fac_lang.specs.declared.program.ClassDef.{ClassDef}
 use Rattle.fac_lang.specs.declared.program.Program.{Program}
 use Rattle.fac_lang.specs.declared.program.Shape.{Shape}
@@ -14,6 +13,7 @@ use Rattle.fac_lang.specs.Classes.{shape_at, is_tuple}
 use Rattle.fac_lang.specs.Meaning.{sort_of}
 use Rattle.fac_lang.specs.Whole.{IsWhole, no_two, each_below, is_class, is_generic, sort_fits, shape_fits, reaches, same_method}
 use Rattle.fac_locals.specs.Closed.{Closes}
+use Rattle.fac_locals.specs.declared.closing.Closed.{Closed}
 use Rattle.fac_classes.specs.ClassKinds.{CanBeBuilt}
 use Rattle.fac_generic.specs.Methods.{HasMethods}
 use Rattle.fac_emit.proofs.Closings.{Alike, a_same, a_body, a_past, a_method, AlikeWords, alike_words}
@@ -57,17 +57,17 @@ two_same : (ds cs : List WordDef) → AlikeWords ds cs → no_two same_method cs
 two_same [] cs h = ap (no_two same_method) h
 two_same (d ∷ ds) cs h = ap (no_two same_method) h.2 ∙ rw (any_same d h.0 ds h.1 h.3.sort h.4, two_same ds h.1 h.4) refl
 
-module _ (P C : Program) (templates : List Template) (closes : Closes P C templates) where
-  alike : AlikeWords P.words C.words
-  alike = alike_words P 0 P.words C.words closes.words
+module _ (P : Program) (C : Closed) (closes : Closes P C.program C.templates) where
+  alike : AlikeWords P.words C.program.words
+  alike = alike_words P 0 P.words C.program.words closes.words
 
-  class_same : (c : ℕ) → is_class C c ≡ is_class P c
+  class_same : (c : ℕ) → is_class C.program c ≡ is_class P c
   class_same c = ap (λ (cs : List ClassDef). nat_lt c (length cs)) closes.classes
 
-  generic_same : (g : ℕ) → is_generic (sort_of C g) ≡ is_generic (sort_of P g)
-  generic_same g = generic_among P.words C.words g alike
+  generic_same : (g : ℕ) → is_generic (sort_of C.program g) ≡ is_generic (sort_of P g)
+  generic_same g = generic_among P.words C.program.words g alike
 
-  own_fits : (s : Sort) → sort_fits C s ≡ sort_fits P s
+  own_fits : (s : Sort) → sort_fits C.program s ≡ sort_fits P s
   own_fits (prim k) = refl
   own_fits (core k) = refl
   own_fits (body t) = refl
@@ -81,38 +81,38 @@ module _ (P C : Program) (templates : List Template) (closes : Closes P C templa
   own_fits generic = refl
   own_fits (method c g t) = rw (class_same c, generic_same g) refl
 
-  closed_fits : (s c : Sort) → Alike s c → sort_fits C c ≡ sort_fits P s
+  closed_fits : (s c : Sort) → Alike s c → sort_fits C.program c ≡ sort_fits P s
   closed_fits s c (a_same t) = own_fits t
   closed_fits s c (a_body t u) = refl
   closed_fits s c (a_past t u) = refl
   closed_fits s c (a_method n g t u) = own_fits (method n g u)
 
-  all_fit : (ds cs : List WordDef) → AlikeWords ds cs → list_all (λ (d : WordDef). sort_fits C d.sort) cs ≡ list_all (λ (d : WordDef). sort_fits P d.sort) ds
-  all_fit [] cs h = ap (list_all (λ (d : WordDef). sort_fits C d.sort)) h
-  all_fit (d ∷ ds) cs h = ap (list_all (λ (d : WordDef). sort_fits C d.sort)) h.2 ∙ rw (closed_fits d.sort h.0.sort h.3.sort, all_fit ds h.1 h.4) refl
+  all_fit : (ds cs : List WordDef) → AlikeWords ds cs → list_all (λ (d : WordDef). sort_fits C.program d.sort) cs ≡ list_all (λ (d : WordDef). sort_fits P d.sort) ds
+  all_fit [] cs h = ap (list_all (λ (d : WordDef). sort_fits C.program d.sort)) h
+  all_fit (d ∷ ds) cs h = ap (list_all (λ (d : WordDef). sort_fits C.program d.sort)) h.2 ∙ rw (closed_fits d.sort h.0.sort h.3.sort, all_fit ds h.1 h.4) refl
 
   -- the tables of its methods can be made
-  pub has_methods : IsWhole P → HasMethods C
-  has_methods whole = record { sorts_fit = all_fit P.words C.words alike ∙ whole.sorts_fit; methods_differ = two_same P.words C.words alike ∙ whole.methods_differ }
+  pub has_methods : IsWhole P → HasMethods C.program
+  has_methods whole = record { sorts_fit = all_fit P.words C.program.words alike ∙ whole.sorts_fit; methods_differ = two_same P.words C.program.words alike ∙ whole.methods_differ }
 
-  classes_fit : (cs : List ℕ) → list_all (is_class C) cs ≡ list_all (is_class P) cs
+  classes_fit : (cs : List ℕ) → list_all (is_class C.program) cs ≡ list_all (is_class P) cs
   classes_fit [] = refl
   classes_fit (c ∷ cs) = rw (class_same c, classes_fit cs) refl
 
-  shape_same : (s : Shape) → shape_fits C s ≡ shape_fits P s
+  shape_same : (s : Shape) → shape_fits C.program s ≡ shape_fits P s
   shape_same (built_in j) = refl
   shape_same (tuple_class parent slots) = ap (λ (cs : List ClassDef). elim parent [ None ↦ true | Some c ↦ is_tuple (shape_at cs c) ]) closes.classes
   shape_same (union cs) = classes_fit cs
   shape_same single = refl
 
-  shapes_same : (cs : List ClassDef) → list_all (λ (c : ClassDef). shape_fits C c.shape) cs ≡ list_all (λ (c : ClassDef). shape_fits P c.shape) cs
+  shapes_same : (cs : List ClassDef) → list_all (λ (c : ClassDef). shape_fits C.program c.shape) cs ≡ list_all (λ (c : ClassDef). shape_fits P c.shape) cs
   shapes_same [] = refl
   shapes_same (c ∷ cs) = rw (shape_same c.shape, shapes_same cs) refl
 
   -- its classes can be built
-  pub can_be_built : IsWhole P → CanBeBuilt C
+  pub can_be_built : IsWhole P → CanBeBuilt C.program
   can_be_built whole =
       record {
-        shapes_fit = ap (list_all (λ (c : ClassDef). shape_fits C c.shape)) closes.classes ∙ shapes_same P.classes ∙ whole.shapes_fit;
+        shapes_fit = ap (list_all (λ (c : ClassDef). shape_fits C.program c.shape)) closes.classes ∙ shapes_same P.classes ∙ whole.shapes_fit;
         classes_end = ap (λ (cs : List ClassDef). each_below (λ c. not (reaches (length cs) cs c c)) (length cs)) closes.classes ∙ whole.classes_end;
       }

@@ -4,7 +4,6 @@ use Rattle.std.proofs.lemmas.Bool.{lt-ltb}
 use Rattle.std.proofs.lemmas.List.Folds.{list_all-append}
 use Rattle.std.specs.Prelude.{nat_lt, slice_get}
 use Rattle.std.specs.List.{list_all}
-use Rattle.fac_lang.specs.declared.phrase.Template.{Template}
 use Rattle.fac_lang.specs.declared.program.Program.{Program}
 use Rattle.fac_lang.specs.declared.program.WordDef.{WordDef}
 use Rattle.fac_lang.specs.declared.program.Sort.{Sort}
@@ -18,6 +17,7 @@ use Rattle.fac_lang.specs.declared.core_table.CoreWord.TheVariants.{Call as c_ca
 use Rattle.fac_lang.specs.Primitives.{is_built_primitive}
 use Rattle.fac_locals.specs.Literals.{first_of_word}
 use Rattle.fac_locals.specs.Closed.{ClosesSort}
+use Rattle.fac_locals.specs.declared.closing.Closed.{Closed}
 use Rattle.fac_code.specs.declared.image.Instr.{Instr}
 use Rattle.fac_code.specs.declared.image.Tables.{Tables}
 use Rattle.fac_code.specs.References.{instr_refers}
@@ -53,14 +53,14 @@ one_passes test (y ∷ xs) zero x h e = let same : y ≡ x = cc in subst (λ (z 
 one_passes test (y ∷ xs) (suc k) x h e = one_passes test xs k x (first_true (test y) (list_all test xs) h).1 e
 
 -- code of a phrase isn't empty
-phrase_first : (C : Program) (templates : List Template) (last : Instr) (t : Phrase) → (x : Instr) × (more : List Instr) × (phrase_code C templates last t ≡ x ∷ more)
-phrase_first C templates last end = (last, [], refl)
-phrase_first C templates last (then i p t) = (item_instr C templates i, phrase_code C templates last t, refl)
+phrase_first : (C : Closed) (last : Instr) (t : Phrase) → (x : Instr) × (more : List Instr) × (phrase_code C last t ≡ x ∷ more)
+phrase_first C last end = (last, [], refl)
+phrase_first C last (then i p t) = (item_instr C i, phrase_code C last t, refl)
 
 -- so it begins at a place in the code
-pub begins_within : (code : List Instr) (C : Program) (templates : List Template) (last : Instr) (t : Phrase) (at : ℕ) (more : List Instr) → drop at code ≡ phrase_code C templates last t ++ more → nat_lt at (length code) ≡ true
-begins_within code C templates last t at more e =
-    let first = phrase_first C templates last t in lt-ltb at (length code) (within code at first.0 (first.1 ++ more) (e ∙ ap (λ (is : List Instr). is ++ more) first.2))
+pub begins_within : (code : List Instr) (C : Closed) (last : Instr) (t : Phrase) (at : ℕ) (more : List Instr) → drop at code ≡ phrase_code C last t ++ more → nat_lt at (length code) ≡ true
+begins_within code C last t at more e =
+    let first = phrase_first C last t in lt-ltb at (length code) (within code at first.0 (first.1 ++ more) (e ∙ ap (λ (is : List Instr). is ++ more) first.2))
 
 never_true : {A : Type 0} → false ≡ true → A
 never_true h = absurd (true≢false (sym h))

@@ -3,7 +3,6 @@ use Rattle.std.proofs.Common.{◌≡◌, ◌<◌, ◌≤◌, ℕ, zero, suc, ◌
 use Rattle.std.proofs.lemmas.Bool.{leb-true, le-leb}
 use Rattle.std.specs.Prelude.{◌&&◌, nat_le, slice_get}
 use Rattle.std.specs.List.{list_all}
-use Rattle.fac_lang.specs.declared.phrase.Template.{Template}
 use Rattle.fac_lang.specs.declared.program.Lit.{Lit}
 use Rattle.fac_lang.specs.declared.program.Lit.TheVariants.{Int as l_int, True as l_yes, False as l_no, Str as l_str, Arr as l_arr, Wref as l_word, Quot as l_quot, Made as l_made}
 use Rattle.fac_lang.specs.declared.program.Program.{Program}
@@ -15,6 +14,7 @@ use Rattle.fac_lang.specs.Whole.{IsWhole, name_count, inputs_name_count}
 use Rattle.fac_lang.specs.Meaning.{array_method}
 use Rattle.fac_locals.specs.Literals.{behind, first_in_array, element_item}
 use Rattle.fac_locals.specs.Closed.{Closes, ClosesElement, CloseElements, CloseArrays}
+use Rattle.fac_locals.specs.declared.closing.Closed.{Closed}
 use Rattle.fac_locals.proofs.Lookups.{word_open}
 use Rattle.fac_emit.specs.inner.Coded.{has_few_inputs, element_is_coded, array_is_coded}
 use Rattle.fac_emit.proofs.BuiltCode.{and_true}
@@ -53,15 +53,15 @@ item_passes test xs i x items are lt is h =
     let next = subst (λ (us : List _). drop i us ≡ x ∷ drop (i + 1) us) are (next_element items i x lt is) in
     and_first (test x) (list_all test (drop (i + 1) xs)) (subst (λ (us : List _). list_all test us ≡ true) next (all_dropped test i xs h))
 
-module _ (P C : Program) (templates : List Template) (whole : IsWhole P) (closes : Closes P C templates) where
+module _ (P : Program) (C : Closed) (whole : IsWhole P) (closes : Closes P C.program C.templates) where
   -- the effect of each word has few inputs
-  word_few : (w : ℕ) (c : WordDef) → slice_get C.words w ≡ Some c → has_few_inputs c ≡ true
+  word_few : (w : ℕ) (c : WordDef) → slice_get C.program.words w ≡ Some c → has_few_inputs c ≡ true
   word_few w c at =
-      let found = word_open P C templates closes w c at in
+      let found = word_open P C.program C.templates closes w c at in
       subst (λ (e : Signature). nat_le (effect_height e).ins 65 ≡ true) (sym found.closes.effect) (few_inputs found.def.effect (all_at (λ (d : WordDef). nat_le (name_count d.effect) 65) P.words w found.def whole.few_names found.at))
 
-  pub words_few : list_all has_few_inputs C.words ≡ true
-  words_few = each_passes has_few_inputs C.words word_few
+  pub words_few : list_all has_few_inputs C.program.words ≡ true
+  words_few = each_passes has_few_inputs C.program.words word_few
 
 -- each element of a closed program's literal arrays has an element of an image
 element_coded : (P : Program) (m : Option ℕ) (at : Literal) (l c : Lit) → ClosesElement P m at l c → element_is_coded c ≡ true
@@ -82,5 +82,5 @@ all_coded : (P : Program) (a : ℕ) (lss css : List (List Lit)) → CloseArrays 
 all_coded P a [] css h = rw h refl
 all_coded P a (ls ∷ lss) css h = rw h.3 (and_true (array_is_coded h.1) (list_all array_is_coded h.2) (elements_coded P (array_method P (length P.arrays) a) (first_in_array h.0) ls h.1 h.4) (all_coded P (suc a) lss h.2 h.5))
 
-pub arrays_coded : (P C : Program) (templates : List Template) → Closes P C templates → list_all array_is_coded C.arrays ≡ true
-arrays_coded P C templates closes = all_coded P 0 P.arrays C.arrays closes.arrays
+pub arrays_coded : (P : Program) (C : Closed) → Closes P C.program C.templates → list_all array_is_coded C.program.arrays ≡ true
+arrays_coded P C closes = all_coded P 0 P.arrays C.program.arrays closes.arrays

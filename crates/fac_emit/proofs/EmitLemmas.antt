@@ -3,8 +3,8 @@ use Rattle.std.proofs.Common.{◌≡◌, ◌<◌, ℕ, suc, ◌+◌, List, [], �
 use Rattle.std.specs.Prelude.{nat_eq, slice_get, map}
 use Rattle.fac_base.specs.declared.height.Height.{Height}
 use Rattle.fac_lang.specs.declared.phrase.Template.{Template}
-use Rattle.fac_lang.specs.declared.program.Program.{Program}
 use Rattle.fac_lang.specs.declared.program.WordDef.{WordDef}
+use Rattle.fac_locals.specs.declared.closing.Closed.{Closed}
 use Rattle.fac_code.specs.declared.image.Instr.{Instr}
 use Rattle.fac_code.specs.declared.image.Instr.TheVariants.{Ret}
 use Rattle.fac_code.specs.declared.image.TemplateRow.{TemplateRow}
@@ -27,31 +27,31 @@ mapped_step f xs i x items are lt is whole made pushed y all made_is is_pushed =
     rw (is_pushed, made_is) (all ∙ ap (λ (us : List _). made ++ map f us) (next_of xs i x items are lt is) ∙ sym (append_assoc made (f x ∷ []) (map f (drop (i + 1) xs))))
 
 -- one more template
-module _ (C : Program) (ts : List Template) (i : ℕ) (t : Template) (items : List Template) (are : items ≡ ts) (lt : i < length items) (is : t ≡ get_or items i t) where
-  pub template_code_step : (whole code pushed : List Instr) → whole ≡ code ++ templates_code C ts (drop i ts) → pushed ≡ code ++ phrase_code C ts Ret t.body → whole ≡ pushed ++ templates_code C ts (drop (i + 1) ts)
+module _ (C : Closed) (i : ℕ) (t : Template) (items : List Template) (are : items ≡ C.templates) (lt : i < length items) (is : t ≡ get_or items i t) where
+  pub template_code_step : (whole code pushed : List Instr) → whole ≡ code ++ templates_code C (drop i C.templates) → pushed ≡ code ++ phrase_code C Ret t.body → whole ≡ pushed ++ templates_code C (drop (i + 1) C.templates)
   template_code_step whole code pushed all is_pushed =
-      rw is_pushed (all ∙ ap (λ (us : List Template). code ++ templates_code C ts us) (next_of ts i t items are lt is) ∙ sym (append_assoc code (phrase_code C ts Ret t.body) (templates_code C ts (drop (i + 1) ts))))
+      rw is_pushed (all ∙ ap (λ (us : List Template). code ++ templates_code C us) (next_of C.templates i t items are lt is) ∙ sym (append_assoc code (phrase_code C Ret t.body) (templates_code C (drop (i + 1) C.templates))))
 
-  pub template_rows_step : (heights : List (Option Height)) (q : ℕ) (code pushed : List Instr) (whole rows pushed_rows : List TemplateRow) → whole ≡ rows ++ template_rows C ts heights (length code) q (drop i ts) → pushed ≡ code ++ phrase_code C ts Ret t.body →
-      pushed_rows ≡ rows ++ row_at (height_there (slice_get heights q)) (length code) t ∷ [] → whole ≡ pushed_rows ++ template_rows C ts heights (length pushed) (q + 1) (drop (i + 1) ts)
+  pub template_rows_step : (heights : List (Option Height)) (q : ℕ) (code pushed : List Instr) (whole rows pushed_rows : List TemplateRow) → whole ≡ rows ++ template_rows C heights (length code) q (drop i C.templates) → pushed ≡ code ++ phrase_code C Ret t.body →
+      pushed_rows ≡ rows ++ row_at (height_there (slice_get heights q)) (length code) t ∷ [] → whole ≡ pushed_rows ++ template_rows C heights (length pushed) (q + 1) (drop (i + 1) C.templates)
   template_rows_step heights q code pushed whole rows pushed_rows all is_pushed are_pushed =
-      let own = phrase_code C ts Ret t.body in
+      let own = phrase_code C Ret t.body in
       let count : length pushed ≡ length code + length own = ap length is_pushed ∙ length-append code own in
       let row = row_at (height_there (slice_get heights q)) (length code) t in
-      rw (are_pushed, count, add-one q) (all ∙ ap (λ (us : List Template). rows ++ template_rows C ts heights (length code) q us) (next_of ts i t items are lt is) ∙ sym (append_assoc rows (row ∷ []) (template_rows C ts heights (length code + length own) (suc q) (drop (i + 1) ts))))
+      rw (are_pushed, count, add-one q) (all ∙ ap (λ (us : List Template). rows ++ template_rows C heights (length code) q us) (next_of C.templates i t items are lt is) ∙ sym (append_assoc rows (row ∷ []) (template_rows C heights (length code + length own) (suc q) (drop (i + 1) C.templates))))
 
 -- one more word
-module _ (C : Program) (templates : List Template) (number i : ℕ) (word : WordDef) (items : List WordDef) (are : items ≡ C.words) (lt : i < length items) (is : word ≡ get_or items i word) where
-  pub word_code_step : (whole code pushed : List Instr) → whole ≡ code ++ code_from C templates number (drop i C.words) → pushed ≡ code ++ sort_code C templates (nat_eq number C.top) word.sort → whole ≡ pushed ++ code_from C templates (number + 1) (drop (i + 1) C.words)
+module _ (C : Closed) (number i : ℕ) (word : WordDef) (items : List WordDef) (are : items ≡ C.program.words) (lt : i < length items) (is : word ≡ get_or items i word) where
+  pub word_code_step : (whole code pushed : List Instr) → whole ≡ code ++ code_from C number (drop i C.program.words) → pushed ≡ code ++ sort_code C (nat_eq number C.program.top) word.sort → whole ≡ pushed ++ code_from C (number + 1) (drop (i + 1) C.program.words)
   word_code_step whole code pushed all is_pushed =
       rw (is_pushed, add-one number)
-      (all ∙ ap (λ (ds : List WordDef). code ++ code_from C templates number ds) (next_of C.words i word items are lt is) ∙ sym (append_assoc code (word_code C templates number word) (code_from C templates (suc number) (drop (i + 1) C.words))))
+      (all ∙ ap (λ (ds : List WordDef). code ++ code_from C number ds) (next_of C.program.words i word items are lt is) ∙ sym (append_assoc code (word_code C number word) (code_from C (suc number) (drop (i + 1) C.program.words))))
 
-  pub word_rows_step : (code pushed : List Instr) (whole rows pushed_rows : List WordRow) → whole ≡ rows ++ words_from C templates (length code) number (drop i C.words) → pushed ≡ code ++ sort_code C templates (nat_eq number C.top) word.sort →
-      pushed_rows ≡ rows ++ word_row C templates (length code) number word ∷ [] → whole ≡ pushed_rows ++ words_from C templates (length pushed) (number + 1) (drop (i + 1) C.words)
+  pub word_rows_step : (code pushed : List Instr) (whole rows pushed_rows : List WordRow) → whole ≡ rows ++ words_from C (length code) number (drop i C.program.words) → pushed ≡ code ++ sort_code C (nat_eq number C.program.top) word.sort →
+      pushed_rows ≡ rows ++ word_row C (length code) number word ∷ [] → whole ≡ pushed_rows ++ words_from C (length pushed) (number + 1) (drop (i + 1) C.program.words)
   word_rows_step code pushed whole rows pushed_rows all is_pushed are_pushed =
-      let own = word_code C templates number word in
+      let own = word_code C number word in
       let count : length pushed ≡ length code + length own = ap length is_pushed ∙ length-append code own in
-      let row : WordRow = word_row C templates (length code) number word in
-      let others = words_from C templates (length code + length own) (suc number) (drop (i + 1) C.words) in
-      rw (are_pushed, count, add-one number) (all ∙ ap (λ (ds : List WordDef). rows ++ words_from C templates (length code) number ds) (next_of C.words i word items are lt is) ∙ sym (append_assoc rows (row ∷ []) others))
+      let row : WordRow = word_row C (length code) number word in
+      let others = words_from C (length code + length own) (suc number) (drop (i + 1) C.program.words) in
+      rw (are_pushed, count, add-one number) (all ∙ ap (λ (ds : List WordDef). rows ++ words_from C (length code) number ds) (next_of C.program.words i word items are lt is) ∙ sym (append_assoc rows (row ∷ []) others))

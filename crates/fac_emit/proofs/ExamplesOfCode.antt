@@ -6,6 +6,7 @@ use Rattle.fac_lang.specs.declared.error_name.ErrorName.{ErrorName}
 use Rattle.fac_lang.specs.declared.error_name.ErrorName.TheVariants.{WrongValues}
 use Rattle.fac_base.specs.declared.height.Height.{Height}
 use Rattle.fac_lang.specs.declared.phrase.Template.{Template}
+use Rattle.fac_lang.specs.declared.program.Lit.{Lit}
 use Rattle.fac_lang.specs.declared.program.Lit.TheVariants.{Int as l_int, True as l_yes, Str as l_str, Arr as l_arr, Wref as l_word, Made as l_made}
 use Rattle.fac_lang.specs.declared.program.Program.{Program}
 use Rattle.fac_lang.specs.declared.program.ClassDef.{ClassDef}
@@ -21,6 +22,7 @@ use Rattle.fac_lang.specs.Primitives.{built_count, prim_numbered, prim_fn}
 use Rattle.fac_code.specs.Code.{has_built_code}
 use Rattle.fac_code.specs.References.{refers}
 use Rattle.fac_lang.specs.Meaning.{nowhere}
+use Rattle.fac_locals.specs.declared.closing.Closed.{Closed}
 use Rattle.fac_locals.proofs.ClosedForms.{made_words, made_templates}
 use Rattle.fac_code.specs.declared.image.Instr.TheVariants.{Halt, Int, Text, Array, Word, Quot, Fry, Bind, Local, Prim, Callw, Call, Dip, Execute, CallEffect, ExecuteEffect, Ret, Boa, Generic, Next}
 use Rattle.fac_code.specs.declared.image.Elem.TheVariants as elem
@@ -54,14 +56,19 @@ source =
     named (prim 26) ∷ named (core w_call) ∷ named (core w_dip) ∷ named (prim 17) ∷ named (body (items (quot (items (number 2 ∷ [])) ∷ quot (items (quot (items (number 3 ∷ [])) ∷ word 1 ∷ word 0 ∷ [])) ∷ word 3 ∷ []))) ∷ named
     (body (items (number 1 ∷ word 4 ∷ quot (items (number 4 ∷ [])) ∷ word 2 ∷ word 1 ∷ []))) ∷ []
 
-abbrev closed : Program
-closed = record { words = made_words source []; arrays = []; classes = []; top = 5 }
+-- a closed program without classes
+abbrev without_classes : List WordDef → List (List Lit) → ℕ → List Template → Closed
+without_classes words arrays top templates = record { program = record { words = words; arrays = arrays; classes = []; top = top }; templates = templates; slots = []; start = 0; counted = refl }
 
-abbrev templates : List Template
-templates = made_templates source []
+-- that of words without literal arrays
+abbrev closed_from : List WordDef → ℕ → Closed
+closed_from words top = without_classes (made_words words []) [] top (made_templates words [])
+
+abbrev closed : Closed
+closed = closed_from source 5
 
 -- the four quotations, the one inside another behind it, then the word's phrase and the top-level phrase
-pub code_is : program_code closed templates ≡ Int (pos 2) ∷ Ret ∷ Quot 2 ∷ Call false ∷ Prim 26 ∷ Ret ∷ Int (pos 3) ∷ Ret ∷ Int (pos 4) ∷ Ret ∷ Quot 0 ∷ Quot 1 ∷ Prim 17 ∷ Ret ∷ Int (pos 1) ∷ Callw 4 false ∷ Quot 3 ∷ Dip ∷ Call false ∷ Halt ∷ []
+pub code_is : program_code closed ≡ Int (pos 2) ∷ Ret ∷ Quot 2 ∷ Call false ∷ Prim 26 ∷ Ret ∷ Int (pos 3) ∷ Ret ∷ Int (pos 4) ∷ Ret ∷ Quot 0 ∷ Quot 1 ∷ Prim 17 ∷ Ret ∷ Int (pos 1) ∷ Callw 4 false ∷ Quot 3 ∷ Dip ∷ Call false ∷ Halt ∷ []
 code_is = refl
 
 -- what takes and leaves so many values
@@ -74,7 +81,7 @@ heights = Some (from 0 1) ∷ Some (from 1 1) ∷ Some (from 0 1) ∷ Some (from
 abbrev quotation_row : ℕ → Option Height → TemplateRow
 quotation_row at h = record { entry = at; cells = []; holes = 0; height = h }
 
-pub template_rows_are : program_templates closed templates heights ≡ quotation_row 0 (Some (from 0 1)) ∷ quotation_row 2 (Some (from 1 1)) ∷ quotation_row 6 (Some (from 0 1)) ∷ quotation_row 8 (Some (from 0 1)) ∷ []
+pub template_rows_are : program_templates closed heights ≡ quotation_row 0 (Some (from 0 1)) ∷ quotation_row 2 (Some (from 1 1)) ∷ quotation_row 6 (Some (from 0 1)) ∷ quotation_row 8 (Some (from 0 1)) ∷ []
 template_rows_are = refl
 
 -- The words here have the empty text, which is number 0, as their vocabularies and names, and are declared never to return. A core word and the top-level phrase promise nothing.
@@ -84,20 +91,20 @@ plain_row a = record { vocab = 0; name = 0; action = a; height = Some (record { 
 abbrev bare_row : Action → WordRow
 bare_row a = record { vocab = 0; name = 0; action = a; height = None }
 
-pub word_rows_are : program_words closed templates ≡ plain_row (action.Prim 26) ∷ bare_row (action.Core w_call) ∷ bare_row (action.Core w_dip) ∷ plain_row (action.Prim 17) ∷ plain_row (action.Code 10) ∷ bare_row (action.Code 14) ∷ []
+pub word_rows_are : program_words closed ≡ plain_row (action.Prim 26) ∷ bare_row (action.Core w_call) ∷ bare_row (action.Core w_dip) ∷ plain_row (action.Prim 17) ∷ plain_row (action.Code 10) ∷ bare_row (action.Code 14) ∷ []
 unfolding program_texts text_levels
 word_rows_are = refl
 
-pub is_built : has_built_code (program_code closed templates) ≡ true
+pub is_built : has_built_code (program_code closed) ≡ true
 unfolding built_count
 is_built = refl
 
-pub words_built : refers (program_tables closed templates heights) (program_code closed templates) 14 ≡ true
+pub words_built : refers (program_tables closed heights) (program_code closed) 14 ≡ true
 unfolding built_count program_texts text_levels
 words_built = refl
 
 abbrev image : Image
-image = record { arrays = []; kinds = []; sets = []; generics = []; pairs = []; templates = program_templates closed templates heights; words = program_words closed templates; texts = program_texts closed templates; code = program_code closed templates; start = 14; built = is_built; refers = words_built }
+image = record { arrays = []; kinds = []; sets = []; generics = []; pairs = []; templates = program_templates closed heights; words = program_words closed; texts = program_texts closed; code = program_code closed; start = 14; built = is_built; refers = words_built }
 
 -- the stack and the ticks left where it is done
 abbrev ended : Option End → Option (List MValue × ℕ)
@@ -144,24 +151,21 @@ capturing = items (number 1 ∷ bind 7 ∷ quot (items (local 7 ∷ number 2 ∷
 abbrev capturing_source : List WordDef
 capturing_source = named (prim 26) ∷ named (core w_call) ∷ named (body capturing) ∷ []
 
-abbrev capturing_closed : Program
-capturing_closed = record { words = made_words capturing_source []; arrays = []; classes = []; top = 2 }
-
-abbrev capturing_templates : List Template
-capturing_templates = made_templates capturing_source []
+abbrev capturing_closed : Closed
+capturing_closed = closed_from capturing_source 2
 
 -- in the frame of the fry what it captures stands first, and what it takes behind it
-capturing_code : program_code capturing_closed capturing_templates ≡ Local 0 ∷ Int (pos 2) ∷ Prim 26 ∷ Ret ∷ Local 1 ∷ Local 0 ∷ Prim 26 ∷ Ret ∷ Int (pos 1) ∷ Bind ∷ Quot 0 ∷ Call false ∷ Int (pos 5) ∷ Fry 1 ∷ Call false ∷ Halt ∷ []
+capturing_code : program_code capturing_closed ≡ Local 0 ∷ Int (pos 2) ∷ Prim 26 ∷ Ret ∷ Local 1 ∷ Local 0 ∷ Prim 26 ∷ Ret ∷ Int (pos 1) ∷ Bind ∷ Quot 0 ∷ Call false ∷ Int (pos 5) ∷ Fry 1 ∷ Call false ∷ Halt ∷ []
 capturing_code = refl
 
-capturing_rows : program_templates capturing_closed capturing_templates [] ≡ record { entry = 0; cells = 0 ∷ []; holes = 0; height = None } ∷ record { entry = 4; cells = 0 ∷ []; holes = 1; height = None } ∷ []
+capturing_rows : program_templates capturing_closed [] ≡ record { entry = 0; cells = 0 ∷ []; holes = 0; height = None } ∷ record { entry = 4; cells = 0 ∷ []; holes = 1; height = None } ∷ []
 capturing_rows = refl
 
-pub capturing_built : has_built_code (program_code capturing_closed capturing_templates) ≡ true
+pub capturing_built : has_built_code (program_code capturing_closed) ≡ true
 unfolding built_count
 capturing_built = refl
 
-pub capturing_refers : refers (program_tables capturing_closed capturing_templates []) (program_code capturing_closed capturing_templates) 8 ≡ true
+pub capturing_refers : refers (program_tables capturing_closed []) (program_code capturing_closed) 8 ≡ true
 unfolding built_count program_texts text_levels
 capturing_refers = refl
 
@@ -173,10 +177,10 @@ capturing_image =
       sets = [];
       generics = [];
       pairs = [];
-      templates = program_templates capturing_closed capturing_templates [];
-      words = program_words capturing_closed capturing_templates;
-      texts = program_texts capturing_closed capturing_templates;
-      code = program_code capturing_closed capturing_templates;
+      templates = program_templates capturing_closed [];
+      words = program_words capturing_closed;
+      texts = program_texts capturing_closed;
+      code = program_code capturing_closed;
       start = 8;
       built = capturing_built;
       refers = capturing_refers;
@@ -212,24 +216,18 @@ capturing_stands =
     (c_end (c_last all_none refl)))))))))
 
 -- Strings and words as values, where word 0 is a symbol: `"a" red \ red "a"`. The texts are the words' vocabularies and names, and the string, each once.
-abbrev written : Program
-written =
-    record {
-      words = record (named itself) { name = record { vocab = []; name = codes "red" } } ∷ named (body (items (lit (str (codes "a")) ∷ word 0 ∷ lit (wrd 0) ∷ lit (str (codes "a")) ∷ []))) ∷ [];
-      arrays = [];
-      classes = [];
-      top = 1;
-    }
+abbrev written : Closed
+written = without_classes (record (named itself) { name = record { vocab = []; name = codes "red" } } ∷ named (body (items (lit (str (codes "a")) ∷ word 0 ∷ lit (wrd 0) ∷ lit (str (codes "a")) ∷ []))) ∷ []) [] 1 []
 
-written_code : program_code written [] ≡ Text 2 ∷ Word 0 ∷ Word 0 ∷ Text 2 ∷ Halt ∷ []
+written_code : program_code written ≡ Text 2 ∷ Word 0 ∷ Word 0 ∷ Text 2 ∷ Halt ∷ []
 unfolding program_texts text_levels
 written_code = refl
 
-written_texts : program_texts written [] ≡ [] ∷ codes "red" ∷ codes "a" ∷ []
+written_texts : program_texts written ≡ [] ∷ codes "red" ∷ codes "a" ∷ []
 unfolding program_texts text_levels
 written_texts = refl
 
-written_rows : program_words written [] ≡ record (plain_row action.Itself) { name = 1 } ∷ bare_row (action.Code 0) ∷ []
+written_rows : program_words written ≡ record (plain_row action.Itself) { name = 1 } ∷ bare_row (action.Code 0) ∷ []
 unfolding program_texts text_levels
 written_rows = refl
 
@@ -237,32 +235,26 @@ written_rows = refl
 abbrev quoting_source : List WordDef
 quoting_source = named (body (items (lit (str (codes "a")) ∷ quot (items (lit (str (codes "b")) ∷ quot (items (lit (str (codes "c")) ∷ [])) ∷ lit (str (codes "a")) ∷ [])) ∷ lit (str (codes "d")) ∷ []))) ∷ []
 
-abbrev quoting : Program
-quoting = record { words = made_words quoting_source []; arrays = []; classes = []; top = 0 }
+abbrev quoting : Closed
+quoting = closed_from quoting_source 0
 
-quoting_texts : program_texts quoting (made_templates quoting_source []) ≡ [] ∷ codes "a" ∷ codes "b" ∷ codes "c" ∷ codes "d" ∷ []
+quoting_texts : program_texts quoting ≡ [] ∷ codes "a" ∷ codes "b" ∷ codes "c" ∷ codes "d" ∷ []
 unfolding program_texts text_levels
 quoting_texts = refl
 
 -- A literal array, closed: `{ { t } 1 "b" [ .. ] red }`, whose quotation is template 0. Its string is a text where the array stands.
-abbrev boxed : Program
-boxed =
-    record {
-      words = record (named itself) { name = record { vocab = []; name = codes "red" } } ∷ named (body (items (lit (str (codes "a")) ∷ lit_arr 1 ∷ []))) ∷ [];
-      arrays = (l_yes ∷ []) ∷ (l_arr 0 ∷ l_int (pos 1) ∷ l_str (codes "b") ∷ l_made 0 ∷ l_word 0 ∷ []) ∷ [];
-      classes = [];
-      top = 1;
-    }
+abbrev boxed : Closed
+boxed = without_classes (record (named itself) { name = record { vocab = []; name = codes "red" } } ∷ named (body (items (lit (str (codes "a")) ∷ lit_arr 1 ∷ []))) ∷ []) ((l_yes ∷ []) ∷ (l_arr 0 ∷ l_int (pos 1) ∷ l_str (codes "b") ∷ l_made 0 ∷ l_word 0 ∷ []) ∷ []) 1 []
 
-boxed_code : program_code boxed [] ≡ Text 2 ∷ Array 1 ∷ Halt ∷ []
+boxed_code : program_code boxed ≡ Text 2 ∷ Array 1 ∷ Halt ∷ []
 unfolding program_texts text_levels
 boxed_code = refl
 
-boxed_arrays : program_arrays boxed [] ≡ (elem.True ∷ []) ∷ (elem.Array 0 ∷ elem.Int (pos 1) ∷ elem.Text 3 ∷ elem.Template 0 ∷ elem.Word 0 ∷ []) ∷ []
+boxed_arrays : program_arrays boxed ≡ (elem.True ∷ []) ∷ (elem.Array 0 ∷ elem.Int (pos 1) ∷ elem.Text 3 ∷ elem.Template 0 ∷ elem.Word 0 ∷ []) ∷ []
 unfolding program_texts text_levels
 boxed_arrays = refl
 
-boxed_texts : program_texts boxed [] ≡ [] ∷ codes "red" ∷ codes "a" ∷ codes "b" ∷ []
+boxed_texts : program_texts boxed ≡ [] ∷ codes "red" ∷ codes "a" ∷ codes "b" ∷ []
 unfolding program_texts text_levels
 boxed_texts = refl
 
@@ -277,39 +269,46 @@ figures =
 abbrev class_named : List ℕ → Shape → ClassDef
 class_named name shape = record { name = record { vocab = []; name = name }; shape = shape }
 
-abbrev figure : Program
-figure = record { words = made_words figures []; arrays = []; classes = class_named (codes "object") (built_in 11) ∷ class_named (codes "point") (tuple_class None (codes "x" ∷ [])) ∷ []; top = 9 }
+abbrev figure : Closed
+figure =
+    record {
+      program = record { words = made_words figures []; arrays = []; classes = class_named (codes "object") (built_in 11) ∷ class_named (codes "point") (tuple_class None (codes "x" ∷ [])) ∷ []; top = 9 };
+      templates = [];
+      slots = 0 ∷ 1 ∷ [];
+      start = 0;
+      counted = refl;
+    }
 
-figure_code : program_code figure [] ≡ Prim 0 ∷ Int (pos 1) ∷ Ret ∷ Next 8 false ∷ Int (pos 7) ∷ Prim 26 ∷ Ret ∷ Int (pos 5) ∷ Word 3 ∷ Boa ∷ Generic 0 false ∷ Halt ∷ []
+figure_code : program_code figure ≡ Prim 0 ∷ Int (pos 1) ∷ Ret ∷ Next 8 false ∷ Int (pos 7) ∷ Prim 26 ∷ Ret ∷ Int (pos 5) ∷ Word 3 ∷ Boa ∷ Generic 0 false ∷ Halt ∷ []
 figure_code = refl
 
 figure_rows :
-    program_words figure [] ≡ bare_row (action.Core w_boa) ∷ plain_row (action.Prim 0) ∷ plain_row (action.Prim 26) ∷ plain_row action.Itself ∷ plain_row (action.Isa 1) ∷ plain_row (action.Get 2) ∷ plain_row (action.Generic 0) ∷ plain_row (action.Code 0) ∷ plain_row (action.Code 3) ∷ bare_row (action.Code 7) ∷ []
+    program_words figure ≡ bare_row (action.Core w_boa) ∷ plain_row (action.Prim 0) ∷ plain_row (action.Prim 26) ∷ plain_row action.Itself ∷ plain_row (action.Isa 1) ∷ plain_row (action.Get 2) ∷ plain_row (action.Generic 0) ∷ plain_row (action.Code 0) ∷ plain_row (action.Code 3) ∷ bare_row (action.Code 7) ∷ []
 unfolding program_texts text_levels
 figure_rows = refl
 
-figure_texts : program_texts figure [] ≡ [] ∷ codes "point" ∷ codes "x" ∷ codes "object" ∷ []
+figure_texts : program_texts figure ≡ [] ∷ codes "point" ∷ codes "x" ∷ codes "object" ∷ []
 unfolding program_texts text_levels
 figure_texts = refl
 
-figure_kinds : program_kinds figure [] ≡ record { vocab = 0; name = 1; slots = Some (2 ∷ []) } ∷ []
+figure_kinds : program_kinds figure ≡ record { vocab = 0; name = 1; slots = Some (2 ∷ []) } ∷ []
 unfolding program_texts text_levels
 figure_kinds = refl
 
-figure_pairs : program_pairs figure ≡ (3, 8) ∷ []
+figure_pairs : program_pairs figure.program ≡ (3, 8) ∷ []
 figure_pairs = refl
 
-figure_sets : program_sets figure ≡ (0 ∷ 1 ∷ 2 ∷ 3 ∷ 4 ∷ 5 ∷ 6 ∷ 7 ∷ 8 ∷ []) ∷ (8 ∷ []) ∷ []
+figure_sets : program_sets figure.program ≡ (0 ∷ 1 ∷ 2 ∷ 3 ∷ 4 ∷ 5 ∷ 6 ∷ 7 ∷ 8 ∷ []) ∷ (8 ∷ []) ∷ []
 figure_sets = refl
 
-figure_generics : program_generics figure [] ≡ record { word = 6; methods = record { number = 8; set = 1; entry = 3 } ∷ record { number = 7; set = 0; entry = 0 } ∷ [] } ∷ []
+figure_generics : program_generics figure ≡ record { word = 6; methods = record { number = 8; set = 1; entry = 3 } ∷ record { number = 7; set = 0; entry = 0 } ∷ [] } ∷ []
 figure_generics = refl
 
-figure_built : has_built_code (program_code figure []) ≡ true
+figure_built : has_built_code (program_code figure) ≡ true
 unfolding built_count
 figure_built = refl
 
-figure_refers : refers (program_tables figure [] []) (program_code figure []) 7 ≡ true
+figure_refers : refers (program_tables figure []) (program_code figure) 7 ≡ true
 unfolding built_count program_texts text_levels
 figure_refers = refl
 
@@ -317,14 +316,14 @@ abbrev figure_image : Image
 figure_image =
     record {
       arrays = [];
-      kinds = program_kinds figure [];
-      sets = program_sets figure;
+      kinds = program_kinds figure;
+      sets = program_sets figure.program;
       templates = [];
-      words = program_words figure [];
-      generics = program_generics figure [];
-      pairs = program_pairs figure;
-      texts = program_texts figure [];
-      code = program_code figure [];
+      words = program_words figure;
+      generics = program_generics figure;
+      pairs = program_pairs figure.program;
+      texts = program_texts figure;
+      code = program_code figure;
       start = 7;
       built = figure_built;
       refers = figure_refers;
@@ -354,28 +353,25 @@ tested_source =
     declared 2 (prim 26) ∷ named (core w_execute) ∷ declared 1 (body (items (number 1 ∷ word 0 ∷ []))) ∷ named
     (body (items (number 3 ∷ quot (items (number 1 ∷ word 0 ∷ [])) ∷ call_eff (from 1 1) ∷ lit (wrd 2) ∷ exec_eff (from 1 1) ∷ number 4 ∷ lit (wrd 0) ∷ exec_eff (from 2 1) ∷ lit (wrd 2) ∷ word 1 ∷ []))) ∷ []
 
-abbrev tested : Program
-tested = record { words = made_words tested_source []; arrays = []; classes = []; top = 3 }
-
-abbrev tested_templates : List Template
-tested_templates = made_templates tested_source []
+abbrev tested : Closed
+tested = closed_from tested_source 3
 
 abbrev tested_heights : List (Option Height)
 tested_heights = Some (from 1 1) ∷ []
 
-tested_code : program_code tested tested_templates ≡
+tested_code : program_code tested ≡
     Int (pos 1) ∷ Prim 26 ∷ Ret ∷ Int (pos 1) ∷ Prim 26 ∷ Ret ∷ Int (pos 3) ∷ Quot 0 ∷ CallEffect (from 1 1) false ∷ Word 2 ∷ ExecuteEffect (from 1 1) false ∷ Int (pos 4) ∷ Word 0 ∷ ExecuteEffect (from 2 1) false ∷ Word 2 ∷ Execute false ∷ Halt ∷ []
 tested_code = refl
 
-tested_rows : program_words tested tested_templates ≡ record (bare_row (action.Prim 26)) { height = Some (from 2 1) } ∷ bare_row (action.Core w_execute) ∷ record (bare_row (action.Code 3)) { height = Some (from 1 1) } ∷ bare_row (action.Code 6) ∷ []
+tested_rows : program_words tested ≡ record (bare_row (action.Prim 26)) { height = Some (from 2 1) } ∷ bare_row (action.Core w_execute) ∷ record (bare_row (action.Code 3)) { height = Some (from 1 1) } ∷ bare_row (action.Code 6) ∷ []
 unfolding program_texts text_levels
 tested_rows = refl
 
-tested_built : has_built_code (program_code tested tested_templates) ≡ true
+tested_built : has_built_code (program_code tested) ≡ true
 unfolding built_count
 tested_built = refl
 
-tested_refers : (hs : List (Option Height)) → refers (program_tables tested tested_templates hs) (program_code tested tested_templates) 6 ≡ true
+tested_refers : (hs : List (Option Height)) → refers (program_tables tested hs) (program_code tested) 6 ≡ true
 unfolding built_count program_texts text_levels
 tested_refers hs = refl
 
@@ -388,10 +384,10 @@ tested_image hs =
       sets = [];
       generics = [];
       pairs = [];
-      templates = program_templates tested tested_templates hs;
-      words = program_words tested tested_templates;
-      texts = program_texts tested tested_templates;
-      code = program_code tested tested_templates;
+      templates = program_templates tested hs;
+      words = program_words tested;
+      texts = program_texts tested;
+      code = program_code tested;
       start = 6;
       built = tested_built;
       refers = tested_refers hs;

@@ -4,7 +4,6 @@ use Rattle.std.proofs.lemmas.Slice.Eq.{bytes_eq-Decides}
 use Rattle.std.specs.Prelude.{nat_eq, slice_get}
 use Rattle.std.specs.List.{list_any}
 use Rattle.std.specs.Str.{bytes_eq}
-use Rattle.fac_lang.specs.declared.phrase.Template.{Template}
 use Rattle.fac_lang.specs.declared.program.Program.{Program}
 use Rattle.fac_lang.specs.declared.program.WordDef.{WordDef}
 use Rattle.fac_lang.specs.declared.program.Sort.{Sort}
@@ -12,6 +11,7 @@ use Rattle.fac_lang.specs.declared.program.Sort.TheVariants.{Prim as prim, Core 
 use Rattle.fac_lang.specs.Whole.{no_two, same_word}
 use Rattle.fac_lang.specs.declared.core_table.CoreWord.{CoreWord}
 use Rattle.fac_lang.specs.declared.core_table.CoreWord.TheVariants.{Cond}
+use Rattle.fac_locals.specs.declared.closing.Closed.{Closed}
 use Rattle.fac_code.specs.declared.image.Action.{Action}
 use Rattle.fac_code.specs.declared.image.Action.TheVariants as action
 use Rattle.fac_code.specs.declared.image.WordRow.{WordRow}
@@ -97,15 +97,15 @@ other_number j k h = not_alike (nat_eq k j) (λ e. let same : k ≡ j = grind ar
     itself j = grind arith
 
 -- where each slot of an accessor is among the texts
-module _ (C : Program) (templates : List Template) where
+module _ (C : Closed) where
   abbrev pub Named : Sort → Type 0
-  Named (getter u) = IsAmong (program_texts C templates) u
-  Named (setter u) = IsAmong (program_texts C templates) u
-  Named (putter u) = IsAmong (program_texts C templates) u
+  Named (getter u) = IsAmong (program_texts C) u
+  Named (setter u) = IsAmong (program_texts C) u
+  Named (putter u) = IsAmong (program_texts C) u
   Named _ = Unit {0}
 
   -- so it is of each accessor
-  pub sort_slot : (s : Sort) → AreAmong (program_texts C templates) (sort_texts C templates s) → Named s
+  pub sort_slot : (s : Sort) → AreAmong (program_texts C) (sort_texts C s) → Named s
   sort_slot (getter u) h = h.0
   sort_slot (setter u) h = h.0
   sort_slot (putter u) h = h.0
@@ -117,10 +117,10 @@ module _ (C : Program) (templates : List Template) where
   named_alike s c (a_past t u) h = tt
   named_alike s c (a_method n g t u) h = tt
 
-  pub word_slot : (w : ℕ) (d : WordDef) → slice_get C.words w ≡ Some d → Named d.sort
-  word_slot w d e = sort_slot d.sort (word_named C templates w d e).1.1
+  pub word_slot : (w : ℕ) (d : WordDef) → slice_get C.program.words w ≡ Some d → Named d.sort
+  word_slot w d e = sort_slot d.sort (word_named C w d e).1.1
 
-  prim_other : (v at k : ℕ) (s : Sort) → same_sort s (prim k) ≡ false → same_action (action.Prim k) (sort_action C templates v at s) ≡ false
+  prim_other : (v at k : ℕ) (s : Sort) → same_sort s (prim k) ≡ false → same_action (action.Prim k) (sort_action C v at s) ≡ false
   prim_other v at k (prim j) h = other_number j k h
   prim_other v at k (core j) h = core_other j
     where
@@ -130,23 +130,23 @@ module _ (C : Program) (templates : List Template) where
   prim_other v at k _ h = refl
 
   -- slots with one number have one name
-  same_slot : (s u : List ℕ) → IsAmong (program_texts C templates) s → IsAmong (program_texts C templates) u → text_number C templates s ≡ text_number C templates u → u ≡ s
+  same_slot : (s u : List ℕ) → IsAmong (program_texts C) s → IsAmong (program_texts C) u → text_number C s ≡ text_number C u → u ≡ s
   same_slot s u hs hu e =
-      let one = text_there C templates s hs in
-      let two : slice_get (program_texts C templates) (text_number C templates s) ≡ Some u = ap (slice_get (program_texts C templates)) e ∙ text_there C templates u hu in
+      let one = text_there C s hs in
+      let two : slice_get (program_texts C) (text_number C s) ≡ Some u = ap (slice_get (program_texts C)) e ∙ text_there C u hu in
       cc
 
-  slot_other : (s u : List ℕ) → IsAmong (program_texts C templates) s → IsAmong (program_texts C templates) u → bytes_eq u s ≡ false → nat_eq (text_number C templates s) (text_number C templates u) ≡ false
+  slot_other : (s u : List ℕ) → IsAmong (program_texts C) s → IsAmong (program_texts C) u → bytes_eq u s ≡ false → nat_eq (text_number C s) (text_number C u) ≡ false
   slot_other s u hs hu h =
-      not_alike (nat_eq (text_number C templates s) (text_number C templates u)) (λ e.
-      let names = same_slot s u hs hu (same_number (text_number C templates s) (text_number C templates u) e) in
+      not_alike (nat_eq (text_number C s) (text_number C u)) (λ e.
+      let names = same_slot s u hs hu (same_number (text_number C s) (text_number C u) e) in
       let is : bytes_eq u s ≡ true = (bytes_eq-Decides u s).1 names in
       never_true (sym h ∙ is))
     where
       same_number : (j k : ℕ) → nat_eq j k ≡ true → j ≡ k
       same_number j k h = grind arith
 
-  core_row : (x : Accessor) (u : List ℕ) (c : CoreWord) → same_action (accessor_action x (text_number C templates u)) (core_action c) ≡ false
+  core_row : (x : Accessor) (u : List ℕ) (c : CoreWord) → same_action (accessor_action x (text_number C u)) (core_action c) ≡ false
   core_row getting u Cond = refl
   core_row getting u _ = refl
   core_row setting u Cond = refl
@@ -154,7 +154,7 @@ module _ (C : Program) (templates : List Template) where
   core_row putting u Cond = refl
   core_row putting u _ = refl
 
-  accessor_other : (x : Accessor) (u : List ℕ) (v at : ℕ) (s : Sort) → IsAmong (program_texts C templates) u → Named s → same_sort s (accessor_sort x u) ≡ false → same_action (accessor_action x (text_number C templates u)) (sort_action C templates v at s) ≡ false
+  accessor_other : (x : Accessor) (u : List ℕ) (v at : ℕ) (s : Sort) → IsAmong (program_texts C) u → Named s → same_sort s (accessor_sort x u) ≡ false → same_action (accessor_action x (text_number C u)) (sort_action C v at s) ≡ false
   accessor_other x u v at (core j) hu hy h = core_row x u j
   accessor_other getting u v at (getter y) hu hy h = slot_other u y hu hy h
   accessor_other getting u v at _ hu hy h = refl
@@ -166,12 +166,12 @@ module _ (C : Program) (templates : List Template) where
   itself : (k : ℕ) → nat_eq k k ≡ true
   itself k = grind arith
 
-  accessor_own : (x : Accessor) (u : List ℕ) (v at : ℕ) → same_action (accessor_action x (text_number C templates u)) (sort_action C templates v at (accessor_sort x u)) ≡ true
-  accessor_own getting u v at = itself (text_number C templates u)
-  accessor_own setting u v at = itself (text_number C templates u)
-  accessor_own putting u v at = itself (text_number C templates u)
+  accessor_own : (x : Accessor) (u : List ℕ) (v at : ℕ) → same_action (accessor_action x (text_number C u)) (sort_action C v at (accessor_sort x u)) ≡ true
+  accessor_own getting u v at = itself (text_number C u)
+  accessor_own setting u v at = itself (text_number C u)
+  accessor_own putting u v at = itself (text_number C u)
 
-  pub accessor_slot : (x : Accessor) (u : List ℕ) → Named (accessor_sort x u) → IsAmong (program_texts C templates) u
+  pub accessor_slot : (x : Accessor) (u : List ℕ) → Named (accessor_sort x u) → IsAmong (program_texts C) u
   accessor_slot getting u h = h
   accessor_slot setting u h = h
   accessor_slot putting u h = h
@@ -179,13 +179,13 @@ module _ (C : Program) (templates : List Template) where
   module _ (P : Program) where
     -- the rows of the words of an image, each of which does what its word's sort says
     abbrev pub DoAsSorts : List WordRow → Type 0
-    DoAsSorts rows = (w : ℕ) (d : WordDef) → slice_get P.words w ≡ Some d → (r : WordRow) × (at : ℕ) × (slice_get rows w ≡ Some r) × (r.action ≡ sort_action C templates w at d.sort)
+    DoAsSorts rows = (w : ℕ) (d : WordDef) → slice_get P.words w ≡ Some d → (r : WordRow) × (at : ℕ) × (slice_get rows w ≡ Some r) × (r.action ≡ sort_action C w at d.sort)
 
     module _ (rows : List WordRow) (distinct : no_two same_word P.words ≡ true) (does : DoAsSorts rows) (present : (j w : ℕ) (d : WordDef) → j < w → slice_get P.words w ≡ Some d → (x : WordDef) × (slice_get P.words j ≡ Some x)) where
       pub first_prim : (w k : ℕ) (d : WordDef) → slice_get P.words w ≡ Some d → d.sort ≡ prim k → word_with (action.Prim k) 0 rows ≡ w
       first_prim w k d at is =
           let row = does w d at in
-          let own : same_action (action.Prim k) row.0.action ≡ true = ap (same_action (action.Prim k)) row.3 ∙ ap (λ (s : Sort). same_action (action.Prim k) (sort_action C templates w row.1 s)) is ∙ itself k in
+          let own : same_action (action.Prim k) row.0.action ≡ true = ap (same_action (action.Prim k)) row.3 ∙ ap (λ (s : Sort). same_action (action.Prim k) (sort_action C w row.1 s)) is ∙ itself k in
           let n : 0 + w ≡ w = omega arith in
           first_row (action.Prim k) rows 0 w row.0 row.2 own (λ j lt.
           let x = present j w d lt at in
@@ -193,11 +193,11 @@ module _ (C : Program) (templates : List Template) where
           let other : same_sort x.0.sort (prim k) ≡ false = ap (same_sort x.0.sort) (sym is) ∙ differ same_word P.words j w x.0 d distinct lt x.1 at in
           (before.0, before.2, ap (same_action (action.Prim k)) before.3 ∙ prim_other j before.1 k x.0.sort other)) ∙ n
 
-      pub first_accessor : ((w : ℕ) (d : WordDef) → slice_get P.words w ≡ Some d → Named d.sort) → (x : Accessor) (u : List ℕ) (w : ℕ) (d : WordDef) → slice_get P.words w ≡ Some d → d.sort ≡ accessor_sort x u → word_with (accessor_action x (text_number C templates u)) 0 rows ≡ w
+      pub first_accessor : ((w : ℕ) (d : WordDef) → slice_get P.words w ≡ Some d → Named d.sort) → (x : Accessor) (u : List ℕ) (w : ℕ) (d : WordDef) → slice_get P.words w ≡ Some d → d.sort ≡ accessor_sort x u → word_with (accessor_action x (text_number C u)) 0 rows ≡ w
       first_accessor named x u w d at is =
           let row = does w d at in
-          let a = accessor_action x (text_number C templates u) in
-          let own : same_action a row.0.action ≡ true = ap (same_action a) row.3 ∙ ap (λ (s : Sort). same_action a (sort_action C templates w row.1 s)) is ∙ accessor_own x u w row.1 in
+          let a = accessor_action x (text_number C u) in
+          let own : same_action a row.0.action ≡ true = ap (same_action a) row.3 ∙ ap (λ (s : Sort). same_action a (sort_action C w row.1 s)) is ∙ accessor_own x u w row.1 in
           let slot = accessor_slot x u (subst Named is (named w d at)) in
           let n : 0 + w ≡ w = omega arith in
           first_row a rows 0 w row.0 row.2 own (λ j lt.

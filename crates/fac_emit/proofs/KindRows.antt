@@ -2,9 +2,8 @@
 use Rattle.std.proofs.Common.{◌≡◌, ◌<◌, ℕ, zero, suc, ◌+◌, ◌-◌, List, [], ◌∷◌, Bool, true, false, Option, Some, None, refl, ap, sym, ◌∙◌, arith, true≢false}
 use Rattle.std.specs.Prelude.{nat_eq, slice_get}
 use Rattle.fac_lang.specs.declared.program.ClassDef.{ClassDef}
-use Rattle.fac_lang.specs.declared.phrase.Template.{Template}
-use Rattle.fac_lang.specs.declared.program.Program.{Program}
 use Rattle.fac_lang.specs.Classes.{has_own, own_kind, class_with}
+use Rattle.fac_locals.specs.declared.closing.Closed.{Closed}
 use Rattle.fac_code.specs.declared.image.KindRow.{KindRow}
 use Rattle.fac_emit.specs.ProgramTables.{kind_row_of, kinds_from}
 
@@ -22,12 +21,12 @@ pub no_class : (c k : ℕ) (ds : List ClassDef) → k < 8 → class_with c ds k 
 no_class c k [] lt = refl
 no_class c k (d ∷ ds) lt = first_by c k ds (has_own d.shape) (nat_eq k 8) refl lt (λ j less. no_class (suc c) j ds less)
 
-module _ (C : Program) (templates : List Template) where
+module _ (C : Closed) where
   abbrev row : ℕ → ClassDef → KindRow
-  row c d = kind_row_of C templates c d
+  row c d = kind_row_of C c d
 
   abbrev rows : ℕ → List ClassDef → List KindRow
-  rows c ds = kinds_from C templates c ds
+  rows c ds = kinds_from C c ds
 
   -- the row of a kind, and the class whose own kind it is
   pub record KindOf (c : ℕ) (ds : List ClassDef) (j : ℕ) : Type 0 where

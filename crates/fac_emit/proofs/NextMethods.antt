@@ -4,7 +4,6 @@ use Rattle.std.specs.Prelude.{◌&&◌, nat_eq, slice_get, map}
 use Rattle.std.specs.List.{list_all, list_any}
 use Rattle.std.specs.Option.{option_map}
 use Rattle.std.proofs.lemmas.Option.{slice_get-map}
-use Rattle.fac_lang.specs.declared.phrase.Template.{Template}
 use Rattle.fac_lang.specs.declared.program.Program.{Program}
 use Rattle.fac_lang.specs.declared.program.WordDef.{WordDef}
 use Rattle.fac_lang.specs.declared.program.Sort.{Sort}
@@ -14,6 +13,7 @@ use Rattle.fac_lang.specs.Phrases.{Phrase}
 use Rattle.fac_lang.specs.Whole.{IsWhole, sort_fits, is_class, is_generic}
 use Rattle.fac_lang.specs.Meaning.{sort_of, generic_of}
 use Rattle.fac_locals.specs.Closed.{Closes, ClosesSort}
+use Rattle.fac_locals.specs.declared.closing.Closed.{Closed}
 use Rattle.fac_locals.proofs.Lookups.{word_closed}
 use Rattle.fac_generic.specs.Methods.{methods_in_order}
 use Rattle.fac_code.specs.declared.image.GenericRow.{GenericRow}
@@ -96,9 +96,9 @@ module _ (place : ℕ → ℕ) where
   seen_in m g k [] = unseen refl (λ j c e. absurd (cc))
   seen_in m g k (x ∷ ms) = seen_by m g k x ms (nat_eq x.0 m) refl (seen_in m g (suc k) ms)
 
-module _ (P C : Program) (templates : List Template) (b : IsSourceProgram P) (whole : IsWhole P) (laws : MethodLaws P) (closes : Closes P C templates) (place : ℕ → ℕ) where
+module _ (P : Program) (C : Closed) (b : IsSourceProgram P) (whole : IsWhole P) (laws : MethodLaws P) (closes : Closes P C.program C.templates) (place : ℕ → ℕ) where
   abbrev row_of : ℕ → GenericRow
-  row_of g = record { word = g; methods = map (method_row place) (methods_in_order C g) }
+  row_of g = record { word = g; methods = map (method_row place) (methods_in_order C.program g) }
 
   -- the generic of a method, and the method's place, as the rows of generics from number i on tell them
   pub record MethodFound (m i : ℕ) (rows : List GenericRow) : Type 0 where
@@ -110,9 +110,9 @@ module _ (P C : Program) (templates : List Template) (b : IsSourceProgram P) (wh
     pub there : slice_get (methods_in_order P (generic_of P (sort_of P m))) place_of ≡ Some (m, class_of)
 
   -- a generic that has it is that of the method
-  first_found : (m i g j c : ℕ) (rows : List GenericRow) → place_in m i 0 (row_of g).methods ≡ Some (i, 0 + j) → slice_get (methods_in_order C g) j ≡ Some (m, c) → MethodFound m i (row_of g ∷ rows)
+  first_found : (m i g j c : ℕ) (rows : List GenericRow) → place_in m i 0 (row_of g).methods ≡ Some (i, 0 + j) → slice_get (methods_in_order C.program g) j ≡ Some (m, c) → MethodFound m i (row_of g ∷ rows)
   first_found m i g j c rows e there =
-      let own : slice_get (methods_in_order P g) j ≡ Some (m, c) = ap (λ (ms : List (ℕ × ℕ)). slice_get ms j) (sym (order_same P C templates closes g)) ∙ there in
+      let own : slice_get (methods_in_order P g) j ≡ Some (m, c) = ap (λ (ms : List (ℕ × ℕ)). slice_get ms j) (sym (order_same P C closes g)) ∙ there in
       let is = laws.are_methods g j m c own in
       let same : g ≡ generic_of P (sort_of P m) = sym (ap (generic_of P) is.1) in
       let n : i ≡ i + 0 = omega arith in
@@ -132,59 +132,59 @@ module _ (P C : Program) (templates : List Template) (b : IsSourceProgram P) (wh
       record { number = suc f.number; place_of = f.place_of; found = ap (λ (o : Option (ℕ × ℕ)). first_of o (place_from m (suc i) rows)) e ∙ f.found ∙ ap (λ (a : ℕ). let y : ℕ × ℕ = (a, f.place_of) in Some y) n; row = f.row; class_of = f.class_of; there = f.there }
 
   -- where it is among those of its generic
-  listed_at : (m : ℕ) → IsMethod (sort_of P m) → (j : ℕ) × (c : ℕ) × (slice_get (methods_in_order C (generic_of P (sort_of P m))) j ≡ Some (m, c))
+  listed_at : (m : ℕ) → IsMethod (sort_of P m) → (j : ℕ) × (c : ℕ) × (slice_get (methods_in_order C.program (generic_of P (sort_of P m))) j ≡ Some (m, c))
   listed_at m is =
       let found = is_method (sort_of P m) is in
       let g = generic_of P (sort_of P m) in
       let own : g ≡ found.1 = ap (generic_of P) found.3 in
       let at = laws.all_methods m found.0 g found.2 (found.3 ∙ ap (λ (g : ℕ). Some (method found.0 g found.2)) (sym own)) in
-      (at.0, found.0, ap (λ (ms : List (ℕ × ℕ)). slice_get ms at.0) (order_same P C templates closes g) ∙ at.1)
+      (at.0, found.0, ap (λ (ms : List (ℕ × ℕ)). slice_get ms at.0) (order_same P C closes g) ∙ at.1)
 
   pub listed : (m : ℕ) → IsMethod (sort_of P m) → list_any (has_number m) (row_of (generic_of P (sort_of P m))).methods ≡ true
   listed m is =
       let g = generic_of P (sort_of P m) in
       let at = listed_at m is in
-      any_there (has_number m) (row_of g).methods at.0 (method_row place (m, at.1)) (slice_get-map (method_row place) (methods_in_order C g) at.0 ∙ ap (option_map (method_row place)) at.2) (itself m)
+      any_there (has_number m) (row_of g).methods at.0 (method_row place (m, at.1)) (slice_get-map (method_row place) (methods_in_order C.program g) at.0 ∙ ap (option_map (method_row place)) at.2) (itself m)
 
   -- the rows of the words from one on, of this sort
   abbrev rows_from : ℕ → List WordDef → Sort → List GenericRow
-  rows_from v ds s = elim s [ generic ↦ row_of v ∷ generics_from C place (suc v) ds | _ ↦ generics_from C place (suc v) ds ]
+  rows_from v ds s = elim s [ generic ↦ row_of v ∷ generics_from C.program place (suc v) ds | _ ↦ generics_from C.program place (suc v) ds ]
 
-  own_seen : (m : ℕ) → IsMethod (sort_of P m) → (i v : ℕ) (rows : List GenericRow) → v ≡ generic_of P (sort_of P m) → Seen place m i 0 (methods_in_order C v) → MethodFound m i (row_of v ∷ rows)
+  own_seen : (m : ℕ) → IsMethod (sort_of P m) → (i v : ℕ) (rows : List GenericRow) → v ≡ generic_of P (sort_of P m) → Seen place m i 0 (methods_in_order C.program v) → MethodFound m i (row_of v ∷ rows)
   own_seen m is i v rows own (seen j c e there) = first_found m i v j c rows e there
-  own_seen m is i v rows own (unseen e none) = let at = listed_at m is in absurd (none at.0 at.1 (ap (λ (g : ℕ). slice_get (methods_in_order C g) at.0) own ∙ at.2))
+  own_seen m is i v rows own (unseen e none) = let at = listed_at m is in absurd (none at.0 at.1 (ap (λ (g : ℕ). slice_get (methods_in_order C.program g) at.0) own ∙ at.2))
 
-  next_seen : (m i v : ℕ) (rows : List GenericRow) → ((i : ℕ) → MethodFound m i rows) → Seen place m i 0 (methods_in_order C v) → MethodFound m i (row_of v ∷ rows)
+  next_seen : (m i v : ℕ) (rows : List GenericRow) → ((i : ℕ) → MethodFound m i rows) → Seen place m i 0 (methods_in_order C.program v) → MethodFound m i (row_of v ∷ rows)
   next_seen m i v rows later (seen j c e there) = first_found m i v j c rows e there
   next_seen m i v rows later (unseen e none) = behind m i v rows e (later (suc i))
 
-  by_sort : (m i v : ℕ) (ds : List WordDef) (s : Sort) → ((i : ℕ) → MethodFound m i (generics_from C place (suc v) ds)) → MethodFound m i (rows_from v ds s)
-  by_sort m i v ds generic later = next_seen m i v (generics_from C place (suc v) ds) later (seen_in place m i 0 (methods_in_order C v))
+  by_sort : (m i v : ℕ) (ds : List WordDef) (s : Sort) → ((i : ℕ) → MethodFound m i (generics_from C.program place (suc v) ds)) → MethodFound m i (rows_from v ds s)
+  by_sort m i v ds generic later = next_seen m i v (generics_from C.program place (suc v) ds) later (seen_in place m i 0 (methods_in_order C.program v))
   by_sort m i v ds _ later = later i
 
   -- from word v on, where the generic comes later
-  found_from : (m : ℕ) → IsMethod (sort_of P m) → (i v : ℕ) (ds : List WordDef) (k : ℕ) (d : WordDef) → slice_get ds k ≡ Some d → d.sort ≡ generic → v + k ≡ generic_of P (sort_of P m) → MethodFound m i (generics_from C place v ds)
+  found_from : (m : ℕ) → IsMethod (sort_of P m) → (i v : ℕ) (ds : List WordDef) (k : ℕ) (d : WordDef) → slice_get ds k ≡ Some d → d.sort ≡ generic → v + k ≡ generic_of P (sort_of P m) → MethodFound m i (generics_from C.program place v ds)
   found_from m is i v [] k d e sort own = absurd (cc)
   found_from m is i v (x ∷ ds) zero d e sort own =
       let same : x ≡ d = cc in
       let n : v ≡ v + 0 = omega arith in
-      subst (λ (s : Sort). MethodFound m i (rows_from v ds s)) (sym (ap (λ (y : WordDef). y.sort) same ∙ sort)) (own_seen m is i v (generics_from C place (suc v) ds) (n ∙ own) (seen_in place m i 0 (methods_in_order C v)))
+      subst (λ (s : Sort). MethodFound m i (rows_from v ds s)) (sym (ap (λ (y : WordDef). y.sort) same ∙ sort)) (own_seen m is i v (generics_from C.program place (suc v) ds) (n ∙ own) (seen_in place m i 0 (methods_in_order C.program v)))
   found_from m is i v (x ∷ ds) (suc k) d e sort own = let n : suc v + k ≡ v + suc k = omega arith in by_sort m i v ds x.sort (λ i. found_from m is i (suc v) ds k d e sort (n ∙ own))
 
   -- the word of a method's generic
-  pub generic_there : (m : ℕ) → IsMethod (sort_of P m) → (c : WordDef) × (slice_get C.words (generic_of P (sort_of P m)) ≡ Some c) × (c.sort ≡ generic)
+  pub generic_there : (m : ℕ) → IsMethod (sort_of P m) → (c : WordDef) × (slice_get C.program.words (generic_of P (sort_of P m)) ≡ Some c) × (c.sort ≡ generic)
   generic_there m is =
       let found = is_method (sort_of P m) is in
       let g = generic_of P (sort_of P m) in
       let own : g ≡ found.1 = ap (generic_of P) found.3 in
       let fits = method_fits P b whole m found.0 found.1 found.2 found.3 in
       let word_of = word_there P b g generic (ap (sort_of P) own ∙ fits.1) in
-      let closed = word_closed P C templates closes g word_of.0 word_of.1 in
+      let closed = word_closed P C.program C.templates closes g word_of.0 word_of.1 in
       (closed.closed, closed.at, subst (λ (s : Sort). ClosesSort P g s closed.closed.sort) word_of.2 closed.closes.sort)
 
-  pub method_found : (m : ℕ) → IsMethod (sort_of P m) → MethodFound m 0 (generics_from C place 0 C.words)
+  pub method_found : (m : ℕ) → IsMethod (sort_of P m) → MethodFound m 0 (generics_from C.program place 0 C.program.words)
   method_found m is =
       let g = generic_of P (sort_of P m) in
       let word_of = generic_there m is in
       let n : 0 + g ≡ g = omega arith in
-      found_from m is 0 0 C.words g word_of.0 word_of.1 word_of.2 n
+      found_from m is 0 0 C.program.words g word_of.0 word_of.1 word_of.2 n

@@ -8,6 +8,7 @@ use Rattle.fac_lang.specs.declared.program.WordDef.{WordDef}
 use Rattle.fac_locals.specs.Literals.{Quoted, literals, literal_or, literal_numbered}
 use Rattle.fac_locals.specs.Cells.{captured, hole_count}
 use Rattle.fac_locals.specs.Closed.{Closes, ClosesLiteral}
+use Rattle.fac_locals.specs.declared.closing.Closed.{Closed}
 use Rattle.fac_locals.proofs.Lookups.{template_closed, template_closed_none, templates_count}
 use Rattle.fac_code.specs.declared.image.Instr.{Instr}
 use Rattle.fac_code.specs.declared.image.Instr.TheVariants.{Ret}
@@ -33,13 +34,13 @@ pub regroup : (code xs ys zs : List Instr) → code ≡ (xs ++ ys) ++ zs → cod
 regroup code xs ys zs e = e ∙ append_assoc xs ys zs
 
 -- Where the rows of templates are, and the code of each.
-module _ (C : Program) (templates : List Template) (code : List Instr) where
+module _ (C : Closed) (code : List Instr) where
   pub record IsRowOf (r : TemplateRow) (t : Template) : Type 0 where
     pub at : ℕ
     pub height : Option Height
     pub row : r ≡ row_at height at t
     pub more : List Instr
-    pub there : drop at code ≡ phrase_code C templates Ret t.body ++ more
+    pub there : drop at code ≡ phrase_code C Ret t.body ++ more
 
   abbrev pub Rows : List TemplateRow → List Template → Type 0
   Rows [] [] = Unit {0}
@@ -71,102 +72,102 @@ module _ (C : Program) (templates : List Template) (code : List Instr) where
   template_at (q ∷ rs) (u ∷ ts) (suc k) r h e = let later = template_at rs ts k r h.1 e in record { template = later.template; there = later.there; of = later.of }
 
   -- templates whose code stands one behind the other
-  pub rows_placed : (heights : List (Option Height)) (at q : ℕ) (ts : List Template) (more : List Instr) → drop at code ≡ templates_code C templates ts ++ more → Rows (template_rows C templates heights at q ts) ts
+  pub rows_placed : (heights : List (Option Height)) (at q : ℕ) (ts : List Template) (more : List Instr) → drop at code ≡ templates_code C ts ++ more → Rows (template_rows C heights at q ts) ts
   rows_placed heights at q [] more e = tt
   rows_placed heights at q (t ∷ ts) more e =
-      let own = phrase_code C templates Ret t.body in
-      let there = regroup (drop at code) own (templates_code C templates ts) more e in (
-        record { at = at; height = height_there (slice_get heights q); row = refl; more = templates_code C templates ts ++ more; there = there },
-        rows_placed heights (at + length own) (suc q) ts more (drop_behind code at own (templates_code C templates ts ++ more) there),
+      let own = phrase_code C Ret t.body in
+      let there = regroup (drop at code) own (templates_code C ts) more e in (
+        record { at = at; height = height_there (slice_get heights q); row = refl; more = templates_code C ts ++ more; there = there },
+        rows_placed heights (at + length own) (suc q) ts more (drop_behind code at own (templates_code C ts ++ more) there),
       )
 
-module _ (C : Program) (templates : List Template) (code : List Instr) where
+module _ (C : Closed) (code : List Instr) where
   -- a word's row, and the place of its code
   pub record Placed (rows : List WordRow) (w v : ℕ) (d : WordDef) : Type 0 where
     pub at : ℕ
-    pub row : slice_get rows w ≡ Some (word_row C templates at v d)
+    pub row : slice_get rows w ≡ Some (word_row C at v d)
     pub more : List Instr
-    pub there : drop at code ≡ word_code C templates v d ++ more
+    pub there : drop at code ≡ word_code C v d ++ more
 
-  pub placed : (at v : ℕ) (ds : List WordDef) (w : ℕ) (d : WordDef) → drop at code ≡ code_from C templates v ds → slice_get ds w ≡ Some d → Placed (words_from C templates at v ds) w (v + w) d
+  pub placed : (at v : ℕ) (ds : List WordDef) (w : ℕ) (d : WordDef) → drop at code ≡ code_from C v ds → slice_get ds w ≡ Some d → Placed (words_from C at v ds) w (v + w) d
   placed at v [] w d e found = absurd (cc)
   placed at v (x ∷ ds) zero d e found =
       let same : x ≡ d = cc in
       let number : v + zero ≡ v = omega arith in
-      let others = code_from C templates (suc v) ds in
+      let others = code_from C (suc v) ds in
       record {
         at = at;
-        row = ap (λ (d : WordDef). Some (word_row C templates at v d)) same ∙ ap (λ (k : ℕ). Some (word_row C templates at k d)) (sym number);
+        row = ap (λ (d : WordDef). Some (word_row C at v d)) same ∙ ap (λ (k : ℕ). Some (word_row C at k d)) (sym number);
         more = others;
-        there = e ∙ ap (λ (d : WordDef). word_code C templates v d ++ others) same ∙ ap (λ (k : ℕ). word_code C templates k d ++ others) (sym number);
+        there = e ∙ ap (λ (d : WordDef). word_code C v d ++ others) same ∙ ap (λ (k : ℕ). word_code C k d ++ others) (sym number);
       }
   placed at v (x ∷ ds) (suc w) d e found =
-      let own = word_code C templates v x in
-      let later = placed (at + length own) (suc v) ds w d (drop_behind code at own (code_from C templates (suc v) ds) e) found in
+      let own = word_code C v x in
+      let later = placed (at + length own) (suc v) ds w d (drop_behind code at own (code_from C (suc v) ds) e) found in
       let number : suc v + w ≡ v + suc w = omega arith in
-      record { at = later.at; row = later.row ∙ ap (λ (k : ℕ). Some (word_row C templates later.at k d)) number; more = later.more; there = later.there ∙ ap (λ (k : ℕ). word_code C templates k d ++ later.more) number }
+      record { at = later.at; row = later.row ∙ ap (λ (k : ℕ). Some (word_row C later.at k d)) number; more = later.more; there = later.there ∙ ap (λ (k : ℕ). word_code C k d ++ later.more) number }
 
 -- all words, behind the templates
-pub behind_templates : (C : Program) (templates : List Template) (code : List Instr) → code ≡ program_code C templates → drop (length (templates_code C templates templates)) code ≡ code_from C templates 0 C.words
-behind_templates C templates code e =
-    let first = templates_code C templates templates in
+pub behind_templates : (C : Closed) (code : List Instr) → code ≡ program_code C → drop (length (templates_code C C.templates)) code ≡ code_from C 0 C.program.words
+behind_templates C code e =
+    let first = templates_code C C.templates in
     let front : 0 + length first ≡ length first = omega arith in
-    ap (λ (k : ℕ). drop k code) (sym front) ∙ drop_behind code 0 first (code_from C templates 0 C.words) e
+    ap (λ (k : ℕ). drop k code) (sym front) ∙ drop_behind code 0 first (code_from C 0 C.program.words) e
 
-pub words_placed : (C : Program) (templates : List Template) (code : List Instr) → code ≡ program_code C templates → (w : ℕ) (d : WordDef) → slice_get C.words w ≡ Some d → Placed C templates code (program_words C templates) w w d
-words_placed C templates code is w d found =
+pub words_placed : (C : Closed) (code : List Instr) → code ≡ program_code C → (w : ℕ) (d : WordDef) → slice_get C.program.words w ≡ Some d → Placed C code (program_words C) w w d
+words_placed C code is w d found =
     let n : 0 + w ≡ w = omega arith in
-    subst (λ (v : ℕ). Placed C templates code (program_words C templates) w v d) n (placed C templates code (length (templates_code C templates templates)) 0 C.words w d (behind_templates C templates code is) found)
+    subst (λ (v : ℕ). Placed C code (program_words C) w v d) n (placed C code (length (templates_code C C.templates)) 0 C.program.words w d (behind_templates C code is) found)
 
 -- The effect in the row of each template.
 pub row_height_is :
-    (C : Program) (templates : List Template) (heights : List (Option Height)) (at q : ℕ) (ts : List Template) (k : ℕ) (r : TemplateRow) → slice_get (template_rows C templates heights at q ts) k ≡ Some r → r.height ≡ height_there (slice_get heights (q + k))
-row_height_is C templates heights at q [] k r e = absurd (cc)
-row_height_is C templates heights at q (t ∷ ts) zero r e =
+    (C : Closed) (heights : List (Option Height)) (at q : ℕ) (ts : List Template) (k : ℕ) (r : TemplateRow) → slice_get (template_rows C heights at q ts) k ≡ Some r → r.height ≡ height_there (slice_get heights (q + k))
+row_height_is C heights at q [] k r e = absurd (cc)
+row_height_is C heights at q (t ∷ ts) zero r e =
     let same : row_at (height_there (slice_get heights q)) at t ≡ r = cc in
     let number : q ≡ q + 0 = omega arith in
     sym (ap (λ (x : TemplateRow). x.height) same) ∙ ap (λ (j : ℕ). height_there (slice_get heights j)) number
-row_height_is C templates heights at q (t ∷ ts) (suc k) r e =
+row_height_is C heights at q (t ∷ ts) (suc k) r e =
     let number : suc q + k ≡ q + suc k = omega arith in
-    row_height_is C templates heights (at + length (phrase_code C templates Ret t.body)) (suc q) ts k r e ∙ ap (λ (j : ℕ). height_there (slice_get heights j)) number
+    row_height_is C heights (at + length (phrase_code C Ret t.body)) (suc q) ts k r e ∙ ap (λ (j : ℕ). height_there (slice_get heights j)) number
 
 -- The rows of the templates of a closed program.
-module _ (P C : Program) (templates : List Template) (closes : Closes P C templates) where
+module _ (P : Program) (C : Closed) (closes : Closes P C.program C.templates) where
   -- each template is that of a literal in a word
-  pub literal_of : (q : ℕ) (t : Template) → slice_get templates q ≡ Some t → (literal_numbered P q).at.word < length P.words
-  literal_of q t e = let found = get_other templates (literals P) q t (templates_count P C templates closes) e in subst (λ (l : Quoted). l.at.word < length P.words) (sym (ap (literal_or P q) found.1)) (in_a_word P q found.0 found.1)
+  pub literal_of : (q : ℕ) (t : Template) → slice_get C.templates q ≡ Some t → (literal_numbered P q).at.word < length P.words
+  literal_of q t e = let found = get_other C.templates (literals P) q t (templates_count P C.program C.templates closes) e in subst (λ (l : Quoted). l.at.word < length P.words) (sym (ap (literal_or P q) found.1)) (in_a_word P q found.0 found.1)
 
-  module _ (heights : List (Option Height)) (code : List Instr) (rows : List TemplateRow) (code_is : code ≡ program_code C templates) (rows_are : rows ≡ program_templates C templates heights) where
-    pub all_rows : Rows C templates code rows templates
-    all_rows = subst (λ (rs : List TemplateRow). Rows C templates code rs templates) (sym rows_are) (rows_placed C templates code heights 0 0 templates (code_from C templates 0 C.words) code_is)
+  module _ (heights : List (Option Height)) (code : List Instr) (rows : List TemplateRow) (code_is : code ≡ program_code C) (rows_are : rows ≡ program_templates C heights) where
+    pub all_rows : Rows C code rows C.templates
+    all_rows = subst (λ (rs : List TemplateRow). Rows C code rs C.templates) (sym rows_are) (rows_placed C code heights 0 0 C.templates (code_from C 0 C.program.words) code_is)
 
     -- the template of a literal, and its row
     pub record RowFor (q : ℕ) (l : Quoted) : Type 0 where
       pub template : Template
-      pub found : slice_get templates q ≡ Some template
+      pub found : slice_get C.templates q ≡ Some template
       pub row : TemplateRow
       pub there : slice_get rows q ≡ Some row
       pub cells : row.cells ≡ captured l.cells l.item
       pub holes : row.holes ≡ hole_count l.item
 
-    row_or : (q : ℕ) (l : Quoted) (o : Option Template) → slice_get (literals P) q ≡ Some l → slice_get templates q ≡ o → RowFor q l
-    row_or q l None listed e = let none = template_closed_none P C templates closes q e in absurd (let clash : None ≡ Some l = sym none ∙ listed in cc)
+    row_or : (q : ℕ) (l : Quoted) (o : Option Template) → slice_get (literals P) q ≡ Some l → slice_get C.templates q ≡ o → RowFor q l
+    row_or q l None listed e = let none = template_closed_none P C.program C.templates closes q e in absurd (let clash : None ≡ Some l = sym none ∙ listed in cc)
     row_or q l (Some t) listed e =
-        let found = row_of C templates code rows templates q t all_rows e in
-        let closed = subst (λ (m : Quoted). ClosesLiteral P m t) (ap (literal_or P q) listed) (template_closed P C templates closes q t e) in
+        let found = row_of C code rows C.templates q t all_rows e in
+        let closed = subst (λ (m : Quoted). ClosesLiteral P m t) (ap (literal_or P q) listed) (template_closed P C.program C.templates closes q t e) in
         record { template = t; found = e; row = found.row; there = found.there; cells = ap (λ (r : TemplateRow). r.cells) found.of.row ∙ closed.captures; holes = ap (λ (r : TemplateRow). r.holes) found.of.row ∙ closed.holes }
 
     -- and of each literal that is listed
     pub listed_row : (q : ℕ) (l : Quoted) → slice_get (literals P) q ≡ Some l → RowFor q l
-    listed_row q l listed = row_or q l (slice_get templates q) listed refl
+    listed_row q l listed = row_or q l (slice_get C.templates q) listed refl
 
     pub literal_row : (q : ℕ) (l : Quoted) → l.at.word < length P.words → literal_numbered P q ≡ l → RowFor q l
-    literal_row q l lt e = row_or q l (slice_get templates q) (is_listed P q l lt e) refl
+    literal_row q l lt e = row_or q l (slice_get C.templates q) (is_listed P q l lt e) refl
 
   -- the instruction that makes it
-  made_or : (q : ℕ) (l : Quoted) (o : Option Template) → slice_get (literals P) q ≡ Some l → slice_get templates q ≡ o → made_instr q o ≡ making q (hole_count l.item)
-  made_or q l None listed e = let none = template_closed_none P C templates closes q e in absurd (let clash : None ≡ Some l = sym none ∙ listed in cc)
-  made_or q l (Some t) listed e = let closed = subst (λ (m : Quoted). ClosesLiteral P m t) (ap (literal_or P q) listed) (template_closed P C templates closes q t e) in ap (making q) closed.holes
+  made_or : (q : ℕ) (l : Quoted) (o : Option Template) → slice_get (literals P) q ≡ Some l → slice_get C.templates q ≡ o → made_instr q o ≡ making q (hole_count l.item)
+  made_or q l None listed e = let none = template_closed_none P C.program C.templates closes q e in absurd (let clash : None ≡ Some l = sym none ∙ listed in cc)
+  made_or q l (Some t) listed e = let closed = subst (λ (m : Quoted). ClosesLiteral P m t) (ap (literal_or P q) listed) (template_closed P C.program C.templates closes q t e) in ap (making q) closed.holes
 
-  pub literal_instr : (q : ℕ) (l : Quoted) → l.at.word < length P.words → literal_numbered P q ≡ l → made_instr q (slice_get templates q) ≡ making q (hole_count l.item)
-  literal_instr q l lt e = made_or q l (slice_get templates q) (is_listed P q l lt e) refl
+  pub literal_instr : (q : ℕ) (l : Quoted) → l.at.word < length P.words → literal_numbered P q ≡ l → made_instr q (slice_get C.templates q) ≡ making q (hole_count l.item)
+  literal_instr q l lt e = made_or q l (slice_get C.templates q) (is_listed P q l lt e) refl

@@ -3,7 +3,6 @@ use Rattle.std.proofs.Common.{◌≡◌, ◌<◌, ℕ, zero, suc, ◌+◌, List,
 use Rattle.std.specs.Prelude.{nat_eq, take, slice_get}
 use Rattle.std.specs.Option.{option_map}
 use Rattle.fac_base.specs.declared.height.Height.{Height}
-use Rattle.fac_lang.specs.declared.phrase.Template.{Template}
 use Rattle.fac_lang.specs.declared.program.Program.{Program}
 use Rattle.fac_lang.specs.declared.program.WordDef.{WordDef}
 use Rattle.fac_lang.specs.declared.program.Sort.{Sort}
@@ -15,6 +14,7 @@ use Rattle.fac_lang.specs.Meaning.{sort_of, sort_phrase}
 use Rattle.fac_lang.proofs.FormsLemmas.{sort_at, top_sort}
 use Rattle.fac_locals.specs.Literals.{first_of_word}
 use Rattle.fac_locals.specs.Closed.{Closes, ClosesSort, ClosesWord}
+use Rattle.fac_locals.specs.declared.closing.Closed.{Closed}
 use Rattle.fac_locals.proofs.Lookups.{word_closed}
 use Rattle.fac_code.specs.declared.image.Instr.{Instr}
 use Rattle.fac_code.specs.declared.image.Action.TheVariants as action
@@ -36,16 +36,16 @@ use Rattle.fac_locals.proofs.RunningPhrases.{RunsAs}
 use Rattle.fac_emit.proofs.TableNumbers.{order_same, sets_same}
 use Rattle.fac_emit.proofs.TextLemmas.{IsAmong, AreAmong, text_there, body_among}
 
-pub action_alike : (C : Program) (templates : List Template) (w at : ℕ) (s c : Sort) → Alike s c → sort_action C templates w at c ≡ sort_action C templates w at s
-action_alike C templates w at s c (a_same t) = refl
-action_alike C templates w at s c (a_body t u) = refl
-action_alike C templates w at s c (a_past t u) = refl
-action_alike C templates w at s c (a_method n g t u) = refl
+pub action_alike : (C : Closed) (w at : ℕ) (s c : Sort) → Alike s c → sort_action C w at c ≡ sort_action C w at s
+action_alike C w at s c (a_same t) = refl
+action_alike C w at s c (a_body t u) = refl
+action_alike C w at s c (a_past t u) = refl
+action_alike C w at s c (a_method n g t u) = refl
 
-pub does_code : (C : Program) (templates : List Template) (w at : ℕ) (s : Sort) → RunsPhrase (Some s) → sort_action C templates w at s ≡ action.Code at
-does_code C templates w at (body t) h = refl
-does_code C templates w at (method c g t) h = refl
-does_code C templates w at _ h = absurd h
+pub does_code : (C : Closed) (w at : ℕ) (s : Sort) → RunsPhrase (Some s) → sort_action C w at s ≡ action.Code at
+does_code C w at (body t) h = refl
+does_code C w at (method c g t) h = refl
+does_code C w at _ h = absurd h
 
 -- where a number is found there is one below it
 pub found_below : {A : Type 0} (xs : List A) (k : ℕ) (x : A) → slice_get xs k ≡ Some x → k < length xs
@@ -87,27 +87,27 @@ row_by : (s : Sort) (r : GenericRow) (rows : List GenericRow) (n : ℕ) (o : Opt
 row_by generic r rows n o e = e
 row_by _ r rows n o e = e
 
-module _ (C : Program) (templates : List Template) where
+module _ (C : Closed) where
   -- the places of the words' code
   abbrev pub places : ℕ → ℕ
-  places = code_place (program_words C templates)
+  places = code_place (program_words C)
 
   abbrev pub row_of : ℕ → GenericRow
-  row_of g = record { word = g; methods = map (method_row places) (methods_in_order C g) }
+  row_of g = record { word = g; methods = map (method_row places) (methods_in_order C.program g) }
 
-  rows_at : (v : ℕ) (ds : List WordDef) (g : ℕ) (d : WordDef) → slice_get ds g ≡ Some d → d.sort ≡ generic → slice_get (generics_from C places v ds) (generics_among (take g ds)) ≡ Some (row_of (v + g))
+  rows_at : (v : ℕ) (ds : List WordDef) (g : ℕ) (d : WordDef) → slice_get ds g ≡ Some d → d.sort ≡ generic → slice_get (generics_from C.program places v ds) (generics_among (take g ds)) ≡ Some (row_of (v + g))
   rows_at v [] g d e is = absurd (cc)
   rows_at v (x ∷ ds) zero d e is =
       let same : x ≡ d = cc in
       let sort : x.sort ≡ generic = ap (λ (y : WordDef). y.sort) same ∙ is in
       let n : v ≡ v + 0 = omega arith in
-      ap (λ (s : Sort). slice_get (elim s [ generic ↦ row_of v ∷ generics_from C places (suc v) ds | _ ↦ generics_from C places (suc v) ds ]) 0) sort ∙ ap (λ (g : ℕ). Some (row_of g)) n
+      ap (λ (s : Sort). slice_get (elim s [ generic ↦ row_of v ∷ generics_from C.program places (suc v) ds | _ ↦ generics_from C.program places (suc v) ds ]) 0) sort ∙ ap (λ (g : ℕ). Some (row_of g)) n
   rows_at v (x ∷ ds) (suc g) d e is =
       let n : suc v + g ≡ v + suc g = omega arith in
-      row_by x.sort (row_of v) (generics_from C places (suc v) ds) (generics_among (take g ds)) (Some (row_of (v + suc g))) (subst (λ (w : ℕ). slice_get (generics_from C places (suc v) ds) (generics_among (take g ds)) ≡ Some (row_of w)) n (rows_at (suc v) ds g d e is))
+      row_by x.sort (row_of v) (generics_from C.program places (suc v) ds) (generics_among (take g ds)) (Some (row_of (v + suc g))) (subst (λ (w : ℕ). slice_get (generics_from C.program places (suc v) ds) (generics_among (take g ds)) ≡ Some (row_of w)) n (rows_at (suc v) ds g d e is))
 
-  pub generic_at : (g : ℕ) (c : WordDef) → slice_get C.words g ≡ Some c → c.sort ≡ generic → slice_get (program_generics C templates) (generic_number C g) ≡ Some (row_of g)
-  generic_at g c e is = let n : 0 + g ≡ g = omega arith in subst (λ (w : ℕ). slice_get (program_generics C templates) (generic_number C g) ≡ Some (row_of w)) n (rows_at 0 C.words g c e is)
+  pub generic_at : (g : ℕ) (c : WordDef) → slice_get C.program.words g ≡ Some c → c.sort ≡ generic → slice_get (program_generics C) (generic_number C.program g) ≡ Some (row_of g)
+  generic_at g c e is = let n : 0 + g ≡ g = omega arith in subst (λ (w : ℕ). slice_get (program_generics C) (generic_number C.program g) ≡ Some (row_of w)) n (rows_at 0 C.program.words g c e is)
 
 -- a sort with another phrase
 abbrev pub with_phrase : Sort → Phrase → Sort
@@ -116,39 +116,39 @@ with_phrase (method c g t) u = method c g u
 with_phrase s u = s
 
 -- the phrase that word w of this sort runs, and its closed one, which stands in the code
-pub record Ran (P C : Program) (templates : List Template) (w : ℕ) (s c : Sort) : Type 0 where
+pub record Ran (P : Program) (C : Closed) (w : ℕ) (s c : Sort) : Type 0 where
   pub phrase : Phrase
-  pub code_is : (is_top : Bool) → sort_code C templates is_top c ≡ phrase_code C templates (last_instr is_top) phrase
-  pub named : AreAmong (program_texts C templates) (own_texts phrase)
+  pub code_is : (is_top : Bool) → sort_code C is_top c ≡ phrase_code C (last_instr is_top) phrase
+  pub named : AreAmong (program_texts C) (own_texts phrase)
   pub sort_is : c ≡ with_phrase s phrase
   pub closes : Closing P [] (first_of_word w) (sort_phrase P w (Some s)) phrase
 
-pub ran : (P C : Program) (templates : List Template) (w : ℕ) (s c : Sort) → RunsPhrase (Some s) → ClosesSort P w s c → RunsAs P w s → AreAmong (program_texts C templates) (sort_texts C templates c) → Ran P C templates w s c
-ran P C templates w (body t) c h cl r n =
-    record { phrase = cl.0; code_is = λ is_top. ap (sort_code C templates is_top) cl.1; named = body_among C templates cl.0 (subst (λ (c : Sort). AreAmong (program_texts C templates) (sort_texts C templates c)) cl.1 n); sort_is = cl.1; closes = closing P [] (first_of_word w) t cl.0 cl.2 r }
-ran P C templates w (method m g t) c h cl r n =
-    record { phrase = cl.0; code_is = λ is_top. ap (sort_code C templates is_top) cl.1; named = body_among C templates cl.0 (subst (λ (c : Sort). AreAmong (program_texts C templates) (sort_texts C templates c)) cl.1 n); sort_is = cl.1; closes = closing P [] (first_of_word w) _ cl.0 cl.2 r }
-ran P C templates w _ c h cl r n = absurd h
+pub ran : (P : Program) (C : Closed) (w : ℕ) (s c : Sort) → RunsPhrase (Some s) → ClosesSort P w s c → RunsAs P w s → AreAmong (program_texts C) (sort_texts C c) → Ran P C w s c
+ran P C w (body t) c h cl r n =
+    record { phrase = cl.0; code_is = λ is_top. ap (sort_code C is_top) cl.1; named = body_among C cl.0 (subst (λ (c : Sort). AreAmong (program_texts C) (sort_texts C c)) cl.1 n); sort_is = cl.1; closes = closing P [] (first_of_word w) t cl.0 cl.2 r }
+ran P C w (method m g t) c h cl r n =
+    record { phrase = cl.0; code_is = λ is_top. ap (sort_code C is_top) cl.1; named = body_among C cl.0 (subst (λ (c : Sort). AreAmong (program_texts C) (sort_texts C c)) cl.1 n); sort_is = cl.1; closes = closing P [] (first_of_word w) _ cl.0 cl.2 r }
+ran P C w _ c h cl r n = absurd h
 
-module _ (P C : Program) (templates : List Template) (heights : List (Option Height)) (M : Image) (b : IsSourceProgram P) (closes : Closes P C templates) (is_plain : IsPlain C templates heights M) where
+module _ (P : Program) (C : Closed) (heights : List (Option Height)) (M : Image) (b : IsSourceProgram P) (closes : Closes P C.program C.templates) (is_plain : IsPlain C heights M) where
   -- the text of a number
-  pub text_in : (s : List ℕ) → IsAmong (program_texts C templates) s → slice_get M.texts (text_number C templates s) ≡ Some s
-  text_in s h = ap (λ (ts : List (List ℕ)). slice_get ts (text_number C templates s)) is_plain.texts ∙ text_there C templates s h
+  pub text_in : (s : List ℕ) → IsAmong (program_texts C) s → slice_get M.texts (text_number C s) ≡ Some s
+  text_in s h = ap (λ (ts : List (List ℕ)). slice_get ts (text_number C s)) is_plain.texts ∙ text_there C s h
 
   -- a word with its closed one, its row and the place of its code
   pub record WordPut (w : ℕ) (d : WordDef) : Type 0 where
     pub closed : WordDef
-    pub at : slice_get C.words w ≡ Some closed
+    pub at : slice_get C.program.words w ≡ Some closed
     pub closes_word : ClosesWord P w d closed
     pub place : ℕ
-    pub row : slice_get M.words w ≡ Some (word_row C templates place w closed)
+    pub row : slice_get M.words w ≡ Some (word_row C place w closed)
     pub more : List Instr
-    pub there : drop place M.code ≡ word_code C templates w closed ++ more
+    pub there : drop place M.code ≡ word_code C w closed ++ more
 
   pub word_put : (w : ℕ) (d : WordDef) → slice_get P.words w ≡ Some d → WordPut w d
   word_put w d e =
-      let found = word_closed P C templates closes w d e in
-      let put = words_placed C templates M.code is_plain.code w found.closed found.at in
+      let found = word_closed P C.program C.templates closes w d e in
+      let put = words_placed C M.code is_plain.code w found.closed found.at in
       record {
         closed = found.closed;
         at = found.at;
@@ -160,22 +160,22 @@ module _ (P C : Program) (templates : List Template) (heights : List (Option Hei
       }
 
   -- it does what its sort says
-  pub word_does : (w : ℕ) (d : WordDef) (p : WordPut w d) → (word_row C templates p.place w p.closed).action ≡ sort_action C templates w p.place d.sort
-  word_does w d p = action_alike C templates w p.place d.sort p.closed.sort (alike P w d.sort p.closed.sort p.closes_word.sort)
+  pub word_does : (w : ℕ) (d : WordDef) (p : WordPut w d) → (word_row C p.place w p.closed).action ≡ sort_action C w p.place d.sort
+  word_does w d p = action_alike C w p.place d.sort p.closed.sort (alike P w d.sort p.closed.sort p.closes_word.sort)
 
   pub has_code : (w : ℕ) (d : WordDef) (p : WordPut w d) → slice_get P.words w ≡ Some d → w < P.top → RunsPhrase (Some d.sort) → HasCode P M w p.place
-  has_code w d p e lt runs = record { below = lt; runs = subst RunsPhrase (sym (sort_at P w d e)) runs; row = word_row C templates p.place w p.closed; there = p.row; does = word_does w d p ∙ does_code C templates w p.place d.sort runs }
+  has_code w d p e lt runs = record { below = lt; runs = subst RunsPhrase (sym (sort_at P w d e)) runs; row = word_row C p.place w p.closed; there = p.row; does = word_does w d p ∙ does_code C w p.place d.sort runs }
 
   -- the one place at which a word has its code
   pub one_place : (w a : ℕ) (d : WordDef) (p : WordPut w d) → RunsPhrase (Some d.sort) → HasCode P M w a → p.place ≡ a
   one_place w a d p runs h =
-      let same : word_row C templates p.place w p.closed ≡ h.row = let one = p.row in let two = h.there in cc in
-      let does : action.Code p.place ≡ action.Code a = sym (word_does w d p ∙ does_code C templates w p.place d.sort runs) ∙ ap (λ (r : WordRow). r.action) same ∙ h.does in
+      let same : word_row C p.place w p.closed ≡ h.row = let one = p.row in let two = h.there in cc in
+      let does : action.Code p.place ≡ action.Code a = sym (word_does w d p ∙ does_code C w p.place d.sort runs) ∙ ap (λ (r : WordRow). r.action) same ∙ h.does in
       cc
 
   -- Methods of the machine and those of the program.
   abbrev place_of : ℕ → ℕ
-  place_of = places C templates
+  place_of = places C
 
   pub place_by : (w a : ℕ) (r : WordRow) → slice_get M.words w ≡ Some r → r.action ≡ action.Code a → place_of w ≡ a
   place_by w a r e does =
@@ -194,7 +194,7 @@ module _ (P C : Program) (templates : List Template) (heights : List (Option Hei
 
   -- the first of some methods whose class has a kind
   pub in_set : (c k : ℕ) → set_has (slice_get M.sets c) k ≡ has_kind P.classes c k
-  in_set c k = ap (λ (sets : List (List ℕ)). set_has (slice_get sets c) k) (is_plain.sets ∙ sets_same P C templates closes) ∙ set_same P.classes c k
+  in_set c k = ap (λ (sets : List (List ℕ)). set_has (slice_get sets c) k) (is_plain.sets ∙ sets_same P C closes) ∙ set_same P.classes c k
 
   for_by : (a q : Bool) (m : ℕ × ℕ) (r : Option MethodRow) (o : Option (ℕ × ℕ)) → a ≡ q → r ≡ option_map (method_row place_of) o → elim a [ true ↦ Some (method_row place_of m) | false ↦ r ] ≡ option_map (method_row place_of) (elim q [ true ↦ Some m | false ↦ o ])
   for_by true q m r o e h = rw (sym e) refl
@@ -246,6 +246,6 @@ module _ (P C : Program) (templates : List Template) (heights : List (Option Hei
         subst (λ (rows : List MethodRow). SameMethod P M (method_after M.sets k rows) (next P m k)) (sym (dropped (method_row place_of) ms j (m, c) e))
         (subst (λ (x : Option ℕ). SameMethod P M (method_after M.sets k (method_row place_of (m, c) ∷ map (method_row place_of) (drop (suc j) ms))) x) (sym (laws.next_is_behind g j m c e k)) same)
 
-  pub generic_row : (g : ℕ) (c : WordDef) → slice_get C.words g ≡ Some c → c.sort ≡ generic → slice_get M.generics (generic_number C g) ≡ Some (record { word = g; methods = map (method_row place_of) (methods_in_order P g) })
+  pub generic_row : (g : ℕ) (c : WordDef) → slice_get C.program.words g ≡ Some c → c.sort ≡ generic → slice_get M.generics (generic_number C.program g) ≡ Some (record { word = g; methods = map (method_row place_of) (methods_in_order P g) })
   generic_row g c e is =
-      ap (λ (rows : List GenericRow). slice_get rows (generic_number C g)) is_plain.generics ∙ generic_at C templates g c e is ∙ ap (λ (ms : List (ℕ × ℕ)). Some (record { word = g; methods = map (method_row place_of) ms })) (order_same P C templates closes g)
+      ap (λ (rows : List GenericRow). slice_get rows (generic_number C.program g)) is_plain.generics ∙ generic_at C g c e is ∙ ap (λ (ms : List (ℕ × ℕ)). Some (record { word = g; methods = map (method_row place_of) ms })) (order_same P C closes g)

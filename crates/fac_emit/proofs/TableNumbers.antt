@@ -1,7 +1,6 @@
 -- The tables of a closed program are those of the program for which it stands.
 use Rattle.std.proofs.Common.{◌≡◌, ℕ, zero, suc, List, [], ◌∷◌, length, true, false, refl, ap, ◌∙◌}
 use Rattle.std.specs.Prelude.{take, nat_eq}
-use Rattle.fac_lang.specs.declared.phrase.Template.{Template}
 use Rattle.fac_lang.specs.declared.program.ClassDef.{ClassDef}
 use Rattle.fac_lang.specs.declared.program.Program.{Program}
 use Rattle.fac_lang.specs.declared.program.Sort.{Sort}
@@ -9,6 +8,7 @@ use Rattle.fac_lang.specs.declared.program.Sort.TheVariants.{Generic as generic,
 use Rattle.fac_lang.specs.declared.program.WordDef.{WordDef}
 use Rattle.fac_lang.specs.Classes.{methods_from}
 use Rattle.fac_locals.specs.Closed.{Closes}
+use Rattle.fac_locals.specs.declared.closing.Closed.{Closed}
 use Rattle.fac_generic.specs.Methods.{methods_in_order, in_order}
 use Rattle.fac_emit.specs.ProgramTables.{program_sets, sets_from, generics_among, generic_number}
 use Rattle.fac_emit.proofs.Closings.{Alike, a_same, a_body, a_past, a_method, AlikeWords, alike_words}
@@ -44,18 +44,18 @@ methods_same g k (d ∷ ds) cs h =
     ∙ ap (λ (ms : List (ℕ × ℕ)). elim h.0.sort [ method c j t ↦ elim (nat_eq g j) [ true ↦ (k, c) ∷ ms | false ↦ ms ] | _ ↦ ms ]) (methods_same g (suc k) ds h.1 h.4)
     ∙ method_alike d.sort h.0.sort g k (methods_from g (suc k) ds) h.3.sort
 
-module _ (P C : Program) (templates : List Template) (closes : Closes P C templates) where
-  alike : AlikeWords P.words C.words
-  alike = alike_words P 0 P.words C.words closes.words
+module _ (P : Program) (C : Closed) (closes : Closes P C.program C.templates) where
+  alike : AlikeWords P.words C.program.words
+  alike = alike_words P 0 P.words C.program.words closes.words
 
-  pub word_count : length C.words ≡ length P.words
-  word_count = count_alike P.words C.words alike
+  pub word_count : length C.program.words ≡ length P.words
+  word_count = count_alike P.words C.program.words alike
 
-  pub generic_same : (g : ℕ) → generic_number C g ≡ generic_number P g
-  generic_same g = generics_same P.words C.words g alike
+  pub generic_same : (g : ℕ) → generic_number C.program g ≡ generic_number P g
+  generic_same g = generics_same P.words C.program.words g alike
 
-  pub order_same : (g : ℕ) → methods_in_order C g ≡ methods_in_order P g
-  order_same g = ap (in_order C.classes) (methods_same g 0 P.words C.words alike) ∙ ap (λ (cs : List ClassDef). in_order cs (methods_from g 0 P.words)) closes.classes
+  pub order_same : (g : ℕ) → methods_in_order C.program g ≡ methods_in_order P g
+  order_same g = ap (in_order C.program.classes) (methods_same g 0 P.words C.program.words alike) ∙ ap (λ (cs : List ClassDef). in_order cs (methods_from g 0 P.words)) closes.classes
 
-  pub sets_same : program_sets C ≡ program_sets P
+  pub sets_same : program_sets C.program ≡ program_sets P
   sets_same = ap (λ (cs : List ClassDef). sets_from cs 0 cs) closes.classes

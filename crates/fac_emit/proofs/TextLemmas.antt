@@ -9,12 +9,12 @@ use Rattle.fac_base.specs.declared.limits.TheConstants.{MOST_LEVELS}
 use Rattle.fac_lang.specs.declared.phrase.Template.{Template}
 use Rattle.fac_lang.specs.declared.program.ClassDef.{ClassDef}
 use Rattle.fac_lang.specs.declared.program.Lit.{Lit}
-use Rattle.fac_lang.specs.declared.program.Program.{Program}
 use Rattle.fac_lang.specs.declared.program.Shape.{Shape}
 use Rattle.fac_lang.specs.declared.program.Shape.TheVariants.{Kind as built_in, Tuple as tuple_class, Union as union, Single as single}
 use Rattle.fac_lang.specs.declared.program.WordDef.{WordDef}
 use Rattle.fac_lang.specs.Phrases.{str, Phrase, end, then as and_then, Item, lit}
 use Rattle.fac_lang.specs.Classes.{shape_at, slots_within}
+use Rattle.fac_locals.specs.declared.closing.Closed.{Closed}
 use Rattle.fac_emit.specs.ProgramTexts.{with_text, with_texts, element_texts, item_texts, phrase_texts, template_texts, array_texts, text_levels, body_texts, no_texts, own_texts, own_elements_texts, own_slots, class_texts, classes_texts, word_texts, words_texts, templates_texts, arrays_texts, text_sequence, program_texts, text_number}
 
 never_true : {A : Type 0} → false ≡ true → A
@@ -118,41 +118,41 @@ unfolding text_levels
 levels_are = refl
 
 -- for a closed program with these templates
-module _ (C : Program) (templates : List Template) where
+module _ (C : Closed) where
   abbrev texts : List (List ℕ)
-  texts = program_texts C templates
+  texts = program_texts C
 
   -- the text of a number
-  pub text_there : (s : List ℕ) → IsAmong texts s → slice_get texts (text_number C templates s) ≡ Some s
+  pub text_there : (s : List ℕ) → IsAmong texts s → slice_get texts (text_number C s) ≡ Some s
   text_there s h = let first = first_of (bytes_eq s) texts h in first.there ∙ ap Some (sym ((bytes_eq-Decides s first.found).0 first.passes))
 
-  pub text_below : (s : List ℕ) → IsAmong texts s → nat_lt (text_number C templates s) (length texts) ≡ true
-  text_below s h = lt-ltb (text_number C templates s) (length texts) (number_below texts (text_number C templates s) s (text_there s h))
+  pub text_below : (s : List ℕ) → IsAmong texts s → nat_lt (text_number C s) (length texts) ≡ true
+  text_below s h = lt-ltb (text_number C s) (length texts) (number_below texts (text_number C s) s (text_there s h))
 
-  sequence_among : AreAmong texts (text_sequence C templates)
+  sequence_among : AreAmong texts (text_sequence C)
   unfolding program_texts
-  sequence_among = texts_among [] (text_sequence C templates)
+  sequence_among = texts_among [] (text_sequence C)
 
   abbrev behind_templates : List (List ℕ)
-  behind_templates = arrays_texts C.arrays ++ classes_texts C.classes
+  behind_templates = arrays_texts C.program.arrays ++ classes_texts C.program.classes
 
   abbrev behind_words : List (List ℕ)
-  behind_words = templates_texts templates ++ behind_templates
+  behind_words = templates_texts C.templates ++ behind_templates
 
-  by_words : AreAmong texts (words_texts C templates C.words) × AreAmong texts behind_words
-  by_words = both_among texts (words_texts C templates C.words) behind_words sequence_among
+  by_words : AreAmong texts (words_texts C C.program.words) × AreAmong texts behind_words
+  by_words = both_among texts (words_texts C C.program.words) behind_words sequence_among
 
-  by_templates : AreAmong texts (templates_texts templates) × AreAmong texts behind_templates
-  by_templates = both_among texts (templates_texts templates) behind_templates by_words.1
+  by_templates : AreAmong texts (templates_texts C.templates) × AreAmong texts behind_templates
+  by_templates = both_among texts (templates_texts C.templates) behind_templates by_words.1
 
-  by_arrays : AreAmong texts (arrays_texts C.arrays) × AreAmong texts (classes_texts C.classes)
-  by_arrays = both_among texts (arrays_texts C.arrays) (classes_texts C.classes) by_templates.1
+  by_arrays : AreAmong texts (arrays_texts C.program.arrays) × AreAmong texts (classes_texts C.program.classes)
+  by_arrays = both_among texts (arrays_texts C.program.arrays) (classes_texts C.program.classes) by_templates.1
 
   -- Where they stand in the sequence.
-  word_in : (ds : List WordDef) (w : ℕ) (d : WordDef) → AreAmong texts (words_texts C templates ds) → slice_get ds w ≡ Some d → AreAmong texts (word_texts C templates d)
+  word_in : (ds : List WordDef) (w : ℕ) (d : WordDef) → AreAmong texts (words_texts C ds) → slice_get ds w ≡ Some d → AreAmong texts (word_texts C d)
   word_in [] w d h e = absurd (cc)
-  word_in (x ∷ ds) zero d h e = let same : x ≡ d = cc in subst (λ (y : WordDef). AreAmong texts (word_texts C templates y)) same (both_among texts (word_texts C templates x) (words_texts C templates ds) h).0
-  word_in (x ∷ ds) (suc w) d h e = word_in ds w d (both_among texts (word_texts C templates x) (words_texts C templates ds) h).1 e
+  word_in (x ∷ ds) zero d h e = let same : x ≡ d = cc in subst (λ (y : WordDef). AreAmong texts (word_texts C y)) same (both_among texts (word_texts C x) (words_texts C ds) h).0
+  word_in (x ∷ ds) (suc w) d h e = word_in ds w d (both_among texts (word_texts C x) (words_texts C ds) h).1 e
 
   template_in : (ts : List Template) (q : ℕ) (t : Template) → AreAmong texts (templates_texts ts) → slice_get ts q ≡ Some t → AreAmong texts (own_texts t.body)
   template_in [] q t h e = absurd (cc)
@@ -165,37 +165,37 @@ module _ (C : Program) (templates : List Template) where
   class_in (x ∷ ds) (suc c) d h e = class_in ds c d (both_among texts (class_texts x) (classes_texts ds) h).1 e
 
   -- the texts of a word, those in a template and in all arrays, and those of a class
-  pub word_named : (w : ℕ) (d : WordDef) → slice_get C.words w ≡ Some d → AreAmong texts (word_texts C templates d)
-  word_named w d e = word_in C.words w d by_words.0 e
+  pub word_named : (w : ℕ) (d : WordDef) → slice_get C.program.words w ≡ Some d → AreAmong texts (word_texts C d)
+  word_named w d e = word_in C.program.words w d by_words.0 e
 
-  pub template_named : (q : ℕ) (t : Template) → slice_get templates q ≡ Some t → AreAmong texts (own_texts t.body)
-  template_named q t e = template_in templates q t by_templates.0 e
+  pub template_named : (q : ℕ) (t : Template) → slice_get C.templates q ≡ Some t → AreAmong texts (own_texts t.body)
+  template_named q t e = template_in C.templates q t by_templates.0 e
 
-  pub all_arrays_named : AreAmong texts (arrays_texts C.arrays)
+  pub all_arrays_named : AreAmong texts (arrays_texts C.program.arrays)
   all_arrays_named = by_arrays.0
 
-  pub class_named : (c : ℕ) (d : ClassDef) → slice_get C.classes c ≡ Some d → AreAmong texts (class_texts d)
-  class_named c d e = class_in C.classes c d by_arrays.1 e
+  pub class_named : (c : ℕ) (d : ClassDef) → slice_get C.program.classes c ≡ Some d → AreAmong texts (class_texts d)
+  class_named c d e = class_in C.program.classes c d by_arrays.1 e
 
   -- all slots of a class, with those of its parents
-  slots_by : (o : Option Shape) → ((s : Shape) → o ≡ Some s → AreAmong texts (own_slots s)) → (n : ℕ) → ((c : ℕ) → AreAmong texts (slots_within n C.classes c)) → AreAmong texts (elim o [ None ↦ [] | Some s ↦ elim s [ tuple_class p ss ↦ elim p [ None ↦ ss | Some q ↦ slots_within n C.classes q ++ ss ] | _ ↦ [] ] ])
+  slots_by : (o : Option Shape) → ((s : Shape) → o ≡ Some s → AreAmong texts (own_slots s)) → (n : ℕ) → ((c : ℕ) → AreAmong texts (slots_within n C.program.classes c)) → AreAmong texts (elim o [ None ↦ [] | Some s ↦ elim s [ tuple_class p ss ↦ elim p [ None ↦ ss | Some q ↦ slots_within n C.program.classes q ++ ss ] | _ ↦ [] ] ])
   slots_by None h n more = tt
   slots_by (Some (tuple_class None ss)) h n more = h (tuple_class None ss) refl
-  slots_by (Some (tuple_class (Some q) ss)) h n more = among_both texts (slots_within n C.classes q) ss (more q) (h (tuple_class (Some q) ss) refl)
+  slots_by (Some (tuple_class (Some q) ss)) h n more = among_both texts (slots_within n C.program.classes q) ss (more q) (h (tuple_class (Some q) ss) refl)
   slots_by (Some (built_in j)) h n more = tt
   slots_by (Some (union ms)) h n more = tt
   slots_by (Some single) h n more = tt
 
-  shape_named : (c : ℕ) (s : Shape) → shape_at C.classes c ≡ Some s → AreAmong texts (own_slots s)
-  shape_named c s e = by (slice_get C.classes c) refl e
+  shape_named : (c : ℕ) (s : Shape) → shape_at C.program.classes c ≡ Some s → AreAmong texts (own_slots s)
+  shape_named c s e = by (slice_get C.program.classes c) refl e
     where
-      by : (o : Option ClassDef) → slice_get C.classes c ≡ o → (let x : Option Shape = elim o [ Some d ↦ Some d.shape | None ↦ None ] in x ≡ Some s) → AreAmong texts (own_slots s)
+      by : (o : Option ClassDef) → slice_get C.program.classes c ≡ o → (let x : Option Shape = elim o [ Some d ↦ Some d.shape | None ↦ None ] in x ≡ Some s) → AreAmong texts (own_slots s)
       by None is h = absurd (cc)
       by (Some d) is h = let same : d.shape ≡ s = cc in subst (λ (s : Shape). AreAmong texts (own_slots s)) same (class_named c d is).1.1
 
-  pub slots_named : (n c : ℕ) → AreAmong texts (slots_within n C.classes c)
+  pub slots_named : (n c : ℕ) → AreAmong texts (slots_within n C.program.classes c)
   slots_named zero c = tt
-  slots_named (suc n) c = slots_by (shape_at C.classes c) (shape_named c) n (slots_named n)
+  slots_named (suc n) c = slots_by (shape_at C.program.classes c) (shape_named c) n (slots_named n)
 
   -- the strings that stand in a phrase itself
   own_among : (template array : ℕ → List (List ℕ)) (t : Phrase) → AreAmong texts (phrase_texts template array t) → AreAmong texts (own_texts t)
@@ -208,8 +208,8 @@ module _ (C : Program) (templates : List Template) where
       own_item _ h = tt
 
   -- those of a word's phrase
-  pub body_among : (t : Phrase) → AreAmong texts (body_texts C templates t) → AreAmong texts (own_texts t)
-  body_among t h = own_among (template_texts C templates text_levels) (array_texts C templates text_levels) t h
+  pub body_among : (t : Phrase) → AreAmong texts (body_texts C t) → AreAmong texts (own_texts t)
+  body_among t h = own_among (template_texts C text_levels) (array_texts C text_levels) t h
 
   -- those of an array's first element, and of the others
   pub first_element : (l : Lit) (ls : List Lit) → AreAmong texts (own_elements_texts (l ∷ ls)) → AreAmong texts (own_elements_texts (l ∷ [])) × AreAmong texts (own_elements_texts ls)
@@ -218,12 +218,12 @@ module _ (C : Program) (templates : List Template) where
 
   -- The whole sequence, part by part.
   pub sequence_whole :
-      (first second third fourth : List (List ℕ)) → first ≡ with_texts [] (words_texts C templates C.words) → second ≡ with_texts first (templates_texts templates) → third ≡ with_texts second (arrays_texts C.arrays) → fourth ≡ with_texts third (classes_texts C.classes) → fourth ≡ texts
+      (first second third fourth : List (List ℕ)) → first ≡ with_texts [] (words_texts C C.program.words) → second ≡ with_texts first (templates_texts C.templates) → third ≡ with_texts second (arrays_texts C.program.arrays) → fourth ≡ with_texts third (classes_texts C.program.classes) → fourth ≡ texts
   unfolding program_texts
   sequence_whole first second third fourth e f g h =
-      let by_first = with_both [] (words_texts C templates C.words) behind_words in
-      let by_second = with_both (with_texts [] (words_texts C templates C.words)) (templates_texts templates) behind_templates in
-      let by_third = with_both (with_texts (with_texts [] (words_texts C templates C.words)) (templates_texts templates)) (arrays_texts C.arrays) (classes_texts C.classes) in
+      let by_first = with_both [] (words_texts C C.program.words) behind_words in
+      let by_second = with_both (with_texts [] (words_texts C C.program.words)) (templates_texts C.templates) behind_templates in
+      let by_third = with_both (with_texts (with_texts [] (words_texts C C.program.words)) (templates_texts C.templates)) (arrays_texts C.program.arrays) (classes_texts C.program.classes) in
       h
-      ∙ ap (λ (ts : List (List ℕ)). with_texts ts (classes_texts C.classes)) (g ∙ ap (λ (ts : List (List ℕ)). with_texts ts (arrays_texts C.arrays)) (f ∙ ap (λ (ts : List (List ℕ)). with_texts ts (templates_texts templates)) e))
+      ∙ ap (λ (ts : List (List ℕ)). with_texts ts (classes_texts C.program.classes)) (g ∙ ap (λ (ts : List (List ℕ)). with_texts ts (arrays_texts C.program.arrays)) (f ∙ ap (λ (ts : List (List ℕ)). with_texts ts (templates_texts C.templates)) e))
       ∙ sym (by_first ∙ by_second ∙ by_third)

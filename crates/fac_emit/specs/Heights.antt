@@ -12,11 +12,12 @@ use Rattle.fac_lang.specs.WordHeights.{word_height}
 use Rattle.fac_base.specs.HeightArithmetic.{curried_height, composed_height}
 use Rattle.fac_lang.specs.Meaning.{is_past}
 use Rattle.fac_locals.specs.Frames.{template_phrase}
+use Rattle.fac_locals.specs.declared.closing.Closed.{Closed}
 use Rattle.fac_store.specs.CallableHeights.{height_there}
 
 -- that of a word by which `execute( )` tests it: a top-level phrase has none
 abbrev pub tested_height : Program → ℕ → WordDef → Option Height
-tested_height C w d = elim (nat_eq w C.top || is_past (Some d.sort)) [ true ↦ None | false ↦ word_height d ]
+tested_height P w d = elim (nat_eq w P.top || is_past (Some d.sort)) [ true ↦ None | false ↦ word_height d ]
 
 -- an item that asks for the effect of a callable: `call( )`, which tests it
 abbrev pub asks : Item → Bool
@@ -40,14 +41,14 @@ template_asks t = phrase_asks t.body
 abbrev pub word_asks : WordDef → Bool
 word_asks d = sort_asks d.sort
 
--- whether one stands anywhere in a closed program with these templates
-abbrev pub asks_effects : Program → List Template → Bool
-asks_effects C templates = list_any template_asks templates || list_any word_asks C.words
+-- whether one stands anywhere in a closed program
+abbrev pub asks_effects : Closed → Bool
+asks_effects C = list_any template_asks C.templates || list_any word_asks C.program.words
 
--- Effects of callables, for a program for which a closed one with these templates stands. Where the program asks for any, those of literals are these, by the
+-- Effects of callables, for a program for which a closed one stands. Where the program asks for any, those of literals are these, by the
 -- numbers of their templates and whatever values they keep; and those of what `curry` and `compose` made go by arithmetic.
-pub record HasHeights (P C : Program) (templates : List Template) (heights : List (Option Height)) (callable_height : Callable → Option Height) : Type 0 where
+pub record HasHeights (P : Program) (C : Closed) (heights : List (Option Height)) (callable_height : Callable → Option Height) : Type 0 where
   pub literal :
-      asks_effects C templates ≡ true → (q : ℕ) (t : Template) (vs : List Value) → slice_get templates q ≡ Some t → length vs ≡ length t.captures + t.holes → callable_height (of_phrase (template_phrase P q (map held vs))) ≡ height_there (slice_get heights q)
+      asks_effects C ≡ true → (q : ℕ) (t : Template) (vs : List Value) → slice_get C.templates q ≡ Some t → length vs ≡ length t.captures + t.holes → callable_height (of_phrase (template_phrase P q (map held vs))) ≡ height_there (slice_get heights q)
   pub curried : (v : Value) (c : Callable) → callable_height (cur v c) ≡ curried_height (callable_height c)
   pub composed : (c d : Callable) → callable_height (both c d) ≡ composed_height (callable_height c) (callable_height d)

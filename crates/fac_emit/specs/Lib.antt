@@ -3,5 +3,4 @@ pub mod Heights
 pub mod ProgramTexts
 pub mod ProgramTables
 pub mod ProgramCode
-pub mod Numbered
 pub mod inner

@@ -5,13 +5,13 @@ use Rattle.fac_base.specs.declared.height.Height.{Height}
 use Rattle.fac_lang.specs.declared.phrase.Template.{Template}
 use Rattle.fac_lang.specs.declared.program.Lit.{Lit}
 use Rattle.fac_lang.specs.declared.program.Lit.TheVariants.{Int as l_int, True as l_yes, False as l_no, Str as l_str, Arr as l_arr, Wref as l_word, Quot as l_quot, Made as l_made}
-use Rattle.fac_lang.specs.declared.program.Program.{Program}
 use Rattle.fac_lang.specs.declared.program.WordDef.{WordDef}
 use Rattle.fac_lang.specs.declared.program.Sort.{Sort}
 use Rattle.fac_lang.specs.declared.core_table.CoreWord.{CoreWord}
 use Rattle.fac_lang.specs.declared.core_table.CoreWord.TheVariants.{Call as c_call, Dip as c_dip, If as c_if, Execute as c_execute, Boa as c_boa, Cond as c_cond}
 use Rattle.fac_lang.specs.declared.program.Sort.TheVariants.{Prim as prim_sort, Core as core_sort, Body as body, Itself as itself, Class as class, Isa as isa, Getter as getter, Setter as setter, Putter as putter, Generic as generic, Method as method}
 use Rattle.fac_lang.specs.Phrases.{int, yes, no, str, wrd, Phrase, end, then, Item, lit, lit_arr, word, bind, local, call_eff, exec_eff, made, next_after}
+use Rattle.fac_locals.specs.declared.closing.Closed.{Closed}
 use Rattle.fac_code.specs.declared.image.Elem.{Elem}
 use Rattle.fac_code.specs.declared.image.Elem.TheVariants as elem
 use Rattle.fac_code.specs.declared.image.Instr.{Instr}
@@ -61,8 +61,8 @@ last_instr false = Ret
 abbrev pub row_at : Option Height → ℕ → Template → TemplateRow
 row_at h at t = record { entry = at; cells = t.captures; holes = t.holes; height = h }
 
--- for a closed program with these templates
-module _ (C : Program) (templates : List Template) where
+-- for a closed program
+module _ (C : Closed) where
   -- What a word does is done in place, and one that runs a phrase is called. A symbol and the word of a class are pushed.
   abbrev pub sort_instr : ℕ → Sort → Instr
   sort_instr w (prim_sort k) = Prim k
@@ -72,10 +72,10 @@ module _ (C : Program) (templates : List Template) where
   sort_instr w itself = Word w
   sort_instr w (class c) = Word w
   sort_instr w (isa c) = Isa c
-  sort_instr w (getter s) = Get (text_number C templates s)
-  sort_instr w (setter s) = Set (text_number C templates s)
-  sort_instr w (putter s) = Put (text_number C templates s)
-  sort_instr w generic = Generic (generic_number C w) false
+  sort_instr w (getter s) = Get (text_number C s)
+  sort_instr w (setter s) = Set (text_number C s)
+  sort_instr w (putter s) = Put (text_number C s)
+  sort_instr w generic = Generic (generic_number C.program w) false
   sort_instr w _ = stuck_instr
 
   abbrev pub word_instr : ℕ → Option WordDef → Instr
@@ -88,11 +88,11 @@ module _ (C : Program) (templates : List Template) where
   item_instr (lit (int z)) = Int z
   item_instr (lit yes) = True
   item_instr (lit no) = False
-  item_instr (lit (str cs)) = Text (text_number C templates cs)
+  item_instr (lit (str cs)) = Text (text_number C cs)
   item_instr (lit (wrd w)) = Word w
   item_instr (lit_arr a) = Array a
-  item_instr (word w) = word_instr w (slice_get C.words w)
-  item_instr (made q) = made_instr q (slice_get templates q)
+  item_instr (word w) = word_instr w (slice_get C.program.words w)
+  item_instr (made q) = made_instr q (slice_get C.templates q)
   item_instr (bind x) = Bind
   item_instr (local x) = Local x
   item_instr (call_eff h) = CallEffect h false
@@ -122,15 +122,15 @@ module _ (C : Program) (templates : List Template) where
   sort_action w at itself = action.Itself
   sort_action w at (class c) = action.Itself
   sort_action w at (isa c) = action.Isa c
-  sort_action w at (getter s) = action.Get (text_number C templates s)
-  sort_action w at (setter s) = action.Set (text_number C templates s)
-  sort_action w at (putter s) = action.Put (text_number C templates s)
-  sort_action w at generic = action.Generic (generic_number C w)
+  sort_action w at (getter s) = action.Get (text_number C s)
+  sort_action w at (setter s) = action.Set (text_number C s)
+  sort_action w at (putter s) = action.Put (text_number C s)
+  sort_action w at generic = action.Generic (generic_number C.program w)
   sort_action w at _ = action.Code at
 
   -- a word's row
   abbrev pub word_row : ℕ → ℕ → WordDef → WordRow
-  word_row at w d = record { vocab = text_number C templates d.name.vocab; name = text_number C templates d.name.name; action = sort_action w at d.sort; height = tested_height C w d }
+  word_row at w d = record { vocab = text_number C d.name.vocab; name = text_number C d.name.name; action = sort_action w at d.sort; height = tested_height C.program w d }
 
   -- the code of a word, where it runs a phrase
   abbrev pub sort_code : Bool → Sort → List Instr
@@ -140,7 +140,7 @@ module _ (C : Program) (templates : List Template) where
 
   -- that of the word with this number
   abbrev pub word_code : ℕ → WordDef → List Instr
-  word_code w d = sort_code (nat_eq w C.top) d.sort
+  word_code w d = sort_code (nat_eq w C.program.top) d.sort
 
   -- the code of the words from number w on
   abbrev pub code_from : ℕ → List WordDef → List Instr
@@ -157,7 +157,7 @@ module _ (C : Program) (templates : List Template) where
   elem_of (l_int z) = elem.Int z
   elem_of l_yes = elem.True
   elem_of l_no = elem.False
-  elem_of (l_str bs) = elem.Text (text_number C templates bs)
+  elem_of (l_str bs) = elem.Text (text_number C bs)
   elem_of (l_arr a) = elem.Array a
   elem_of (l_word w) = elem.Word w
   elem_of (l_made q) = elem.Template q
@@ -167,53 +167,53 @@ module _ (C : Program) (templates : List Template) where
   elems_of ls = map elem_of ls
 
 -- all code
-abbrev pub program_code : Program → List Template → List Instr
-program_code C ts = templates_code C ts ts ++ code_from C ts 0 C.words
+abbrev pub program_code : Closed → List Instr
+program_code C = templates_code C C.templates ++ code_from C 0 C.program.words
 
 -- the rows of the templates, which have these effects
-abbrev pub program_templates : Program → List Template → List (Option Height) → List TemplateRow
-program_templates C ts heights = template_rows C ts heights 0 0 ts
+abbrev pub program_templates : Closed → List (Option Height) → List TemplateRow
+program_templates C heights = template_rows C heights 0 0 C.templates
 
 -- the rows of the words, whose code stands behind that of the templates
-abbrev pub program_words : Program → List Template → List WordRow
-program_words C ts = words_from C ts (length (templates_code C ts ts)) 0 C.words
+abbrev pub program_words : Closed → List WordRow
+program_words C = words_from C (length (templates_code C C.templates)) 0 C.program.words
 
 -- the place of a word's code by the rows of the words
 abbrev pub code_place : List WordRow → ℕ → ℕ
 code_place rows w = elim (slice_get rows w) [ Some r ↦ elim r.action [ action.Code a ↦ a | _ ↦ 0 ] | None ↦ 0 ]
 
 -- the rows of the generics
-abbrev pub program_generics : Program → List Template → List GenericRow
-program_generics C ts = generics_from C (code_place (program_words C ts)) 0 C.words
+abbrev pub program_generics : Closed → List GenericRow
+program_generics C = generics_from C.program (code_place (program_words C)) 0 C.program.words
 
 -- the literal arrays
-abbrev pub program_arrays : Program → List Template → List (List Elem)
-program_arrays C ts = map (elems_of C ts) C.arrays
+abbrev pub program_arrays : Closed → List (List Elem)
+program_arrays C = map (elems_of C) C.program.arrays
 
 -- all tables of its image, where its templates have these effects
-abbrev pub program_tables : Program → List Template → List (Option Height) → Tables
-program_tables C ts heights =
+abbrev pub program_tables : Closed → List (Option Height) → Tables
+program_tables C heights =
     record {
-      texts = program_texts C ts;
-      arrays = program_arrays C ts;
-      kinds = program_kinds C ts;
-      sets = program_sets C;
-      templates = program_templates C ts heights;
-      words = program_words C ts;
-      generics = program_generics C ts;
-      pairs = program_pairs C;
+      texts = program_texts C;
+      arrays = program_arrays C;
+      kinds = program_kinds C;
+      sets = program_sets C.program;
+      templates = program_templates C heights;
+      words = program_words C;
+      generics = program_generics C;
+      pairs = program_pairs C.program;
     }
 
--- The image is the plain code of the closed program with these templates, which have these effects, with its texts and literal arrays. It has the rows of its kinds and generics, a class
+-- The image is the plain code of the closed program, whose templates have these effects, with its texts and literal arrays. It has the rows of its kinds and generics, a class
 -- set for each class, a row for each template and each word under its number, and the words of its classes with their kinds, and starts at the top-level phrase's place.
-pub record IsPlain (C : Program) (templates : List Template) (heights : List (Option Height)) (M : Image) : Type 0 where
-  pub code : M.code ≡ program_code C templates
-  pub texts : M.texts ≡ program_texts C templates
-  pub arrays : M.arrays ≡ program_arrays C templates
-  pub template_rows_are : M.templates ≡ program_templates C templates heights
-  pub word_rows_are : M.words ≡ program_words C templates
-  pub kinds : M.kinds ≡ program_kinds C templates
-  pub sets : M.sets ≡ program_sets C
-  pub generics : M.generics ≡ program_generics C templates
-  pub pairs : M.pairs ≡ program_pairs C
-  pub starts : M.start ≡ code_place (program_words C templates) C.top
+pub record IsPlain (C : Closed) (heights : List (Option Height)) (M : Image) : Type 0 where
+  pub code : M.code ≡ program_code C
+  pub texts : M.texts ≡ program_texts C
+  pub arrays : M.arrays ≡ program_arrays C
+  pub template_rows_are : M.templates ≡ program_templates C heights
+  pub word_rows_are : M.words ≡ program_words C
+  pub kinds : M.kinds ≡ program_kinds C
+  pub sets : M.sets ≡ program_sets C.program
+  pub generics : M.generics ≡ program_generics C
+  pub pairs : M.pairs ≡ program_pairs C.program
+  pub starts : M.start ≡ code_place (program_words C) C.program.top

@@ -1,7 +1,6 @@
 -- The tables of a closed program: its kinds, its class sets, the words of classes with their kinds, and its generics, and the numbers by which code
 -- names them. No phrase is in them, so but for the numbers of texts they are those of the program for which it stands.
 use Rattle.std.specs.Prelude.{ℕ, suc, List, [], ◌∷◌, length, map, take, true, false, Option, Some, None}
-use Rattle.fac_lang.specs.declared.phrase.Template.{Template}
 use Rattle.fac_lang.specs.declared.program.Program.{Program}
 use Rattle.fac_lang.specs.declared.program.WordDef.{WordDef}
 use Rattle.fac_lang.specs.declared.program.ClassDef.{ClassDef}
@@ -10,6 +9,7 @@ use Rattle.fac_lang.specs.declared.program.Sort.TheVariants.{Class as class, Get
 use Rattle.fac_lang.specs.declared.program.Shape.{Shape}
 use Rattle.fac_lang.specs.declared.program.Shape.TheVariants.{Tuple as tuple_class}
 use Rattle.fac_lang.specs.Classes.{has_own, own_kind, slots_within}
+use Rattle.fac_locals.specs.declared.closing.Closed.{Closed}
 use Rattle.fac_code.specs.declared.image.KindRow.{KindRow}
 use Rattle.fac_code.specs.declared.image.MethodRow.{MethodRow}
 use Rattle.fac_code.specs.declared.image.GenericRow.{GenericRow}
@@ -17,24 +17,24 @@ use Rattle.fac_classes.specs.ClassKinds.{kinds_of}
 use Rattle.fac_generic.specs.Methods.{methods_in_order}
 use Rattle.fac_emit.specs.ProgramTexts.{text_number}
 
--- Kinds, with these templates.
-module _ (C : Program) (templates : List Template) where
+-- Kinds.
+module _ (C : Closed) where
   -- the texts that are the names of all slots of class c, its parents' first
   abbrev pub slot_numbers : ℕ → Shape → Option (List ℕ)
-  slot_numbers c (tuple_class p ss) = Some (map (text_number C templates) (slots_within (length C.classes) C.classes c))
+  slot_numbers c (tuple_class p ss) = Some (map (text_number C) (slots_within (length C.program.classes) C.program.classes c))
   slot_numbers c _ = None
 
   -- the row of a class
   abbrev pub kind_row_of : ℕ → ClassDef → KindRow
-  kind_row_of c d = record { vocab = text_number C templates d.name.vocab; name = text_number C templates d.name.name; slots = slot_numbers c d.shape }
+  kind_row_of c d = record { vocab = text_number C d.name.vocab; name = text_number C d.name.name; slots = slot_numbers c d.shape }
 
   -- the rows of the classes from class c on that have a kind of their own
   abbrev pub kinds_from : ℕ → List ClassDef → List KindRow
   kinds_from c [] = []
   kinds_from c (d ∷ ds) = elim (has_own d.shape) [ true ↦ kind_row_of c d ∷ kinds_from (suc c) ds | false ↦ kinds_from (suc c) ds ]
 
-abbrev pub program_kinds : Program → List Template → List KindRow
-program_kinds C ts = kinds_from C ts 0 C.classes
+abbrev pub program_kinds : Closed → List KindRow
+program_kinds C = kinds_from C 0 C.program.classes
 
 -- Class sets: the kinds of each class from class c on. The set of a class has its number.
 abbrev pub sets_from : List ClassDef → ℕ → List ClassDef → List (List ℕ)
@@ -80,12 +80,12 @@ generics_from P place g [] = []
 generics_from P place g (d ∷ ds) = elim d.sort [ generic ↦ record { word = g; methods = map (method_row place) (methods_in_order P g) } ∷ generics_from P place (suc g) ds | _ ↦ generics_from P place (suc g) ds ]
 
 -- The number by which code names what a word of this sort is: that of an accessor's slot among the texts, and that of a generic.
-module _ (C : Program) (templates : List Template) where
+module _ (C : Closed) where
   abbrev pub sort_number : ℕ → Sort → ℕ
-  sort_number w (getter s) = text_number C templates s
-  sort_number w (setter s) = text_number C templates s
-  sort_number w (putter s) = text_number C templates s
-  sort_number w generic = generic_number C w
+  sort_number w (getter s) = text_number C s
+  sort_number w (setter s) = text_number C s
+  sort_number w (putter s) = text_number C s
+  sort_number w generic = generic_number C.program w
   sort_number w _ = 0
 
   -- those of the words from word w on
@@ -94,5 +94,5 @@ module _ (C : Program) (templates : List Template) where
   numbers_from w (d ∷ ds) = sort_number w d.sort ∷ numbers_from (suc w) ds
 
 -- those of all words
-abbrev pub word_numbers : Program → List Template → List ℕ
-word_numbers C ts = numbers_from C ts 0 C.words
+abbrev pub word_numbers : Closed → List ℕ
+word_numbers C = numbers_from C 0 C.program.words

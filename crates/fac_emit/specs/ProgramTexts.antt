@@ -7,13 +7,13 @@ use Rattle.fac_lang.specs.declared.phrase.Template.{Template}
 use Rattle.fac_lang.specs.declared.program.ClassDef.{ClassDef}
 use Rattle.fac_lang.specs.declared.program.Lit.{Lit}
 use Rattle.fac_lang.specs.declared.program.Lit.TheVariants.{Str as l_str, Arr as l_arr, Made as l_made}
-use Rattle.fac_lang.specs.declared.program.Program.{Program}
 use Rattle.fac_lang.specs.declared.program.Shape.{Shape}
 use Rattle.fac_lang.specs.declared.program.Shape.TheVariants.{Tuple as tuple_class}
 use Rattle.fac_lang.specs.declared.program.Sort.{Sort}
 use Rattle.fac_lang.specs.declared.program.Sort.TheVariants.{Body as body, Past as past, Class as class, Getter as getter, Setter as setter, Putter as putter, Method as method}
 use Rattle.fac_lang.specs.declared.program.WordDef.{WordDef}
 use Rattle.fac_lang.specs.Phrases.{str, Phrase, end, then as and_then, Item, lit, lit_arr, made}
+use Rattle.fac_locals.specs.declared.closing.Closed.{Closed}
 
 -- texts with one more, where it isn't there
 abbrev pub with_text : List (List ℕ) → List ℕ → List (List ℕ)
@@ -45,17 +45,17 @@ module _ (template array : ℕ → List (List ℕ)) where
   elements_texts [] = []
   elements_texts (l ∷ ls) = element_texts l ++ elements_texts ls
 
--- for a closed program with these templates
-module _ (C : Program) (templates : List Template) where
+-- for a closed program
+module _ (C : Closed) where
   -- A template stands for the strings of its phrase and an array for those of its elements, with the templates and arrays in them, to so many levels.
   abbrev mutual
     pub template_texts : ℕ → ℕ → List (List ℕ)
     template_texts zero q = []
-    template_texts (suc n) q = elim (slice_get templates q) [ Some t ↦ phrase_texts (template_texts n) (array_texts n) t.body | None ↦ [] ]
+    template_texts (suc n) q = elim (slice_get C.templates q) [ Some t ↦ phrase_texts (template_texts n) (array_texts n) t.body | None ↦ [] ]
 
     pub array_texts : ℕ → ℕ → List (List ℕ)
     array_texts zero a = []
-    array_texts (suc n) a = elim (slice_get C.arrays a) [ Some ls ↦ elements_texts (template_texts n) (array_texts n) ls | None ↦ [] ]
+    array_texts (suc n) a = elim (slice_get C.program.arrays a) [ Some ls ↦ elements_texts (template_texts n) (array_texts n) ls | None ↦ [] ]
 
 -- as many levels as brackets can have, and one more
 unfoldable pub text_levels : ℕ
@@ -78,18 +78,18 @@ abbrev pub found_class_texts : Option ClassDef → List (List ℕ)
 found_class_texts None = []
 found_class_texts (Some d) = class_texts d
 
--- for a closed program with these templates
-module _ (C : Program) (templates : List Template) where
+-- for a closed program
+module _ (C : Closed) where
   -- those of a word's phrase
   abbrev pub body_texts : Phrase → List (List ℕ)
-  body_texts t = phrase_texts (template_texts C templates text_levels) (array_texts C templates text_levels) t
+  body_texts t = phrase_texts (template_texts C text_levels) (array_texts C text_levels) t
 
   -- of what a word is: the slot of an accessor, the class of a class's word, and the phrase of a word that runs one
   abbrev pub sort_texts : Sort → List (List ℕ)
   sort_texts (body t) = body_texts t
   sort_texts (past t) = body_texts t
   sort_texts (method c g t) = body_texts t
-  sort_texts (class c) = found_class_texts (slice_get C.classes c)
+  sort_texts (class c) = found_class_texts (slice_get C.program.classes c)
   sort_texts (getter s) = s ∷ []
   sort_texts (setter s) = s ∷ []
   sort_texts (putter s) = s ∷ []
@@ -126,13 +126,13 @@ arrays_texts (ls ∷ lss) = own_elements_texts ls ++ arrays_texts lss
 
 -- Word by word, so that the texts of a longer program begin with those of a shorter one. Behind the words come the strings of all templates and
 -- arrays and the names of all classes, so that each text is there whatever stands where: to a program as it is read these add nothing.
-abbrev pub text_sequence : Program → List Template → List (List ℕ)
-text_sequence C ts = words_texts C ts C.words ++ (templates_texts ts ++ (arrays_texts C.arrays ++ classes_texts C.classes))
+abbrev pub text_sequence : Closed → List (List ℕ)
+text_sequence C = words_texts C C.program.words ++ (templates_texts C.templates ++ (arrays_texts C.program.arrays ++ classes_texts C.program.classes))
 
 -- the texts of its image
-unfoldable pub program_texts : Program → List Template → List (List ℕ)
-program_texts C ts = with_texts [] (text_sequence C ts)
+unfoldable pub program_texts : Closed → List (List ℕ)
+program_texts C = with_texts [] (text_sequence C)
 
 -- the number of a text: its place among them
-abbrev pub text_number : Program → List Template → List ℕ → ℕ
-text_number C ts s = position_or_len (bytes_eq s) (program_texts C ts)
+abbrev pub text_number : Closed → List ℕ → ℕ
+text_number C s = position_or_len (bytes_eq s) (program_texts C)

@@ -67,7 +67,7 @@ fn words_ask(words: &[WordDef]) -> bool
 /// Whether a closed program asks for the effect of a callable, which `call( )` alone does. Where it doesn't, `compile` needs no effects of its
 /// templates, and may be handed an empty list.
 pub fn asks_effects(closed: &Closed) -> bool
-    ensures { result ≡ asks_any closed.now.program closed.now.templates }
+    ensures { result ≡ asks_any closed.now }
 {
     if templates_ask(closed.templates.as_slice()) {
         return true;

@@ -1,17 +1,13 @@
 //! The compiler: the code of the templates and the words is linked to an image.
-ghost use Rattle.std.specs.Prelude.{◌≡◌, ℕ, true, nat_eq, nat_le, Some, IfOk, OnOk};
+ghost use Rattle.std.specs.Prelude.{◌≡◌, ℕ, true, nat_le, Some, IfOk, OnOk};
 ghost use Rattle.std.specs.List.{list_all};
 ghost use Rattle.fac_base.specs.declared.limits.TheConstants.{MOST_EFFECT_NAMES};
 ghost use Rattle.fac_lang.specs.declared.program.Program.{Program as Source};
-ghost use Rattle.fac_lang.specs.Whole.{IsWhole};
 ghost use Rattle.fac_base.specs.Effects.{effect_height};
 ghost use Rattle.fac_lang.specs.Meaning.{sort_of};
-ghost use Rattle.fac_locals.specs.Closed.{Closes};
 ghost use Rattle.fac_classes.specs.ClassKinds.{CanBeBuilt};
 ghost use Rattle.fac_generic.specs.Methods.{HasMethods, MethodLaws};
-ghost use Rattle.fac_emit.specs.CarriedPrograms.{CarriesEach};
-ghost use Rattle.fac_emit.specs.Numbered.{IsNumbering};
-ghost use Rattle.fac_carry.specs.Stands.{PlainCode};
+ghost use Rattle.fac_emit.specs.CarriedPrograms.{CarriesEach, ClosesWhole, StandsForEach};
 ghost use Rattle.fac_emit.specs.ProgramCode.{core_action, word_row, program_words, program_generics, IsPlain};
 ghost use Rattle.fac_emit.specs.inner.Coded.{has_few_inputs, array_is_coded};
 ghost use Rattle.fac_emit.specs.inner.NumberedWords.{numbered_action};
@@ -20,12 +16,11 @@ ghost use Rattle.fac_emit.specs.inner.Parts.{AreParts, AreTables, PlacesWord, Pl
 
 use crate::arrays::arrays_of;
 use crate::dispatch::generics_of;
+use crate::emission::Emission;
 use crate::emitter::{add_templates, add_word};
-use crate::numbers::{Numbering, number_of, numbering_of};
 use crate::rows::place_of;
 use crate::tables::{kinds_of, pairs_of, sets_of};
 use fac_base::{Effect, Height, List, Memory, Text};
-use fac_classes::Classes;
 use fac_code::{Action, Elem, GenericRow, Image, Instr, KindRow, TemplateRow, WordRow};
 use fac_generic::{methods_are_lawful, tables as method_tables};
 use fac_lang::{CoreWord, Sort, WordDef};
@@ -112,23 +107,16 @@ fn height_of(is_top: bool, word: &WordDef) -> Option<Height>
 }
 
 // The row of a word, whose code, where it has code, stands at a place.
-fn row_of(
-    closed: &Closed,
-    numbering: &Numbering,
-    number: u32,
-    place: u32,
-    word: &WordDef,
-) -> WordRow
-    requires numbering { IsNumbering closed.now.program closed.now.templates numbering.now }
-    requires sort { sort_of closed.now.program number ≡ Some word.now.sort }
+fn row_of(emission: &Emission<'_>, number: u32, place: u32, word: &WordDef) -> WordRow
+    requires sort { sort_of emission.now.program number ≡ Some word.now.sort }
     requires few { has_few_inputs word.now ≡ true }
-    ensures { result ≡ word_row closed.now.program closed.now.templates place number word.now }
+    ensures { result ≡ word_row emission.now place number word.now }
 {
-    let is_top = number == closed.program.top;
+    let is_top = number == emission.program().top;
     WordRow {
-        vocab: numbering.texts.number(&word.name.vocab),
-        name: numbering.texts.number(&word.name.name),
-        action: action_of(number_of(numbering, number), place, &word.sort),
+        vocab: emission.text_number(&word.name.vocab),
+        name: emission.text_number(&word.name.name),
+        action: action_of(emission.word_number(number), place, &word.sort),
         height: height_of(is_top, word),
     }
 }
@@ -143,65 +131,48 @@ struct Parts {
 
 // Adds the code of a word, and its row.
 fn place_word(
+    emission: &Emission<'_>,
     parts: &mut Parts,
-    closed: &Closed,
-    numbering: &Numbering,
     number: u32,
     word: &WordDef,
 ) -> Result<(), Memory>
-    requires numbering { IsNumbering closed.now.program closed.now.templates numbering.now }
-    requires sort { sort_of closed.now.program number ≡ Some word.now.sort }
+    requires sort { sort_of emission.now.program number ≡ Some word.now.sort }
     requires few { has_few_inputs word.now ≡ true }
-    ensures { OnOk result (PlacesWord closed.now.program closed.now.templates number (nat_eq number closed.now.program.top) word.now parts.old parts.new) }
+    ensures { OnOk result (PlacesWord emission.now number word.now parts.old parts.new) }
 {
     let place = parts.code.len();
-    parts
-        .words
-        .push(row_of(closed, numbering, number, place, word))?;
-    let is_top = number == closed.program.top;
-    add_word(&mut parts.code, closed, numbering, is_top, &word.sort)
+    parts.words.push(row_of(emission, number, place, word))?;
+    let is_top = number == emission.program().top;
+    add_word(emission, &mut parts.code, is_top, &word.sort)
 }
 
 // Adds the code and the rows of the words.
-fn add_words(parts: &mut Parts, closed: &Closed, numbering: &Numbering) -> Result<(), Memory>
-    requires numbering { IsNumbering closed.now.program closed.now.templates numbering.now }
-    requires few { list_all has_few_inputs closed.now.program.words ≡ true }
-    ensures { OnOk result (PlacesWords closed.now.program closed.now.templates parts.old parts.new) }
+fn add_words(emission: &Emission<'_>, parts: &mut Parts) -> Result<(), Memory>
+    requires { list_all has_few_inputs emission.now.program.words ≡ true }
+    ensures { OnOk result (PlacesWords emission.now parts.old parts.new) }
 {
-    let _count = closed.program.words.len();
+    let program = emission.program();
+    let _count = program.words.len();
     let mut number = 0u32;
-    for word in closed.program.words.as_slice() {
-        place_word(parts, closed, numbering, number, word)?;
+    for word in program.words.as_slice() {
+        place_word(emission, parts, number, word)?;
         number += 1;
     }
     Ok(())
 }
 
 // The code of a closed program, that of its templates, which have these effects, first and then that of its words.
-fn parts_of(
-    alloc: Global,
-    closed: &Closed,
-    numbering: &Numbering,
-    heights: &[Option<Height>],
-) -> Result<Parts, Memory>
-    requires closed { (P : Source) × Closes P closed.now.program closed.now.templates × IsWhole P }
-    requires numbering { IsNumbering closed.now.program closed.now.templates numbering.now }
-    ensures { IfOk result (AreParts closed.now.program closed.now.templates heights.now) }
+fn parts_of(emission: &Emission<'_>, heights: &[Option<Height>]) -> Result<Parts, Memory>
+    requires { (P : Source) × ClosesWhole P emission.now }
+    ensures { IfOk result (AreParts emission.now heights.now) }
 {
     let mut parts = Parts {
-        code: List::new(alloc),
-        templates: List::new(alloc),
-        words: List::new(alloc),
+        code: List::new(emission.alloc()),
+        templates: List::new(emission.alloc()),
+        words: List::new(emission.alloc()),
     };
-    add_templates(
-        alloc,
-        &mut parts.code,
-        &mut parts.templates,
-        closed,
-        numbering,
-        heights,
-    )?;
-    add_words(&mut parts, closed, numbering)?;
+    add_templates(emission, &mut parts.code, &mut parts.templates, heights)?;
+    add_words(emission, &mut parts)?;
     Ok(parts)
 }
 
@@ -217,42 +188,30 @@ struct OtherTables {
 }
 
 // The rows of the generics, where the words have these rows.
-fn generics_for(
-    alloc: Global,
-    closed: &Closed,
-    classes: &Classes,
-    rows: &List<WordRow>,
-) -> Result<List<GenericRow>, Memory>
-    requires classes { classes.now ≡ closed.now.program.classes }
-    requires methods { HasMethods closed.now.program }
-    requires rows { rows.now ≡ program_words closed.now.program closed.now.templates }
-    ensures { IfOk result (λ generics. generics ≡ program_generics closed.now.program closed.now.templates) }
+fn generics_for(emission: &Emission<'_>, rows: &List<WordRow>) -> Result<List<GenericRow>, Memory>
+    requires methods { HasMethods emission.now.program }
+    requires rows { rows.now ≡ program_words emission.now }
+    ensures { IfOk result (λ generics. generics ≡ program_generics emission.now) }
 {
-    let methods = method_tables(alloc, &closed.program, classes)?;
-    generics_of(alloc, &closed.program, &methods, rows)
+    let alloc = emission.alloc();
+    let program = emission.program();
+    let methods = method_tables(alloc, program, emission.classes())?;
+    generics_of(alloc, program, &methods, rows)
 }
 
 // The other tables of a closed program's image, where its words have these rows.
-fn tables_of(
-    alloc: Global,
-    closed: &Closed,
-    numbering: &Numbering,
-    classes: &Classes,
-    rows: &List<WordRow>,
-) -> Result<OtherTables, Memory>
-    requires coded { list_all array_is_coded closed.now.program.arrays ≡ true }
-    requires numbering { IsNumbering closed.now.program closed.now.templates numbering.now }
-    requires classes { classes.now ≡ closed.now.program.classes }
-    requires methods { HasMethods closed.now.program }
-    requires rows { rows.now ≡ program_words closed.now.program closed.now.templates }
-    ensures { IfOk result (AreTables closed.now.program closed.now.templates) }
+fn tables_of(emission: &Emission<'_>, rows: &List<WordRow>) -> Result<OtherTables, Memory>
+    requires coded { list_all array_is_coded emission.now.program.arrays ≡ true }
+    requires methods { HasMethods emission.now.program }
+    requires rows { rows.now ≡ program_words emission.now }
+    ensures { IfOk result (AreTables emission.now) }
 {
-    let texts = numbering.texts.list(alloc)?;
-    let arrays = arrays_of(alloc, &numbering.texts, closed)?;
-    let kinds = kinds_of(alloc, &numbering.texts, closed, classes)?;
-    let sets = sets_of(alloc, classes)?;
-    let generics = generics_for(alloc, closed, classes, rows)?;
-    let pairs = pairs_of(alloc, closed, classes)?;
+    let texts = emission.texts()?;
+    let arrays = arrays_of(emission)?;
+    let kinds = kinds_of(emission)?;
+    let sets = sets_of(emission.alloc(), emission.classes())?;
+    let generics = generics_for(emission, rows)?;
+    let pairs = pairs_of(emission)?;
     Ok(OtherTables {
         texts,
         arrays,
@@ -264,11 +223,16 @@ fn tables_of(
 }
 
 // The image of these parts and tables, where the templates have these effects.
-fn image_of(closed: &Closed, heights: &[Option<Height>], parts: Parts, tables: OtherTables) -> Image
-    requires closed { (P : Source) × Closes P closed.now.program closed.now.templates × IsWhole P × MethodLaws P }
-    requires parts { AreParts closed.now.program closed.now.templates heights.now parts }
-    requires tables { AreTables closed.now.program closed.now.templates tables }
-    ensures { IsPlain closed.now.program closed.now.templates heights.now result }
+fn image_of(
+    emission: &Emission<'_>,
+    heights: &[Option<Height>],
+    parts: Parts,
+    tables: OtherTables,
+) -> Image
+    requires closed { (P : Source) × ClosesWhole P emission.now × MethodLaws P }
+    requires parts { AreParts emission.now heights.now parts }
+    requires tables { AreTables emission.now tables }
+    ensures { IsPlain emission.now heights.now result }
 {
     let Parts {
         code,
@@ -283,7 +247,7 @@ fn image_of(closed: &Closed, heights: &[Option<Height>], parts: Parts, tables: O
         generics,
         pairs,
     } = tables;
-    let start = place_of(&words, closed.program.top);
+    let start = place_of(&words, emission.program().top);
     Image {
         texts,
         arrays,
@@ -300,17 +264,16 @@ fn image_of(closed: &Closed, heights: &[Option<Height>], parts: Parts, tables: O
 
 // The image of a closed program, whose templates have these effects.
 fn plain_image(alloc: Global, closed: &Closed, heights: &[Option<Height>]) -> Result<Image, Memory>
-    requires closed { (P : Source) × Closes P closed.now.program closed.now.templates × IsWhole P × MethodLaws P }
+    requires closed { (P : Source) × ClosesWhole P closed.now × MethodLaws P }
     requires coded { list_all array_is_coded closed.now.program.arrays ≡ true }
     requires classes { CanBeBuilt closed.now.program }
     requires methods { HasMethods closed.now.program }
-    ensures { IfOk result (IsPlain closed.now.program closed.now.templates heights.now) }
+    ensures { IfOk result (IsPlain closed.now heights.now) }
 {
-    let classes = Classes::build(alloc, &closed.program)?;
-    let numbering = numbering_of(alloc, closed)?;
-    let parts = parts_of(alloc, closed, &numbering, heights)?;
-    let tables = tables_of(alloc, closed, &numbering, &classes, &parts.words)?;
-    Ok(image_of(closed, heights, parts, tables))
+    let emission = Emission::new(alloc, closed)?;
+    let parts = parts_of(&emission, heights)?;
+    let tables = tables_of(&emission, &parts.words)?;
+    Ok(image_of(&emission, heights, parts, tables))
 }
 
 /// The image of a closed program, where its templates have these effects, by their numbers, or where it asks for none (`asks_effects`). It
@@ -322,10 +285,10 @@ fn plain_image(alloc: Global, closed: &Closed, heights: &[Option<Height>]) -> Re
 /// of each class, and the words of classes with their kinds; it starts at the top-level phrase. Want of memory is the one error, also where
 /// there are more kinds or texts than numbers for them.
 pub fn compile(alloc: Global, closed: &Closed, heights: &[Option<Height>]) -> Result<Image, Memory>
-    requires { (P : Source) × Closes P closed.now.program closed.now.templates × IsWhole P }
+    requires { (P : Source) × ClosesWhole P closed.now }
     ensures carries { IfOk result (CarriesEach closed.now heights.now) }
-    ensures stands { IfOk result (λ image. (P : Source) → Closes P closed.now.program closed.now.templates → IsWhole P → PlainCode P image) }
-    ensures plain { IfOk result (IsPlain closed.now.program closed.now.templates heights.now) }
+    ensures stands { IfOk result (StandsForEach closed.now) }
+    ensures plain { IfOk result (IsPlain closed.now heights.now) }
 {
     methods_are_lawful();
     plain_image(alloc, closed, heights)

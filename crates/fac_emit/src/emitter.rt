@@ -4,16 +4,13 @@ ghost use Rattle.fac_lang.specs.PhraseView.{what_item};
 ghost use Rattle.fac_store.specs.CallableHeights.{height_there};
 ghost use Rattle.fac_carry.specs.Stands.{making};
 ghost use Rattle.fac_emit.specs.ProgramCode.{core_instr, word_instr, made_instr, item_instr, phrase_code, last_instr, sort_code};
-ghost use Rattle.fac_emit.specs.Numbered.{IsNumbering};
 ghost use Rattle.fac_emit.specs.inner.AddedTemplates.{AddsTemplate, AddsTemplates};
 ghost use Rattle.fac_emit.specs.inner.NumberedWords.{numbered_instr};
 
-use crate::numbers::{Numbering, number_of};
+use crate::emission::Emission;
 use fac_base::{Duplicate, Height, List, Memory};
 use fac_code::{Instr, TemplateRow};
 use fac_lang::{CoreWord, Phrase, Sort, Template, What};
-use fac_locals::Closed;
-use std::alloc::Global;
 
 // The instruction of a core word. `cond` stands nowhere but in a phrase that nothing can do.
 fn instr_of_core(core: CoreWord) -> Instr
@@ -52,12 +49,11 @@ fn instr_of_sort(number: u32, word: u32, sort: &Sort) -> Instr
 }
 
 // The instruction of the word with this number.
-fn instr_of_word(closed: &Closed, numbering: &Numbering, word: u32) -> Instr
-    requires { IsNumbering closed.now.program closed.now.templates numbering.now }
-    ensures { result ≡ word_instr closed.now.program closed.now.templates word (slice_get closed.now.program.words word) }
+fn instr_of_word(emission: &Emission<'_>, word: u32) -> Instr
+    ensures { result ≡ word_instr emission.now word (slice_get emission.now.program.words word) }
 {
-    match closed.program.words.get(word as usize) {
-        Some(def) => instr_of_sort(number_of(numbering, word), word, &def.sort),
+    match emission.program().words.get(word as usize) {
+        Some(def) => instr_of_sort(emission.word_number(word), word, &def.sort),
         None => Instr::Boa,
     }
 }
@@ -83,23 +79,22 @@ fn instr_of_made(templates: &List<Template>, number: u32) -> Instr
 }
 
 // The instruction of an item.
-fn instr_of(closed: &Closed, numbering: &Numbering, what: &What) -> Instr
-    requires { IsNumbering closed.now.program closed.now.templates numbering.now }
-    ensures { result ≡ item_instr closed.now.program closed.now.templates (what_item what.now) }
+fn instr_of(emission: &Emission<'_>, what: &What) -> Instr
+    ensures { result ≡ item_instr emission.now (what_item what.now) }
 {
     match what {
         What::Int(value) => Instr::Int(value.get()),
         What::True => Instr::True,
         What::False => Instr::False,
-        What::Str(text) => Instr::Text(numbering.texts.number(text)),
+        What::Str(text) => Instr::Text(emission.text_number(text)),
         What::Arr(array) => Instr::Array(*array),
         What::Wref(word) => Instr::Word(*word),
-        What::Word(word) => instr_of_word(closed, numbering, *word),
+        What::Word(word) => instr_of_word(emission, *word),
         What::NextAfter(method) => Instr::Next {
             method: *method,
             tail: false,
         },
-        What::Made(number) => instr_of_made(&closed.templates, *number),
+        What::Made(number) => instr_of_made(emission.templates(), *number),
         What::Bind(_) => Instr::Bind,
         What::Local(cell) => Instr::Local(*cell),
         What::CallEff(height) => Instr::CallEffect {
@@ -116,17 +111,15 @@ fn instr_of(closed: &Closed, numbering: &Numbering, what: &What) -> Instr
 
 // Adds the code of a phrase.
 fn add_phrase(
+    emission: &Emission<'_>,
     code: &mut List<Instr>,
-    closed: &Closed,
-    numbering: &Numbering,
     phrase: &Phrase,
     last: Instr,
 ) -> Result<(), Memory>
-    requires { IsNumbering closed.now.program closed.now.templates numbering.now }
-    ensures { OnOk result (code.new ≡ code.old ++ phrase_code closed.now.program closed.now.templates last phrase.now) }
+    ensures { OnOk result (code.new ≡ code.old ++ phrase_code emission.now last phrase.now) }
 {
     for item in &phrase.items {
-        code.push(instr_of(closed, numbering, &item.what))?;
+        code.push(instr_of(emission, &item.what))?;
     }
     code.push(last)
 }
@@ -143,45 +136,40 @@ fn height_of(heights: &[Option<Height>], template: u32) -> Option<Height>
 
 // Adds a template with this effect: its code and its row.
 fn add_template(
-    alloc: Global,
+    emission: &Emission<'_>,
     code: &mut List<Instr>,
     rows: &mut List<TemplateRow>,
-    closed: &Closed,
-    numbering: &Numbering,
     height: Option<Height>,
     template: &Template,
 ) -> Result<(), Memory>
-    requires { IsNumbering closed.now.program closed.now.templates numbering.now }
-    ensures { OnOk result (AddsTemplate closed.now.program closed.now.templates height template.now code.old code.new rows.old rows.new) }
+    ensures { OnOk result (AddsTemplate emission.now height template.now code.old code.new rows.old rows.new) }
 {
     let entry = code.len();
-    let cells = template.captures.copy(alloc)?;
+    let cells = template.captures.copy(emission.alloc())?;
     rows.push(TemplateRow {
         entry,
         cells,
         holes: template.holes,
         height,
     })?;
-    add_phrase(code, closed, numbering, &template.body, Instr::Ret)
+    add_phrase(emission, code, &template.body, Instr::Ret)
 }
 
 /// Adds the code of the templates, and their rows with these effects, in their order.
 pub fn add_templates(
-    alloc: Global,
+    emission: &Emission<'_>,
     code: &mut List<Instr>,
     rows: &mut List<TemplateRow>,
-    closed: &Closed,
-    numbering: &Numbering,
     heights: &[Option<Height>],
 ) -> Result<(), Memory>
-    requires { IsNumbering closed.now.program closed.now.templates numbering.now }
-    ensures { OnOk result (AddsTemplates closed.now.program closed.now.templates heights.now code.old code.new rows.old rows.new) }
+    ensures { OnOk result (AddsTemplates emission.now heights.now code.old code.new rows.old rows.new) }
 {
-    let _count = closed.templates.len();
+    let templates = emission.templates();
+    let _count = templates.len();
     let mut number = 0u32;
-    for template in closed.templates.as_slice() {
+    for template in templates.as_slice() {
         let height = height_of(heights, number);
-        add_template(alloc, code, rows, closed, numbering, height, template)?;
+        add_template(emission, code, rows, height, template)?;
         number += 1;
     }
     Ok(())
@@ -196,18 +184,16 @@ fn last(is_top: bool) -> Instr
 
 /// Adds the code of a word of this sort, where it runs a phrase.
 pub fn add_word(
+    emission: &Emission<'_>,
     code: &mut List<Instr>,
-    closed: &Closed,
-    numbering: &Numbering,
     is_top: bool,
     sort: &Sort,
 ) -> Result<(), Memory>
-    requires { IsNumbering closed.now.program closed.now.templates numbering.now }
-    ensures { OnOk result (code.new ≡ code.old ++ sort_code closed.now.program closed.now.templates is_top sort.now) }
+    ensures { OnOk result (code.new ≡ code.old ++ sort_code emission.now is_top sort.now) }
 {
     match sort {
-        Sort::Body(phrase) => add_phrase(code, closed, numbering, phrase, last(is_top)),
-        Sort::Method { body, .. } => add_phrase(code, closed, numbering, body, last(is_top)),
+        Sort::Body(phrase) => add_phrase(emission, code, phrase, last(is_top)),
+        Sort::Method { body, .. } => add_phrase(emission, code, body, last(is_top)),
         _ => Ok(()),
     }
 }

@@ -5,6 +5,7 @@ mod arrays;
 mod asked;
 mod compiler;
 mod dispatch;
+mod emission;
 mod emitter;
 mod numbers;
 mod rows;

@@ -1,42 +1,20 @@
-//! The numbers by which code names texts and what words are.
+//! The numbers by which code names what words are.
 ghost use Rattle.std.specs.Prelude.{◌≡◌, ◌<◌, ◌+◌, ◌^◌, length, Some, IfOk, if◌then◌else◌};
 ghost use Rattle.fac_lang.specs.Whole.{is_generic};
 ghost use Rattle.fac_emit.specs.ProgramTexts.{program_texts, text_number};
 ghost use Rattle.fac_emit.specs.ProgramTables.{generic_number, sort_number, word_numbers};
-ghost use Rattle.fac_emit.specs.Numbered.{IsNumbering};
-ghost use Rattle.fac_emit.specs.inner.NumberedWords.{number_at};
 
-use crate::sequence::texts_of;
 use crate::texts::Texts;
-use fac_base::{List, Memory, Text};
+use fac_base::{List, Memory};
 use fac_lang::Sort;
 use fac_locals::Closed;
 use std::alloc::Global;
 
-/// The texts of a closed program's image, by their numbers, and for each word the number by which code names what the word is.
-#[derive(Drop)]
-pub struct Numbering {
-    /// The texts.
-    pub texts: Texts,
-    /// For an accessor the number of its slot's text, and for a generic that among all generics.
-    pub words: List<u32>,
-}
-
-/// The number of the word with this number in the tables, where it has one.
-pub fn number_of(numbering: &Numbering, word: u32) -> u32
-    ensures { result ≡ number_at numbering.now.words word }
-{
-    match numbering.words.get(word as usize) {
-        Some(number) => *number,
-        None => 0,
-    }
-}
-
 // The number of a word of this sort, behind so many generics.
 fn number_of_sort(texts: &Texts, closed: &Closed, generics: u32, word: u32, sort: &Sort) -> u32
-    requires texts { texts.now ≡ program_texts closed.now.program closed.now.templates }
+    requires texts { texts.now ≡ program_texts closed.now }
     requires generics { generics ≡ generic_number closed.now.program word }
-    ensures { result ≡ sort_number closed.now.program closed.now.templates word sort.now }
+    ensures { result ≡ sort_number closed.now word sort.now }
 {
     match sort {
         Sort::Getter(slot) => texts.number(slot),
@@ -58,10 +36,10 @@ fn behind(generics: u32, sort: &Sort) -> u32
     }
 }
 
-// The numbers of all words.
-fn numbers_of(alloc: Global, texts: &Texts, closed: &Closed) -> Result<List<u32>, Memory>
-    requires { texts.now ≡ program_texts closed.now.program closed.now.templates }
-    ensures { IfOk result (λ numbers. numbers ≡ word_numbers closed.now.program closed.now.templates) }
+/// The numbers of all words.
+pub fn numbers_of(alloc: Global, texts: &Texts, closed: &Closed) -> Result<List<u32>, Memory>
+    requires { texts.now ≡ program_texts closed.now }
+    ensures { IfOk result (λ numbers. numbers ≡ word_numbers closed.now) }
 {
     let _count = closed.program.words.len();
     let mut numbers = List::new(alloc);
@@ -73,14 +51,4 @@ fn numbers_of(alloc: Global, texts: &Texts, closed: &Closed) -> Result<List<u32>
         number += 1;
     }
     Ok(numbers)
-}
-
-/// The numbers by which the code of a closed program names its texts and what its words are. Want of memory is the one error, also where
-/// there are more texts than numbers for them.
-pub fn numbering_of(alloc: Global, closed: &Closed) -> Result<Numbering, Memory>
-    ensures { IfOk result (IsNumbering closed.now.program closed.now.templates) }
-{
-    let texts = texts_of(alloc, closed)?;
-    let words = numbers_of(alloc, &texts, closed)?;
-    Ok(Numbering { texts, words })
 }

@@ -19,7 +19,7 @@ fn add_template(
     levels: u32,
     template: u32,
 ) -> Result<(), Memory>
-    ensures { OnOk result (texts.new ≡ with_texts texts.old (template_texts closed.now.program closed.now.templates levels template)) }
+    ensures { OnOk result (texts.new ≡ with_texts texts.old (template_texts closed.now levels template)) }
 {
     if levels == 0 {
         return Ok(());
@@ -39,7 +39,7 @@ fn add_array(
     levels: u32,
     array: u32,
 ) -> Result<(), Memory>
-    ensures { OnOk result (texts.new ≡ with_texts texts.old (array_texts closed.now.program closed.now.templates levels array)) }
+    ensures { OnOk result (texts.new ≡ with_texts texts.old (array_texts closed.now levels array)) }
 {
     if levels == 0 {
         return Ok(());
@@ -59,7 +59,7 @@ fn add_item(
     levels: u32,
     what: &What,
 ) -> Result<(), Memory>
-    ensures { OnOk result (texts.new ≡ with_texts texts.old (item_texts (template_texts closed.now.program closed.now.templates levels) (array_texts closed.now.program closed.now.templates levels) (what_item what.now))) }
+    ensures { OnOk result (texts.new ≡ with_texts texts.old (item_texts (template_texts closed.now levels) (array_texts closed.now levels) (what_item what.now))) }
 {
     match what {
         What::Str(text) => texts.add(alloc, text),
@@ -78,7 +78,7 @@ fn add_phrase(
     levels: u32,
     phrase: &Phrase,
 ) -> Result<(), Memory>
-    ensures { OnOk result (texts.new ≡ with_texts texts.old (phrase_texts (template_texts closed.now.program closed.now.templates levels) (array_texts closed.now.program closed.now.templates levels) phrase.now)) }
+    ensures { OnOk result (texts.new ≡ with_texts texts.old (phrase_texts (template_texts closed.now levels) (array_texts closed.now levels) phrase.now)) }
 {
     for item in &phrase.items {
         add_item(alloc, texts, closed, levels, &item.what)?;
@@ -95,7 +95,7 @@ fn add_element(
     levels: u32,
     lit: &Lit,
 ) -> Result<(), Memory>
-    ensures { OnOk result (texts.new ≡ with_texts texts.old (element_texts (template_texts closed.now.program closed.now.templates levels) (array_texts closed.now.program closed.now.templates levels) lit.now)) }
+    ensures { OnOk result (texts.new ≡ with_texts texts.old (element_texts (template_texts closed.now levels) (array_texts closed.now levels) lit.now)) }
 {
     match lit {
         Lit::Str(text) => texts.add(alloc, text),
@@ -114,7 +114,7 @@ fn add_elements(
     levels: u32,
     lits: &List<Lit>,
 ) -> Result<(), Memory>
-    ensures { OnOk result (texts.new ≡ with_texts texts.old (elements_texts (template_texts closed.now.program closed.now.templates levels) (array_texts closed.now.program closed.now.templates levels) lits.now)) }
+    ensures { OnOk result (texts.new ≡ with_texts texts.old (elements_texts (template_texts closed.now levels) (array_texts closed.now levels) lits.now)) }
 {
     for lit in lits.as_slice() {
         add_element(alloc, texts, closed, levels, lit)?;
@@ -129,7 +129,7 @@ fn add_body(
     closed: &Closed,
     phrase: &Phrase,
 ) -> Result<(), Memory>
-    ensures { OnOk result (texts.new ≡ with_texts texts.old (body_texts closed.now.program closed.now.templates phrase.now)) }
+    ensures { OnOk result (texts.new ≡ with_texts texts.old (body_texts closed.now phrase.now)) }
 {
     add_phrase(alloc, texts, closed, MOST_LEVELS + 1, phrase)
 }
@@ -187,7 +187,7 @@ fn add_class_numbered(
 
 // Adds the texts of what a word is.
 fn add_sort(alloc: Global, texts: &mut Texts, closed: &Closed, sort: &Sort) -> Result<(), Memory>
-    ensures { OnOk result (texts.new ≡ with_texts texts.old (sort_texts closed.now.program closed.now.templates sort.now)) }
+    ensures { OnOk result (texts.new ≡ with_texts texts.old (sort_texts closed.now sort.now)) }
 {
     match sort {
         Sort::Body(phrase) => add_body(alloc, texts, closed, phrase),
@@ -203,7 +203,7 @@ fn add_sort(alloc: Global, texts: &mut Texts, closed: &Closed, sort: &Sort) -> R
 
 // Adds those of a word.
 fn add_word(alloc: Global, texts: &mut Texts, closed: &Closed, word: &WordDef) -> Result<(), Memory>
-    ensures { OnOk result (texts.new ≡ with_texts texts.old (word_texts closed.now.program closed.now.templates word.now)) }
+    ensures { OnOk result (texts.new ≡ with_texts texts.old (word_texts closed.now word.now)) }
 {
     add_name(alloc, texts, &word.name)?;
     add_sort(alloc, texts, closed, &word.sort)
@@ -211,7 +211,7 @@ fn add_word(alloc: Global, texts: &mut Texts, closed: &Closed, word: &WordDef) -
 
 // Adds those of all words.
 fn add_words(alloc: Global, texts: &mut Texts, closed: &Closed) -> Result<(), Memory>
-    ensures { OnOk result (texts.new ≡ with_texts texts.old (words_texts closed.now.program closed.now.templates closed.now.program.words)) }
+    ensures { OnOk result (texts.new ≡ with_texts texts.old (words_texts closed.now closed.now.program.words)) }
 {
     for word in closed.program.words.as_slice() {
         add_word(alloc, texts, closed, word)?;
@@ -275,7 +275,7 @@ fn add_classes(alloc: Global, texts: &mut Texts, classes: &List<ClassDef>) -> Re
 
 /// The texts of a closed program's image.
 pub fn texts_of(alloc: Global, closed: &Closed) -> Result<Texts, Memory>
-    ensures { IfOk result (λ texts. texts ≡ program_texts closed.now.program closed.now.templates) }
+    ensures { IfOk result (λ texts. texts ≡ program_texts closed.now) }
 {
     let mut texts = Texts::new(alloc);
     add_words(alloc, &mut texts, closed)?;

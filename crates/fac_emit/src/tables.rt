@@ -1,53 +1,41 @@
 //! The rows of kinds, the class sets, and the words of classes with their kinds.
 ghost use Rattle.std.specs.Prelude.{◌≡◌, ◌<◌, ◌++◌, length, map, OnOk, IfOk};
 ghost use Rattle.fac_lang.specs.Classes.{has_own, own_kind};
-ghost use Rattle.fac_emit.specs.ProgramTexts.{program_texts, text_number};
+ghost use Rattle.fac_emit.specs.ProgramTexts.{text_number};
 ghost use Rattle.fac_emit.specs.ProgramTables.{slot_numbers, program_kinds, sets_from, sort_kind, program_pairs};
 ghost use Rattle.fac_emit.specs.inner.OwnRows.{own_rows, own_pairs};
 
-use crate::texts::Texts;
+use crate::emission::Emission;
 use fac_base::{List, Memory, Text};
 use fac_classes::Classes;
 use fac_code::KindRow;
 use fac_lang::{ClassDef, Shape, Sort};
-use fac_locals::Closed;
 use std::alloc::Global;
 
 // The numbers of slots as texts.
-fn numbers_of_slots(
-    alloc: Global,
-    texts: &Texts,
-    closed: &Closed,
-    slots: &List<Text>,
-) -> Result<List<u32>, Memory>
-    requires { texts.now ≡ program_texts closed.now.program closed.now.templates }
-    ensures { IfOk result (λ numbers. numbers ≡ map (text_number closed.now.program closed.now.templates) slots.now) }
+fn numbers_of_slots(emission: &Emission<'_>, slots: &List<Text>) -> Result<List<u32>, Memory>
+    ensures { IfOk result (λ numbers. numbers ≡ map (text_number emission.now) slots.now) }
 {
-    let mut numbers = List::new(alloc);
+    let mut numbers = List::new(emission.alloc());
     for slot in slots.as_slice() {
-        numbers.push(texts.number(slot))?;
+        numbers.push(emission.text_number(slot))?;
     }
     Ok(numbers)
 }
 
 // Those of all slots of a class of this shape.
 fn slots_of_class(
-    alloc: Global,
-    texts: &Texts,
-    closed: &Closed,
-    classes: &Classes,
+    emission: &Emission<'_>,
     class: u32,
     shape: &Shape,
 ) -> Result<Option<List<u32>>, Memory>
-    requires texts { texts.now ≡ program_texts closed.now.program closed.now.templates }
-    requires classes { classes.now ≡ closed.now.program.classes }
-    requires class { class < length classes.now }
-    ensures { IfOk result (λ numbers. numbers ≡ slot_numbers closed.now.program closed.now.templates class shape.now) }
+    requires { class < length emission.now.program.classes }
+    ensures { IfOk result (λ numbers. numbers ≡ slot_numbers emission.now class shape.now) }
 {
     match shape {
         Shape::Tuple { .. } => {
-            let names = classes.slots(alloc, class)?;
-            Ok(Some(numbers_of_slots(alloc, texts, closed, &names)?))
+            let names = emission.classes().slots(emission.alloc(), class)?;
+            Ok(Some(numbers_of_slots(emission, &names)?))
         }
         _ => Ok(None),
     }
@@ -66,24 +54,19 @@ fn has_own_kind(shape: &Shape) -> bool
 
 // Adds the row of a class, where it has a kind of its own.
 fn add_kind(
-    alloc: Global,
+    emission: &Emission<'_>,
     rows: &mut List<KindRow>,
-    texts: &Texts,
-    closed: &Closed,
-    classes: &Classes,
     number: u32,
     class: &ClassDef,
 ) -> Result<(), Memory>
-    requires texts { texts.now ≡ program_texts closed.now.program closed.now.templates }
-    requires classes { classes.now ≡ closed.now.program.classes }
-    requires class { number < length classes.now }
-    ensures { OnOk result (rows.new ≡ rows.old ++ own_rows closed.now.program closed.now.templates number class.now) }
+    requires { number < length emission.now.program.classes }
+    ensures { OnOk result (rows.new ≡ rows.old ++ own_rows emission.now number class.now) }
 {
     if has_own_kind(&class.shape) {
-        let slots = slots_of_class(alloc, texts, closed, classes, number, &class.shape)?;
+        let slots = slots_of_class(emission, number, &class.shape)?;
         rows.push(KindRow {
-            vocab: texts.number(&class.name.vocab),
-            name: texts.number(&class.name.name),
+            vocab: emission.text_number(&class.name.vocab),
+            name: emission.text_number(&class.name.name),
             slots,
         })?;
     }
@@ -91,21 +74,15 @@ fn add_kind(
 }
 
 /// The rows of the kinds of a program.
-pub fn kinds_of(
-    alloc: Global,
-    texts: &Texts,
-    closed: &Closed,
-    classes: &Classes,
-) -> Result<List<KindRow>, Memory>
-    requires texts { texts.now ≡ program_texts closed.now.program closed.now.templates }
-    requires classes { classes.now ≡ closed.now.program.classes }
-    ensures { IfOk result (λ kinds. kinds ≡ program_kinds closed.now.program closed.now.templates) }
+pub fn kinds_of(emission: &Emission<'_>) -> Result<List<KindRow>, Memory>
+    ensures { IfOk result (λ kinds. kinds ≡ program_kinds emission.now) }
 {
-    let _count = closed.program.classes.len();
-    let mut rows = List::new(alloc);
+    let program = emission.program();
+    let _count = program.classes.len();
+    let mut rows = List::new(emission.alloc());
     let mut number = 0u32;
-    for class in closed.program.classes.as_slice() {
-        add_kind(alloc, &mut rows, texts, closed, classes, number, class)?;
+    for class in program.classes.as_slice() {
+        add_kind(emission, &mut rows, number, class)?;
         number += 1;
     }
     Ok(rows)
@@ -159,19 +136,15 @@ fn add_pair(
 }
 
 /// The words of classes that have a kind of their own, each with that kind.
-pub fn pairs_of(
-    alloc: Global,
-    closed: &Closed,
-    classes: &Classes,
-) -> Result<List<(u32, u32)>, Memory>
-    requires { classes.now ≡ closed.now.program.classes }
-    ensures { IfOk result (λ pairs. pairs ≡ program_pairs closed.now.program) }
+pub fn pairs_of(emission: &Emission<'_>) -> Result<List<(u32, u32)>, Memory>
+    ensures { IfOk result (λ pairs. pairs ≡ program_pairs emission.now.program) }
 {
-    let _count = closed.program.words.len();
-    let mut pairs = List::new(alloc);
+    let program = emission.program();
+    let _count = program.words.len();
+    let mut pairs = List::new(emission.alloc());
     let mut number = 0u32;
-    for word in closed.program.words.as_slice() {
-        add_pair(&mut pairs, classes, number, &word.sort)?;
+    for word in program.words.as_slice() {
+        add_pair(&mut pairs, emission.classes(), number, &word.sort)?;
         number += 1;
     }
     Ok(pairs)

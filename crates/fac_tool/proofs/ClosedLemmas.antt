@@ -94,7 +94,7 @@ effects_there closed heights P effects stands q t vs found count =
     let there = slice_get-get_or heights q None (subst (λ n. q < n) (sym effects.count) (slice_get_within closed.templates q t found)) in
     sym (effects.each q _ there P stands.closes stands.whole t vs found count) ∙ sym (ap height_there there)
 
-pub has_heights : (closed : Closed) (heights : List (Option Height)) (P : Program) → AreEffectsIfAsked closed heights → StandsForSafe closed P → HasHeights P closed.program closed.templates heights (callable_height P)
+pub has_heights : (closed : Closed) (heights : List (Option Height)) (P : Program) → AreEffectsIfAsked closed heights → StandsForSafe closed P → HasHeights P closed heights (callable_height P)
 has_heights closed heights P effects stands = record {
   literal = λ asked. effects_there closed heights P (effects asked) stands;
   curried = λ v c. refl;

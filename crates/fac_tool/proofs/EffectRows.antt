@@ -28,9 +28,9 @@ record RowOf (heights : List (Option Height)) (ts : List Template) (q k : ℕ) (
   height : row.height ≡ height_there (slice_get heights (q + k))
 
 row_of :
-    (C : Program) (templates : List Template) (heights : List (Option Height)) (at q : ℕ) (ts : List Template) (k : ℕ) (row : TemplateRow) → slice_get (template_rows C templates heights at q ts) k ≡ Some row → RowOf heights ts q k row
-row_of C templates heights at q [] k row e = absurd (cc)
-row_of C templates heights at q (t ∷ ts) zero row e =
+    (C : Closed) (heights : List (Option Height)) (at q : ℕ) (ts : List Template) (k : ℕ) (row : TemplateRow) → slice_get (template_rows C heights at q ts) k ≡ Some row → RowOf heights ts q k row
+row_of C heights at q [] k row e = absurd (cc)
+row_of C heights at q (t ∷ ts) zero row e =
     let same : row_at (height_there (slice_get heights q)) at t ≡ row = cc in
     let number : q ≡ q + 0 = omega arith in
     record {
@@ -40,9 +40,9 @@ row_of C templates heights at q (t ∷ ts) zero row e =
       holes = sym (ap (λ (r : TemplateRow). r.holes) same);
       height = sym (ap (λ (r : TemplateRow). r.height) same) ∙ ap (λ (j : ℕ). height_there (slice_get heights j)) number;
     }
-row_of C templates heights at q (t ∷ ts) (suc k) row e =
+row_of C heights at q (t ∷ ts) (suc k) row e =
     let number : suc q + k ≡ q + suc k = omega arith in
-    let later = row_of C templates heights (at + length (phrase_code C templates Ret t.body)) (suc q) ts k row e in
+    let later = row_of C heights (at + length (phrase_code C Ret t.body)) (suc q) ts k row e in
     record {
       template = later.template;
       there = later.there;
@@ -52,10 +52,10 @@ row_of C templates heights at q (t ∷ ts) (suc k) row e =
     }
 
 -- the rows of plain code have these effects
-rows_have : (closed : Closed) (heights : List (Option Height)) (P : Program) (M : Image) → AreEffects closed heights → StandsForSafe closed P → IsPlain closed.program closed.templates heights M → HasEffects P M
+rows_have : (closed : Closed) (heights : List (Option Height)) (P : Program) (M : Image) → AreEffects closed heights → StandsForSafe closed P → IsPlain closed heights M → HasEffects P M
 rows_have closed heights P M effects stands plain q row vs found count =
-    let rows : slice_get (program_templates closed.program closed.templates heights) q ≡ Some row = ap (λ (rs : List TemplateRow). slice_get rs q) (sym plain.template_rows_are) ∙ found in
-    let found_row = row_of closed.program closed.templates heights 0 0 closed.templates q row rows in
+    let rows : slice_get (program_templates closed heights) q ≡ Some row = ap (λ (rs : List TemplateRow). slice_get rs q) (sym plain.template_rows_are) ∙ found in
+    let found_row = row_of closed heights 0 0 closed.templates q row rows in
     let cells : length row.cells ≡ length found_row.template.captures = ap length found_row.cells in
     let many : length vs ≡ length found_row.template.captures + found_row.template.holes = omega (arith, count, cells, found_row.holes) in
     let number : 0 + q ≡ q = omega arith in
@@ -63,9 +63,9 @@ rows_have closed heights P M effects stands plain q row vs found count =
 
 -- so an image that is linked with all effects has them
 pub whole_carried :
-    (closed : Closed) (heights slice : List (Option Height)) (r : Result Image Memory) → slice ≡ heights → AreEffects closed heights → IfOk r (λ image. (P : Program) → StandsForSafe closed P → Carried P image) → IfOk r (IsPlain closed.program closed.templates slice) →
+    (closed : Closed) (heights slice : List (Option Height)) (r : Result Image Memory) → slice ≡ heights → AreEffects closed heights → IfOk r (λ image. (P : Program) → StandsForSafe closed P → Carried P image) → IfOk r (IsPlain closed slice) →
     IfOk r (λ image. (P : Program) → StandsForSafe closed P → CarriedWhole P image)
 whole_carried closed heights slice (Ok image) same effects carried plain =
-    let plain_here = subst (λ (hs : List (Option Height)). IsPlain closed.program closed.templates hs image) same plain in
+    let plain_here = subst (λ (hs : List (Option Height)). IsPlain closed hs image) same plain in
     λ P stands. record { carried = carried P stands; effects = rows_have closed heights P image effects stands plain_here }
 whole_carried closed heights slice (Err e) same effects carried plain = tt

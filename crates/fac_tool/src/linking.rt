@@ -43,7 +43,7 @@ fn image_with(alloc: Global, checked: &Checked, heights: &[Option<Height>]) -> R
     requires stands { (P : Source) × StandsForSafe checked.now.closed P }
     requires effects { AreEffectsIfAsked checked.now.closed heights.now }
     ensures carried { IfOk result (λ image. (P : Source) → StandsForSafe checked.now.closed P → Carried P image) }
-    ensures plain { IfOk result (IsPlain checked.now.closed.program checked.now.closed.templates heights.now) }
+    ensures plain { IfOk result (IsPlain checked.now.closed heights.now) }
 {
     safe_programs_are_not_stuck();
     compile(alloc, &checked.closed, heights)

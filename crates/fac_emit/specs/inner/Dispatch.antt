@@ -14,9 +14,9 @@ class_by (Some (method c g t)) = c
 class_by _ = 0
 
 abbrev pub class_in : Program → ℕ → ℕ
-class_in C m = class_by (sort_of C m)
+class_in P m = class_by (sort_of P m)
 
 -- the row of a word of this sort, where it is generic
 abbrev pub generic_rows : Program → (ℕ → ℕ) → ℕ → Sort → List GenericRow
-generic_rows C place g generic = record { word = g; methods = map (method_row place) (methods_in_order C g) } ∷ []
-generic_rows C place g _ = []
+generic_rows P place g generic = record { word = g; methods = map (method_row place) (methods_in_order P g) } ∷ []
+generic_rows P place g _ = []

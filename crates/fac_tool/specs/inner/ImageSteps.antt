@@ -28,7 +28,7 @@ use Rattle.fac_tool.specs.inner.Stops.{Carried, InStore, IsFresh}
 
 -- the effects of a closed program's templates, where it asks for any
 abbrev pub AreEffectsIfAsked : Closed → List (Option Height) → Type 0
-AreEffectsIfAsked closed heights = asks_effects closed.program closed.templates ≡ true → AreEffects closed heights
+AreEffectsIfAsked closed heights = asks_effects closed ≡ true → AreEffects closed heights
 
 -- an image carries a program, and its rows have the effects of the program's callables
 pub record CarriedWhole (P : Program) (M : Image) : Type 0 where

@@ -7,11 +7,11 @@ use Rattle.fac_emit.proofs.arrays.elems.Goals as goal
 pub elem-requires : goal.elem-requires
 elem-requires c =
     let items = c.as_slice-lit-items in
-    record { texts = c.requires.texts; coded = item_passes element_is_coded c.args.lits.now c.loop-lit.lit-index c.lit-item.result items.result.now items.ensures c.loop-lit-test.true c.lit-item.is c.requires.coded }
+    item_passes element_is_coded c.args.lits.now c.loop-lit.lit-index c.lit-item.result items.result.now items.ensures c.loop-lit-test.true c.lit-item.is c.requires
 
 pub loop-lit-preserved : goal.loop-lit-preserved
 loop-lit-preserved c =
     let at = c.loop-lit in
     let items = c.as_slice-lit-items in
-    let closed = c.args.closed.now in
-    mapped_step (elem_of closed.program closed.templates) c.args.lits.now at.lit-index c.lit-item.result items.result.now items.ensures c.loop-lit-test.true c.lit-item.is _ at.elems _ c.elem.result at.invariant c.elem.ensures c.in_ok-push.ensures.ok
+    let closed = c.args.emission.now in
+    mapped_step (elem_of closed) c.args.lits.now at.lit-index c.lit-item.result items.result.now items.ensures c.loop-lit-test.true c.lit-item.is _ at.elems _ c.elem.result at.invariant c.elem.ensures c.in_ok-push.ensures.ok

@@ -13,21 +13,21 @@ plain_image-requires c =
     let given = c.requires in
     let closed = c.args.closed.now in
     record {
-      coded = arrays_coded given.0 closed.program closed.templates given.1;
-      closed = (given.0, given.1, given.2, c.methods_are_lawful.ensures given.0 (whole_has given.0 given.2));
-      classes = can_be_built given.0 closed.program closed.templates given.1 given.2;
-      methods = has_methods given.0 closed.program closed.templates given.1 given.2;
+      coded = arrays_coded given.0 closed given.1.0;
+      closed = (given.0, given.1, c.methods_are_lawful.ensures given.0 (whole_has given.0 given.1.1));
+      classes = can_be_built given.0 closed given.1.0 given.1.1;
+      methods = has_methods given.0 closed given.1.0 given.1.1;
     }
 
 pub returns-clause-carries : goal.returns-clause-carries
 returns-clause-carries c =
     let closed = c.args.closed.now in
     let laws = c.methods_are_lawful.ensures in
-    IfOk-weaker c.plain_image.result (IsPlain closed.program closed.templates c.args.heights.now) _
-    (λ image plain P callable_height closes whole effects. carries P closed.program closed.templates c.args.heights.now image callable_height closed.start whole (laws P (whole_has P whole)) closes plain effects) c.plain_image.ensures
+    IfOk-weaker c.plain_image.result (IsPlain closed c.args.heights.now) _
+    (λ image plain P callable_height closes whole effects. carries P closed c.args.heights.now image callable_height closed.start whole (laws P (whole_has P whole)) closes plain effects) c.plain_image.ensures
 
 pub returns-clause-stands : goal.returns-clause-stands
 returns-clause-stands c =
     let closed = c.args.closed.now in
     let laws = c.methods_are_lawful.ensures in
-    IfOk-weaker c.plain_image.result (IsPlain closed.program closed.templates c.args.heights.now) _ (λ image plain P closes whole. plain_code P closed.program closed.templates c.args.heights.now image (source_of_whole P whole) whole (laws P (whole_has P whole)) closes plain) c.plain_image.ensures
+    IfOk-weaker c.plain_image.result (IsPlain closed c.args.heights.now) _ (λ image plain P closes whole. plain_code P closed c.args.heights.now image (source_of_whole P whole) whole (laws P (whole_has P whole)) closes plain) c.plain_image.ensures

@@ -1,4 +1,5 @@
 use Rattle.std.proofs.Common.{List, ap, ◌∙◌}
+use Rattle.fac_lang.specs.declared.program.Program.{Program}
 use Rattle.fac_lang.proofs.SourcePrograms.{source_of_whole}
 use Rattle.fac_code.specs.declared.image.WordRow.{WordRow}
 use Rattle.fac_emit.specs.ProgramCode.{code_place}
@@ -9,19 +10,19 @@ use Rattle.fac_emit.proofs.compiler.image_of.Goals as goal
 pub invariant_of-result : goal.invariant_of-result
 invariant_of-result c =
     let given = c.requires.closed in
-    let closed = c.args.closed.now in
+    let closed = c.args.emission.now in
     let parts = c.requires.parts in
     let tables = c.requires.tables in
-    let start = c.place_of-start.ensures ∙ ap (λ (rows : List WordRow). code_place rows closed.program.top) parts.word_rows in
+    let start = c.place_of-start.ensures ∙ ap (λ (P : Program). code_place c.args.parts.words P.top) c.program.ensures ∙ ap (λ (rows : List WordRow). code_place rows closed.program.top) parts.word_rows in
     record {
-      built = rw parts.code (code_built given.0 closed.program closed.templates (source_of_whole given.0 given.2) given.1);
+      built = rw parts.code (code_built given.0 closed (source_of_whole given.0 given.1.1) given.1.0);
       refers = rw (tables.texts, tables.arrays, tables.kinds, tables.sets, parts.template_rows_are, parts.word_rows, tables.generics, tables.pairs, parts.code)
-          (plain_refers given.0 closed.program closed.templates c.args.heights.now (source_of_whole given.0 given.2) given.2 given.3 given.1 c.place_of-start.result start);
+          (plain_refers given.0 closed c.args.heights.now (source_of_whole given.0 given.1.1) given.1.1 given.2 given.1.0 c.place_of-start.result start);
     }
 
 pub returns : goal.returns
 returns c =
-    let closed = c.args.closed.now in
+    let closed = c.args.emission.now in
     let parts = c.requires.parts in
     let tables = c.requires.tables in
     record {
@@ -34,5 +35,5 @@ returns c =
       sets = tables.sets;
       generics = tables.generics;
       pairs = tables.pairs;
-      starts = c.place_of-start.ensures ∙ ap (λ (rows : List WordRow). code_place rows closed.program.top) parts.word_rows;
+      starts = c.place_of-start.ensures ∙ ap (λ (P : Program). code_place c.args.parts.words P.top) c.program.ensures ∙ ap (λ (rows : List WordRow). code_place rows closed.program.top) parts.word_rows;
     }

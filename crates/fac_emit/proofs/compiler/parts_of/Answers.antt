@@ -3,6 +3,6 @@ use Rattle.fac_emit.proofs.compiler.parts_of.Goals as goal
 
 pub add_words-requires : goal.add_words-requires
 add_words-requires c =
-    let given = c.requires.closed in
-    let closed = c.args.closed.now in
-    record { numbering = c.requires.numbering; few = words_few given.0 closed.program closed.templates given.2 given.1 }
+    let given = c.requires in
+    let closed = c.args.emission.now in
+    words_few given.0 closed given.1.1 given.1.0

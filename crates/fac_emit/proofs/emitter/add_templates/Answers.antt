@@ -9,11 +9,11 @@ loop-template-preserved c =
     let at = c.loop-template in
     let items = c.as_slice-template-items in
     let added = c.in_ok-add_template.ensures in
-    let C = c.args.closed.now.program in
-    let ts = c.args.closed.now.templates in
+    let C = c.args.emission.now in
+    let are = items.ensures ∙ c.templates-templates.ensures in
     let lt = c.loop-template-test.true in
     record {
       count = omega (arith, at.invariant.count);
-      code_is = template_code_step C ts at.template-index c.template-item.result items.result.now items.ensures lt c.template-item.is _ _ _ at.invariant.code_is added.0;
-      rows_are = template_rows_step C ts at.template-index c.template-item.result items.result.now items.ensures lt c.template-item.is c.args.heights.now at.number _ _ _ _ _ at.invariant.rows_are added.0 (added.1 ∙ ap (λ (h : Option Height). at.rows ++ row_at h (length at.code) c.template-item.result ∷ []) c.height_of-height.ensures);
+      code_is = template_code_step C at.template-index c.template-item.result items.result.now are lt c.template-item.is _ _ _ at.invariant.code_is added.0;
+      rows_are = template_rows_step C at.template-index c.template-item.result items.result.now are lt c.template-item.is c.args.heights.now at.number _ _ _ _ _ at.invariant.rows_are added.0 (added.1 ∙ ap (λ (h : Option Height). at.rows ++ row_at h (length at.code) c.template-item.result ∷ []) c.height_of-height.ensures);
     }

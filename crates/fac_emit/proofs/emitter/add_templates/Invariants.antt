@@ -4,9 +4,8 @@ use Rattle.fac_emit.proofs.emitter.add_templates.Given as goal
 
 abbrev pub invariant-loop-template : goal.invariant-loop-template
 invariant-loop-template l =
-    let C = l.closed.program in
-    let ts = l.closed.templates in record {
+    let C = l.emission in record {
       count : l.number ≡ l.template-index;
-      code_is : l.initial.code ++ templates_code C ts ts ≡ l.code ++ templates_code C ts (drop l.template-index ts);
-      rows_are : l.initial.rows ++ template_rows C ts l.heights (length l.initial.code) 0 ts ≡ l.rows ++ template_rows C ts l.heights (length l.code) l.number (drop l.template-index ts);
+      code_is : l.initial.code ++ templates_code C C.templates ≡ l.code ++ templates_code C (drop l.template-index C.templates);
+      rows_are : l.initial.rows ++ template_rows C l.heights (length l.initial.code) 0 C.templates ≡ l.rows ++ template_rows C l.heights (length l.code) l.number (drop l.template-index C.templates);
     }

@@ -1,5 +1,6 @@
 use Rattle.std.proofs.Common.{ap, sym, ◌∙◌}
-use Rattle.std.specs.Prelude.{ℕ}
+use Rattle.std.specs.Prelude.{ℕ, slice_get}
+use Rattle.fac_lang.specs.declared.program.Program.{Program}
 use Rattle.fac_emit.specs.ProgramCode.{word_instr}
 use Rattle.fac_emit.specs.inner.NumberedWords.{numbered_instr}
 use Rattle.fac_emit.proofs.NumberLemmas.{number_of_word, instr_numbered}
@@ -7,7 +8,8 @@ use Rattle.fac_emit.proofs.emitter.instr_of_word.Goals as goal
 
 pub returns-in-Some : goal.returns-in-Some
 returns-in-Some c =
-    let closed = c.args.closed.now in
+    let closed = c.args.emission.now in
     let d = c.in-Some.def.now in
-    let number = c.number_of.ensures ∙ number_of_word closed.program closed.templates c.args.numbering.now.words c.args.word d c.requires.words (sym c.in-Some.ensures) in
-    c.instr_of_sort.ensures ∙ ap (λ (n : ℕ). numbered_instr n c.args.word d.sort) number ∙ instr_numbered closed.program closed.templates c.args.word d.sort ∙ ap (word_instr closed.program closed.templates c.args.word) c.in-Some.ensures
+    let found = ap (λ (P : Program). slice_get P.words c.args.word) (sym c.program.ensures) ∙ sym c.in-Some.ensures in
+    let number = c.word_number.ensures ∙ number_of_word closed c.args.word d found in
+    c.instr_of_sort.ensures ∙ ap (λ (n : ℕ). numbered_instr n c.args.word d.sort) number ∙ instr_numbered closed c.args.word d.sort ∙ ap (word_instr closed c.args.word) (sym found)

@@ -17,8 +17,7 @@ behind-generics-requires c =
 
 pub loop-word-preserved : goal.loop-word-preserved
 loop-word-preserved c =
-    let C = c.args.closed.now.program in
-    let ts = c.args.closed.now.templates in
+    let C = c.args.closed.now in
     let at = c.loop-word in
     let inv = at.invariant in
     let items = c.as_slice-word-items in
@@ -29,6 +28,6 @@ loop-word-preserved c =
     record {
       count = omega (arith, count);
       generics_are = generics;
-      few = subst (λ (g : ℕ). g ≤ at.number + 1) (sym generics) (few_generics C (at.number + 1));
-      numbers_are = numbers_step C i c.word-item.result items.result.now items.ensures lt c.word-item.is ts at.number c.number_of_sort.result (word_numbers C ts) at.numbers _ count inv.numbers_are c.number_of_sort.ensures c.in_ok-push.ensures.ok;
+      few = subst (λ (g : ℕ). g ≤ at.number + 1) (sym generics) (few_generics C.program (at.number + 1));
+      numbers_are = numbers_step C i c.word-item.result items.result.now items.ensures lt c.word-item.is at.number c.number_of_sort.result (word_numbers C) at.numbers _ count inv.numbers_are c.number_of_sort.ensures c.in_ok-push.ensures.ok;
     }

@@ -7,5 +7,5 @@ invariant-loop-word l = record {
   count : l.number ≡ l.word-index;
   generics_are : l.generics ≡ generic_number l.closed.program l.number;
   few : l.generics ≤ l.number;
-  numbers_are : word_numbers l.closed.program l.closed.templates ≡ l.numbers ++ numbers_from l.closed.program l.closed.templates l.number (drop l.word-index l.closed.program.words);
+  numbers_are : word_numbers l.closed ≡ l.numbers ++ numbers_from l.closed l.number (drop l.word-index l.closed.program.words);
 }

@@ -10,8 +10,8 @@ use Rattle.fac_emit.proofs.sequence.+nested.Goals as goal
 pub add_phrase-loop-item-preserved : goal.add_phrase-loop-item-preserved
 add_phrase-loop-item-preserved t c =
     let closed = c.args.closed.now in
-    let template = template_texts closed.program closed.templates c.args.levels in
-    let array = array_texts closed.program closed.templates c.args.levels in
+    let template = template_texts closed c.args.levels in
+    let array = array_texts closed c.args.levels in
     let k = c.loop-item.item-index in
     let items = c.deref-item-items.result.now in
     let next : drop k items ≡ c.item-item.result ∷ drop (k + 1) items = drop_more items k c.item-item.result c.loop-item-test.true ∙ ap (λ (i : PlacedItem). i ∷ drop (k + 1) items) (sym c.item-item.is) in
@@ -21,8 +21,8 @@ add_phrase-loop-item-preserved t c =
 pub add_elements-loop-lit-preserved : goal.add_elements-loop-lit-preserved
 add_elements-loop-lit-preserved t c =
     let closed = c.args.closed.now in
-    let template = template_texts closed.program closed.templates c.args.levels in
-    let array = array_texts closed.program closed.templates c.args.levels in
+    let template = template_texts closed c.args.levels in
+    let array = array_texts closed c.args.levels in
     let k = c.loop-lit.lit-index in
     let lits = c.args.lits.now in
     let items = c.as_slice-lit-items in

@@ -23,12 +23,12 @@ decreases-add_elements l = 3 * l.levels + 2
 
 abbrev pub invariant-add_phrase-loop-item : goal.invariant-add_phrase-loop-item
 invariant-add_phrase-loop-item l =
-    let template = template_texts l.closed.program l.closed.templates l.levels in
-    let array = array_texts l.closed.program l.closed.templates l.levels in
+    let template = template_texts l.closed l.levels in
+    let array = array_texts l.closed l.levels in
     with_texts l.initial.texts (phrase_texts template array l.phrase) ≡ with_texts l.texts (phrase_texts template array (items_phrase (drop l.item-index l.item-items)))
 
 abbrev pub invariant-add_elements-loop-lit : goal.invariant-add_elements-loop-lit
 invariant-add_elements-loop-lit l =
-    let template = template_texts l.closed.program l.closed.templates l.levels in
-    let array = array_texts l.closed.program l.closed.templates l.levels in
+    let template = template_texts l.closed l.levels in
+    let array = array_texts l.closed l.levels in
     with_texts l.initial.texts (elements_texts template array l.lits) ≡ with_texts l.texts (elements_texts template array (drop l.lit-index l.lits))

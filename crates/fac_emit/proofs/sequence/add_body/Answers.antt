@@ -5,6 +5,5 @@ use Rattle.fac_emit.proofs.sequence.add_body.Goals as goal
 
 pub returns : goal.returns
 returns c =
-    let C = c.args.closed.now.program in
-    let ts = c.args.closed.now.templates in
-    subst (λ (n : ℕ). OnOk c.add_phrase.result (c.add_phrase.new.texts ≡ with_texts c.args.texts.now (phrase_texts (template_texts C ts n) (array_texts C ts n) c.args.phrase.now))) levels_are c.add_phrase.ensures
+    let C = c.args.closed.now in
+    subst (λ (n : ℕ). OnOk c.add_phrase.result (c.add_phrase.new.texts ≡ with_texts c.args.texts.now (phrase_texts (template_texts C n) (array_texts C n) c.args.phrase.now))) levels_are c.add_phrase.ensures

@@ -10,4 +10,4 @@ loop-word-preserved c =
     let items = c.as_slice-word-items in
     let all = c.args.closed.now.program.words in
     let i = at.word-index in
-    texts_step _ at.texts _ (words_texts c.args.closed.now.program c.args.closed.now.templates (drop i all)) (word_texts c.args.closed.now.program c.args.closed.now.templates c.word-item.result) (words_texts c.args.closed.now.program c.args.closed.now.templates (drop (i + 1) all)) at.invariant (ap (words_texts c.args.closed.now.program c.args.closed.now.templates) (next_of all i c.word-item.result items.result.now items.ensures c.loop-word-test.true c.word-item.is)) c.in_ok-add_word.ensures
+    texts_step _ at.texts _ (words_texts c.args.closed.now (drop i all)) (word_texts c.args.closed.now c.word-item.result) (words_texts c.args.closed.now (drop (i + 1) all)) at.invariant (ap (words_texts c.args.closed.now) (next_of all i c.word-item.result items.result.now items.ensures c.loop-word-test.true c.word-item.is)) c.in_ok-add_word.ensures

@@ -5,7 +5,6 @@ use Rattle.fac_emit.proofs.sequence.texts_of.Goals as goal
 
 pub returns : goal.returns
 returns c =
-    let C = c.args.closed.now.program in
-    let ts = c.args.closed.now.templates in
-    let words = c.in_ok-add_words.ensures ∙ ap (λ (texts : List (List ℕ)). with_texts texts (words_texts C ts C.words)) c.new-texts.ensures in
-    sequence_whole C ts _ _ _ _ words c.in_ok-add_templates.ensures c.in_ok-add_arrays.ensures c.in_ok-add_classes.ensures
+    let C = c.args.closed.now in
+    let words = c.in_ok-add_words.ensures ∙ ap (λ (texts : List (List ℕ)). with_texts texts (words_texts C C.program.words)) c.new-texts.ensures in
+    sequence_whole C _ _ _ _ words c.in_ok-add_templates.ensures c.in_ok-add_arrays.ensures c.in_ok-add_classes.ensures

@@ -5,5 +5,5 @@ use Rattle.fac_emit.proofs.tables.kinds_of.Given as goal
 abbrev pub invariant-loop-class : goal.invariant-loop-class
 invariant-loop-class l = record {
   count : l.number ≡ l.class-index;
-  rows_are : program_kinds l.closed.program l.closed.templates ≡ l.rows ++ kinds_from l.closed.program l.closed.templates l.number (drop l.class-index l.closed.program.classes);
+  rows_are : program_kinds l.emission ≡ l.rows ++ kinds_from l.emission l.number (drop l.class-index l.emission.program.classes);
 }
