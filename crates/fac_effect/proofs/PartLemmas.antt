@@ -4,6 +4,7 @@ use Rattle.std.specs.Prelude.{codes, nat_le, suc}
 use Rattle.std.specs.Global.{Vec}
 use Rattle.std.specs.Str.{bytes_eq, chars}
 use Rattle.std.proofs.Math.Seq.{drop-append_seam}
+use Rattle.std.proofs.lemmas.Bool.{false_from_ne_true}
 use Rattle.std.proofs.lemmas.Slice.Eq.{bytes_eq-Decides}
 use Rattle.fac_base.specs.declared.limits.TheConstants.{MOST_ELEMENTS}
 use Rattle.fac_base.specs.declared.memory.Memory.{Memory}
@@ -27,10 +28,6 @@ use Rattle.fac_effect.proofs.SpellingLemmas.{sign_is}
 use Rattle.fac_effect.proofs.EffectsReadBack.{grouped}
 use Rattle.fac_effect.proofs.EffectLemmas.{whole_is_effect}
 
-false_by : (b : Bool) → (b ≡ true → ⊥) → b ≡ false
-false_by true h = absurd (h refl)
-false_by false h = refl
-
 -- Names that end in a colon.
 
 with_colon : (s stem : List ℕ) → s ≡ stem ++ codes ":" → is_described_name s ≡ true
@@ -43,7 +40,7 @@ colon_split : (s : List ℕ) → is_described_name s ≡ true → s ≡ without_
 colon_split s h = sym (take-append-drop (length s - 1) s) ∙ ap (λ (t : List ℕ). without_colon s ++ t) ((bytes_eq-Decides (drop (length s - 1) s) (codes ":")).0 h)
 
 no_stem : (s : List ℕ) → ((front : List ℕ) → s ≡ front ++ codes ":" → ⊥) → is_described_name s ≡ false
-no_stem s h = false_by (is_described_name s) (λ d. h (without_colon s) (colon_split s d))
+no_stem s h = false_from_ne_true (is_described_name s) (λ d. h (without_colon s) (colon_split s d))
 
 stem : (s x : List ℕ) (k : ℕ) → k ≡ 1 → s ≡ take (length s - k) s ++ codes ":" → x ≡ take (length s - k) s → (is_described_name s ≡ true) × (x ≡ without_colon s)
 stem s x k one e h = (with_colon s (take (length s - k) s) e, h ∙ ap (λ (n : ℕ). take (length s - n) s) one)
@@ -104,7 +101,7 @@ values_named (plain name es) h = (h.0, values_named es h.2)
 values_named (described name class es) h = (h.0, h.2, values_named es h.3)
 values_named (detailed name w es) h = (h.0, h.2, values_named es h.3)
 
-side_named : (es : Entries) → IsSide es → AreNamed es
+pub side_named : (es : Entries) → IsSide es → AreNamed es
 side_named no_entries h = tt
 side_named (plain name es) h = (h.0, values_named es h.1)
 side_named (described name class es) h = (h.0, h.1, values_named es h.2)
@@ -124,16 +121,16 @@ text_no_sign : (k : TokKind) (end : List ℕ) → token_spelling k ≡ spelled.N
 text_no_sign (Plain text) end h n e = n (ap spelling_of (sym e) ∙ h)
 text_no_sign (Str content) end h n e = string_no_name content h
 
-no_sign : (t : Token) (end : List ℕ) → token_spelling t.kind ≡ spelled.Name → (spelling_of end ≡ spelled.Name → ⊥) → is_text t end ≡ false
-no_sign t end h n = false_by (is_text t end) (λ b. text_no_sign t.kind end h n ((bytes_eq-Decides (token_text t.kind) end).0 b))
+pub no_sign : (t : Token) (end : List ℕ) → token_spelling t.kind ≡ spelled.Name → (spelling_of end ≡ spelled.Name → ⊥) → is_text t end ≡ false
+no_sign t end h n = false_from_ne_true (is_text t end) (λ b. text_no_sign t.kind end h n ((bytes_eq-Decides (token_text t.kind) end).0 b))
 
-opens_no_name : spelling_of (codes "(") ≡ spelled.Name → ⊥
+pub opens_no_name : spelling_of (codes "(") ≡ spelled.Name → ⊥
 opens_no_name h = let e : spelled.Opens ≡ spelled.Name = sym (sign_is spelled.Opens tt) ∙ h in cc
 
-dashes_no_name : spelling_of (codes "--") ≡ spelled.Name → ⊥
+pub dashes_no_name : spelling_of (codes "--") ≡ spelled.Name → ⊥
 dashes_no_name h = let e : spelled.Dashes ≡ spelled.Name = sym (sign_is spelled.Dashes tt) ∙ h in cc
 
-closes_no_name : spelling_of (codes ")") ≡ spelled.Name → ⊥
+pub closes_no_name : spelling_of (codes ")") ≡ spelled.Name → ⊥
 closes_no_name h = let e : spelled.Closes ≡ spelled.Name = sym (sign_is spelled.Closes tt) ∙ h in cc
 
 -- Inputs.
@@ -296,7 +293,7 @@ not_lone true false es ts rest h k = k
 not_lone false false es ts rest h k = k
 
 no_star : (t : Token) → is_colon t ≡ true → is_text t (codes "*") ≡ false
-no_star t h = false_by (is_text t (codes "*")) (λ b. let e : is_described_name (codes "*") ≡ true = subst (λ (x : List ℕ). is_described_name x ≡ true) ((bytes_eq-Decides (token_text t.kind) (codes "*")).0 b) h in cc)
+no_star t h = false_from_ne_true (is_text t (codes "*")) (λ b. let e : is_described_name (codes "*") ≡ true = subst (λ (x : List ℕ). is_described_name x ≡ true) ((bytes_eq-Decides (token_text t.kind) (codes "*")).0 b) h in cc)
 
 not_lone_first : (b c : Bool) (es : Entries) (ts rest : List Token) → b ≡ false → leaving_in es ≡ leaves (row_in es) (output_names (values_in es)) → NeverOr (b && c) es ts rest
 not_lone_first true c es ts rest h k = cc

@@ -1,18 +1,18 @@
 -- The numbers in phrases: each local is bound before it, each hole is one of the fry around, and no effect that is tested has a number above 64.
-use Rattle.std.proofs.Common.{◌≡◌, ◌≤◌, ◌<◌, ℕ, suc, List, [], ◌∷◌, ◌++◌, length, map, Option, Some, None, Bool, true, false, cond, refl, sym, ◌∙◌, arith}
+use Rattle.std.proofs.Common.{◌≡◌, ◌≤◌, ◌<◌, ℕ, suc, List, [], ◌∷◌, ◌++◌, length, Option, Some, None, Bool, true, false, cond, refl, arith}
 use Rattle.std.specs.Prelude.{◌&&◌, ◌||◌, nat_eq, nat_lt}
-use Rattle.std.specs.List.{list_all, list_any}
+use Rattle.std.specs.List.{list_any}
 use Rattle.std.specs.Str.{bytes_eq}
+use Rattle.std.proofs.lemmas.Bool.{or_left, or_right}
 use Rattle.std.proofs.lemmas.Bool.Decides.{Decides-ltb}
-use Rattle.std.proofs.lemmas.List.Folds.{list_all-append}
-use Rattle.fac_lang.specs.Phrases.{int, yes, no, str, Phrase, end, then, Item, quot, word, bind, local, fry as fry_item}
+use Rattle.fac_lang.specs.Phrases.{Phrase, end, then, Item, quot, word, bind, local, fry as fry_item}
 use Rattle.fac_lang.specs.RunningLaws.{append}
-use Rattle.fac_lang.specs.Whole.{each_inner, each_item, holes_within, holes_within_item, is_small, joined, locals_bound, locals_bound_in, quotations, tests_small}
+use Rattle.fac_lang.specs.Whole.{each_inner, each_item, holes_within, holes_within_item, is_small, locals_bound, locals_bound_in, tests_small}
 use Rattle.fac_lang.specs.declared.program.Lit.{Lit}
 use Rattle.fac_vocab.specs.Scopes.{Scope}
 use Rattle.fac_items.specs.Written.{Tok, n_lit, n_array, n_quot, n_ref, n_name, n_fry, n_call, n_execute, n_bind, n_hole, n_next, n_full, n_part, Nodes, nothing, more}
 use Rattle.fac_items.specs.Items.{elements_of, local_of, phrase_of, word_of}
-use Rattle.fac_items.proofs.PlainNodes.{AreElements, ArePlain}
+use Rattle.fac_items.proofs.PlainNodes.{ArePlain}
 
 both_are : (a b : Bool) → a ≡ true → b ≡ true → (a && b) ≡ true
 both_are a b h k = rw (h, k) refl
@@ -26,13 +26,6 @@ Has n xs = (x : ℕ) → x < n → list_any (nat_eq x) xs ≡ true
 -- and so among more of them
 abbrev Within : List ℕ → List ℕ → Type 0
 Within xs ys = (x : ℕ) → list_any (nat_eq x) xs ≡ true → list_any (nat_eq x) ys ≡ true
-
-or_right : (a b : Bool) → b ≡ true → (a || b) ≡ true
-or_right true b h = refl
-or_right false b h = h
-
-or_left : (a b : Bool) → a ≡ true → (a || b) ≡ true
-or_left a b h = rw h refl
 
 -- what is bound behind a phrase
 abbrev behind_item : List ℕ → Item → List ℕ
@@ -146,6 +139,13 @@ pub record HolesFit (fry : Bool) (before after : ℕ) (t : Phrase) : Type 0 wher
   pub grown : before ≤ after
   pub within : (n : ℕ) → (fry ≡ true → after ≤ n) → holes_within n t ≡ true
 
+-- two phrases one after another, as they stand in a third one
+both_fit : (fry : Bool) (before between after : ℕ) (t u all : Phrase) → HolesFit fry before between t → HolesFit fry between after u → ((n : ℕ) → holes_within n t ≡ true → holes_within n u ≡ true → holes_within n all ≡ true) → HolesFit fry before after all
+both_fit fry before between after t u all first second joins = record {
+  grown = (let one = first.grown in let two = second.grown in omega (arith, one, two));
+  within = λ n k. joins n (first.within n (λ is. let two = second.grown in let few = k is in omega (arith, two, few))) (second.within n k);
+}
+
 name_holes : (s : Scope) (t : Tok) (o : Option ℕ) (n : ℕ) (u : Phrase) → holes_within n u ≡ true → (holes_within_item n (elim o [ Some x ↦ local x | None ↦ word (word_of s t) ]) && holes_within n u) ≡ true
 name_holes s t (Some x) n u h = h
 name_holes s t None n u h = h
@@ -172,12 +172,7 @@ holes_fit s locals fry (more (n_hole p) ns) arrays holes h =
 holes_fit s locals fry (more (n_quot ms p) ns) arrays holes h =
     let m = phrase_of s locals ms arrays holes in
     let r = phrase_of s locals ns m.arrays m.holes in
-    let inner = holes_fit s locals fry ms arrays holes h.0 in
-    let rest = holes_fit s locals fry ns m.arrays m.holes h.1 in
-    record {
-      grown = (let one = inner.grown in let two = rest.grown in omega (arith, one, two));
-      within = λ n k. both_are (holes_within n m.phrase) (holes_within n r.phrase) (inner.within n (λ is. let two = rest.grown in let few = k is in omega (arith, two, few))) (rest.within n k);
-    }
+    both_fit fry holes m.holes r.holes m.phrase r.phrase (then (quot m.phrase) p r.phrase) (holes_fit s locals fry ms arrays holes h.0) (holes_fit s locals fry ns m.arrays m.holes h.1) (λ n. both_are (holes_within n m.phrase) (holes_within n r.phrase))
 holes_fit s locals fry (more (n_fry ms p) ns) arrays holes h =
     let m = phrase_of s locals ms arrays 0 in
     let r = phrase_of s locals ns m.arrays holes in
@@ -189,12 +184,7 @@ holes_fit s locals fry (more (n_array ms p) ns) arrays holes h =
 holes_fit s locals fry (more (n_part ms) ns) arrays holes h =
     let m = phrase_of s locals ms arrays holes in
     let r = phrase_of s locals ns m.arrays m.holes in
-    let inner = holes_fit s locals fry ms arrays holes h.0 in
-    let rest = holes_fit s locals fry ns m.arrays m.holes h.1 in
-    record {
-      grown = (let one = inner.grown in let two = rest.grown in omega (arith, one, two));
-      within = λ n k. append_holes n m.phrase r.phrase (inner.within n (λ is. let two = rest.grown in let few = k is in omega (arith, two, few))) (rest.within n k);
-    }
+    both_fit fry holes m.holes r.holes m.phrase r.phrase (append m.phrase r.phrase) (holes_fit s locals fry ms arrays holes h.0) (holes_fit s locals fry ns m.arrays m.holes h.1) (λ n. append_holes n m.phrase r.phrase)
 holes_fit s locals fry (more n ns) arrays holes h = absurd h.0
 
 -- Effects that are tested.
@@ -266,54 +256,3 @@ append_closed t u h k =
     let two = both_true (locals_bound [] u) (holes_within 0 u) second.0 in
     let numbered = both_are (locals_bound [] (append t u)) (holes_within 0 (append t u)) (joined_bound t u [] one.0 (λ ys within. bound_more u [] ys within two.0)) (append_holes 0 t u one.1 two.1) in
     both_are (locals_bound [] (append t u) && holes_within 0 (append t u)) (is_tested (append t u)) numbered (append_tested t u first.1 second.1)
-
--- The quotations of arrays stand by themselves.
-
-abbrev pub are_closed : List (List Lit) → Bool
-are_closed arrays = list_all is_closed (joined (map quotations arrays))
-
-array_closed : (arrays : List (List Lit)) (ls : List Lit) → are_closed arrays ≡ true → list_all is_closed (quotations ls) ≡ true → are_closed (arrays ++ ls ∷ []) ≡ true
-array_closed [] ls h k = list_all-append is_closed (quotations ls) [] ∙ both_are (list_all is_closed (quotations ls)) true k refl
-array_closed (xs ∷ arrays) ls h k =
-    let both = both_true (list_all is_closed (quotations xs)) (are_closed arrays) (sym (list_all-append is_closed (quotations xs) (joined (map quotations arrays))) ∙ h) in
-    list_all-append is_closed (quotations xs) (joined (map quotations (arrays ++ ls ∷ []))) ∙ both_are (list_all is_closed (quotations xs)) (are_closed (arrays ++ ls ∷ [])) both.0 (array_closed arrays ls both.1 k)
-
-mutual
-  pub arrays_closed : (s : Scope) (locals : List (List ℕ)) (fry : Bool) (ns : Nodes) (arrays : List (List Lit)) (holes : ℕ) → ArePlain fry ns → are_closed arrays ≡ true → are_closed (phrase_of s locals ns arrays holes).arrays ≡ true
-  arrays_closed s locals fry nothing arrays holes h k = k
-  arrays_closed s locals fry (more (n_lit l p) ns) arrays holes h k = arrays_closed s locals fry ns arrays holes h.1 k
-  arrays_closed s locals fry (more (n_name t p) ns) arrays holes h k = arrays_closed s locals fry ns arrays holes h.1 k
-  arrays_closed s locals fry (more (n_ref t p) ns) arrays holes h k = arrays_closed s locals fry ns arrays holes h.1 k
-  arrays_closed s locals fry (more (n_call e p) ns) arrays holes h k = arrays_closed s locals fry ns arrays holes h.1 k
-  arrays_closed s locals fry (more (n_execute e p) ns) arrays holes h k = arrays_closed s locals fry ns arrays holes h.1 k
-  arrays_closed s locals fry (more (n_next p) ns) arrays holes h k = arrays_closed s locals fry ns arrays holes h.1 k
-  arrays_closed s locals fry (more (n_full v x p) ns) arrays holes h k = arrays_closed s locals fry ns arrays holes h.1 k
-  arrays_closed s locals fry (more (n_bind t twice p) ns) arrays holes h k = arrays_closed s (t.text ∷ locals) fry ns arrays holes h.1 k
-  arrays_closed s locals fry (more (n_hole p) ns) arrays holes h k = arrays_closed s locals fry ns arrays (suc holes) h.1 k
-  arrays_closed s locals fry (more (n_quot ms p) ns) arrays holes h k = let m = phrase_of s locals ms arrays holes in arrays_closed s locals fry ns m.arrays m.holes h.1 (arrays_closed s locals fry ms arrays holes h.0 k)
-  arrays_closed s locals fry (more (n_fry ms p) ns) arrays holes h k = let m = phrase_of s locals ms arrays 0 in arrays_closed s locals fry ns m.arrays holes h.1 (arrays_closed s locals true ms arrays 0 h.0 k)
-  arrays_closed s locals fry (more (n_part ms) ns) arrays holes h k = let m = phrase_of s locals ms arrays holes in arrays_closed s locals fry ns m.arrays m.holes h.1 (arrays_closed s locals fry ms arrays holes h.0 k)
-  arrays_closed s locals fry (more (n_array ms p) ns) arrays holes h k =
-      let m = elements_of s ms arrays in
-      let e = elements_closed s ms arrays h.0 k in
-      arrays_closed s locals fry ns (m.arrays ++ m.elements ∷ []) holes h.1 (array_closed m.arrays m.elements e.0 e.1)
-  arrays_closed s locals fry (more n ns) arrays holes h k = absurd h.0
-
-  elements_closed : (s : Scope) (es : Nodes) (arrays : List (List Lit)) → AreElements es → are_closed arrays ≡ true → (are_closed (elements_of s es arrays).arrays ≡ true) × (list_all is_closed (quotations (elements_of s es arrays).elements) ≡ true)
-  elements_closed s nothing arrays h k = (k, refl)
-  elements_closed s (more (n_lit (int z) p) es) arrays h k = elements_closed s es arrays h.1 k
-  elements_closed s (more (n_lit yes p) es) arrays h k = elements_closed s es arrays h.1 k
-  elements_closed s (more (n_lit no p) es) arrays h k = elements_closed s es arrays h.1 k
-  elements_closed s (more (n_lit (str bs) p) es) arrays h k = elements_closed s es arrays h.1 k
-  elements_closed s (more (n_lit l p) es) arrays h k = absurd h.0
-  elements_closed s (more (n_ref t p) es) arrays h k = elements_closed s es arrays h.1 k
-  elements_closed s (more (n_name t p) es) arrays h k = elements_closed s es arrays h.1 k
-  elements_closed s (more (n_quot ms p) es) arrays h k =
-      let m = phrase_of s [] ms arrays 0 in
-      let rest = elements_closed s es m.arrays h.1 (arrays_closed s [] false ms arrays 0 h.0 k) in
-      (rest.0, both_are (is_closed m.phrase) (list_all is_closed (quotations (elements_of s es m.arrays).elements)) (made_closed s ms arrays h.0) rest.1)
-  elements_closed s (more (n_array ms p) es) arrays h k =
-      let m = elements_of s ms arrays in
-      let e = elements_closed s ms arrays h.0 k in
-      elements_closed s es (m.arrays ++ m.elements ∷ []) h.1 (array_closed m.arrays m.elements e.0 e.1)
-  elements_closed s (more n es) arrays h k = absurd h.0

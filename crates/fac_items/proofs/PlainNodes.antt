@@ -9,7 +9,7 @@ use Rattle.fac_items.specs.Readings.{are_pairs, before, behind_first, bindings, 
 use Rattle.fac_items.proofs.RawNodes.{AreRaw, AreRawElements, IsPlainLiteral, IsRawElement, raw_more}
 use Rattle.fac_items.proofs.ReadingLemmas.{with_pairs}
 
--- Items and elements of arrays behind their readings. Holes stand where a fry is around, and no effect that is tested has a number above 64.
+-- Items and elements of arrays behind their readings: other nodes than those of trees, which `AreRaw` lists. Holes stand where a fry is around, and no effect that is tested has a number above 64.
 abbrev mutual
   pub ArePlain : Bool → Nodes → Type 0
   ArePlain fry nothing = Unit {0}

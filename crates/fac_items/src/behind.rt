@@ -1,11 +1,11 @@
 //! The names behind arrays that `cond` could read. They are found from the last element on, so that who goes through the elements from the first one on
 //! knows at each array what stands behind it.
-ghost use Rattle.std.specs.Prelude.{◌≡◌, ◌∷◌, IfOk, OnOk};
+ghost use Rattle.std.specs.Prelude.{◌≡◌, IfOk, OnOk};
 ghost use Rattle.std.specs.Option.{option_map};
 ghost use Rattle.fac_items.specs.declared.cases.Child.TheVariants.{Other};
 ghost use Rattle.fac_items.specs.FromElements.{node};
 ghost use Rattle.fac_items.specs.Items.{is_cond};
-ghost use Rattle.fac_items.specs.inner.Behind.{all_scanned, child_of, cond_name, inner_level, leaf_name, level_seen, name_behind, name_tok, names_seen, names_with, none_scanned, none_yet, opened_before, scan_seen, scanned, with_element};
+ghost use Rattle.fac_items.specs.inner.Behind.{all_scanned, bracket_before, child_of, closed_before, cond_name, leaf_name, level_seen, name_behind, name_tok, names_seen, names_with, none_scanned, none_yet, opened_before, scanned, with_element};
 
 use crate::cases::{Cases, Child, are_cases, array_child, with_child};
 use crate::search::is_cond;
@@ -14,6 +14,7 @@ use fac_base::{Memory, Stack};
 use fac_source::{Bracket, Element, Term};
 use fac_vocab::Scope;
 use std::alloc::Global;
+use std::marker::Model;
 
 // What is known of elements: what they are in an array, and the name with which they begin.
 #[derive(Clone, Copy)]
@@ -22,7 +23,7 @@ struct Level<'a> {
     first: Option<NameAt<'a>>,
 }
 
-// Elements as far as they were read.
+// Elements as far as they were read. Contracts see their names as tokens.
 #[derive(Drop)]
 struct Scan<'a> {
     here: Level<'a>,
@@ -30,6 +31,15 @@ struct Scan<'a> {
     around: Stack<Level<'a>>,
     // For each array the name behind it, where it is `cond`; the first array first.
     names: Stack<Option<NameAt<'a>>>,
+}
+
+impl<'a> Model for Scan<'a> {
+    ghost use Rattle.std.specs.Prelude.{map};
+    ghost use Rattle.fac_items.specs.inner.Behind.{Scanned, level_seen, names_seen};
+
+    ghost Value = { Scanned };
+
+    ghost view = { λ s. record { here = level_seen s.here; around = map level_seen s.around; names = names_seen s.names } };
 }
 
 // Before an element was read.
@@ -126,7 +136,7 @@ fn add_name<'a>(
 
 // Takes a bracket that opens, which is one element of what is around it.
 fn open(scope: &Scope, scan: &mut Scan<'_>, bracket: Bracket) -> Result<(), Memory>
-    ensures { OnOk result (scan_seen scan.new ≡ opened_before (child_of bracket scan.old.here.cases) (record (scan_seen scan.old) { names = names_with (is_cond scope.now) bracket scan.old.here.cases (inner_level (scan_seen scan.old).around).first (scan_seen scan.old).names })) }
+    ensures { OnOk result (scan.new ≡ bracket_before (is_cond scope.now) bracket scan.old) }
 {
     let cases = scan.here.cases;
     let child = child_of(bracket, cases);
@@ -146,7 +156,7 @@ fn open(scope: &Scope, scan: &mut Scan<'_>, bracket: Bracket) -> Result<(), Memo
 
 // Takes what opens a quotation with locals, likewise.
 fn open_locals(scan: &mut Scan<'_>)
-    ensures { scan_seen scan.new ≡ opened_before Other (scan_seen scan.old) }
+    ensures { scan.new ≡ opened_before Other scan.old }
 {
     match scan.around.pop() {
         Some(level) => {
@@ -160,7 +170,7 @@ fn open_locals(scan: &mut Scan<'_>)
 
 // Takes a bracket that closes, before which elements begin anew.
 fn close(scan: &mut Scan<'_>) -> Result<(), Memory>
-    ensures { OnOk result (scan_seen scan.new ≡ record (scan_seen scan.old) { here = none_yet; around = (scan_seen scan.old).here ∷ (scan_seen scan.old).around }) }
+    ensures { OnOk result (scan.new ≡ closed_before scan.old) }
 {
     scan.around.push(scan.here)?;
     scan.here = none_yet();
@@ -169,7 +179,7 @@ fn close(scan: &mut Scan<'_>) -> Result<(), Memory>
 
 // Takes an element before those that were read.
 fn take<'a>(scope: &Scope, scan: &mut Scan<'a>, element: &'a Element) -> Result<(), Memory>
-    ensures { OnOk result (scan_seen scan.new ≡ scanned (is_cond scope.now) element.now (scan_seen scan.old)) }
+    ensures { OnOk result (scan.new ≡ scanned (is_cond scope.now) element.now scan.old) }
 {
     match element {
         Element::Item(term) => {
@@ -187,7 +197,7 @@ fn take<'a>(scope: &Scope, scan: &mut Scan<'a>, element: &'a Element) -> Result<
 
 // Takes elements, the last one first.
 fn take_all<'a>(scope: &Scope, scan: &mut Scan<'a>, elements: &'a [Element]) -> Result<(), Memory>
-    ensures { OnOk result (scan_seen scan.new ≡ all_scanned (is_cond scope.now) elements.now (scan_seen scan.old)) }
+    ensures { OnOk result (scan.new ≡ all_scanned (is_cond scope.now) elements.now scan.old) }
 {
     let mut rest = elements;
     while let Some((element, earlier)) = rest.split_last() {

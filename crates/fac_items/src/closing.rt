@@ -1,7 +1,7 @@
 //! Brackets that close, and the end of the pairs before a `cond`.
 ghost use Rattle.std.specs.Prelude.{◌≡◌, suc, IfOk, OnOk};
 ghost use Rattle.fac_items.specs.FromElements.{node};
-ghost use Rattle.fac_items.specs.inner.TakenBits.{added_behind, array_closed, around_closed, around_seen, bracket_closed, case_closed, cases_ended, closed_at, closed_times, content_seen, fresh_closed, leaf_at, locals_seen, nest_seen, quotation_closed, with_no_cond};
+ghost use Rattle.fac_items.specs.inner.TakenBits.{added_behind, array_closed, around_closed, around_seen, bracket_closed, case_closed, cases_ended, closed_at, closed_times, content_seen, fresh_closed, leaf_at, locals_seen, quotation_closed, with_no_cond};
 
 use crate::added::Added;
 use crate::content::{
@@ -22,7 +22,7 @@ fn add_behind(
     nest: &mut Nest<'_>,
     added: Option<(Added, Place)>,
 ) -> Result<(), Memory>
-    ensures { OnOk result (nest_seen nest.new ≡ added_behind scope.now added (nest_seen nest.old)) }
+    ensures { OnOk result (nest.new ≡ added_behind scope.now added nest.old) }
 {
     match added {
         Some((word, place)) => add_word(scope, nest, word, place),
@@ -39,7 +39,7 @@ fn close_quotation(
     count: usize,
     at: At,
 ) -> Result<(), Memory>
-    ensures { OnOk result (nest_seen nest.new ≡ quotation_closed (content_seen before) place count at (nest_seen nest.old)) }
+    ensures { OnOk result (nest.new ≡ quotation_closed (content_seen before) place count at nest.old) }
 {
     let inner = mem::replace(&mut nest.content, before);
     nest.at = at;
@@ -56,7 +56,7 @@ fn close_fresh(
     count: usize,
     holes: u32,
 ) -> Result<(), Memory>
-    ensures { OnOk result (nest_seen nest.new ≡ fresh_closed (content_seen before) place count holes (nest_seen nest.old)) }
+    ensures { OnOk result (nest.new ≡ fresh_closed (content_seen before) place count holes nest.old) }
 {
     let inner = mem::replace(&mut nest.content, before);
     let inner_holes = nest.holes;
@@ -76,7 +76,7 @@ fn close_array<'a>(
     locals: Vec<NameAt<'a>>,
     holes: u32,
 ) -> Result<(), Memory>
-    ensures { OnOk result (nest_seen nest.new ≡ array_closed (content_seen before) place (locals_seen locals.entry.items) holes (nest_seen nest.old)) }
+    ensures { OnOk result (nest.new ≡ array_closed (content_seen before) place (locals_seen locals.entry.items) holes nest.old) }
 {
     let inner = mem::replace(&mut nest.content, before);
     nest.at = At::Inside;
@@ -93,7 +93,7 @@ fn close_around<'a>(
     nest: &mut Nest<'a>,
     around: Around<'a>,
 ) -> Result<(), Memory>
-    ensures { OnOk result (nest_seen nest.new ≡ around_closed scope.now (around_seen around.entry) (nest_seen nest.old)) }
+    ensures { OnOk result (nest.new ≡ around_closed scope.now (around_seen around.entry) nest.old) }
 {
     match around {
         Around::Quotation {
@@ -128,7 +128,7 @@ fn close_around<'a>(
 
 // Closes the innermost bracket, where one is open.
 fn close_bracket(alloc: Global, scope: &Scope, nest: &mut Nest<'_>) -> Result<(), Memory>
-    ensures { OnOk result (nest_seen nest.new ≡ bracket_closed scope.now (nest_seen nest.old)) }
+    ensures { OnOk result (nest.new ≡ bracket_closed scope.now nest.old) }
 {
     match nest.outer.pop() {
         Some(around) => close_around(alloc, scope, nest, around),
@@ -154,7 +154,7 @@ fn close_case(
     spot: Spot,
     pairs: u64,
 ) -> Result<(), Memory>
-    ensures { OnOk result (nest_seen nest.new ≡ case_closed cond spot pairs (nest_seen nest.old)) }
+    ensures { OnOk result (nest.new ≡ case_closed cond spot pairs nest.old) }
 {
     match spot {
         Spot::BehindSecond => {
@@ -172,7 +172,7 @@ fn close_case(
 
 /// Takes a bracket that closes.
 pub fn close(alloc: Global, scope: &Scope, nest: &mut Nest<'_>) -> Result<(), Memory>
-    ensures { OnOk result (nest_seen nest.new ≡ closed_at scope.now nest.old.at (nest_seen nest.old)) }
+    ensures { OnOk result (nest.new ≡ closed_at scope.now nest.old.at nest.old) }
 {
     match nest.at {
         At::Inside => close_bracket(alloc, scope, nest),
@@ -182,7 +182,7 @@ pub fn close(alloc: Global, scope: &Scope, nest: &mut Nest<'_>) -> Result<(), Me
 
 // Closes so many brackets.
 fn close_times(alloc: Global, scope: &Scope, nest: &mut Nest<'_>, times: u64) -> Result<(), Memory>
-    ensures { OnOk result (nest_seen nest.new ≡ closed_times scope.now times (nest_seen nest.old)) }
+    ensures { OnOk result (nest.new ≡ closed_times scope.now times nest.old) }
 {
     for _pair in 0..times {
         close_bracket(alloc, scope, nest)?;
@@ -192,7 +192,7 @@ fn close_times(alloc: Global, scope: &Scope, nest: &mut Nest<'_>, times: u64) ->
 
 // Adds the word for no case, where no last quotation stands behind the pairs.
 fn add_no_cond(scope: &Scope, nest: &mut Nest<'_>, cond: Place, spot: Spot) -> Result<(), Memory>
-    ensures { OnOk result (nest_seen nest.new ≡ with_no_cond scope.now cond spot (nest_seen nest.old)) }
+    ensures { OnOk result (nest.new ≡ with_no_cond scope.now cond spot nest.old) }
 {
     match spot {
         Spot::Between => add_word(scope, nest, Added::NoCond, cond),
@@ -212,7 +212,7 @@ fn end_cases(
     spot: Spot,
     pairs: u64,
 ) -> Result<(), Memory>
-    ensures { OnOk result (nest_seen nest.new ≡ cases_ended scope.now cond spot pairs (nest_seen nest.old)) }
+    ensures { OnOk result (nest.new ≡ cases_ended scope.now cond spot pairs nest.old) }
 {
     nest.at = At::Inside;
     add_no_cond(scope, nest, cond, spot)?;
@@ -226,7 +226,7 @@ pub fn take_term<'a>(
     nest: &mut Nest<'a>,
     term: &'a Term,
 ) -> Result<(), Memory>
-    ensures { OnOk result (nest_seen nest.new ≡ leaf_at scope.now nest.old.at (node term.now) (nest_seen nest.old)) }
+    ensures { OnOk result (nest.new ≡ leaf_at scope.now nest.old.at (node term.now) nest.old) }
 {
     match nest.at {
         At::Inside => take_inside(alloc, scope, nest, term),

@@ -9,7 +9,7 @@ ghost use Rattle.fac_items.specs.Readings.{with_inputs};
 ghost use Rattle.fac_vocab.specs.Scopes.{Scope};
 ghost use Rattle.fac_items.specs.inner.Behind.{name_tok, names_seen};
 ghost use Rattle.fac_items.specs.inner.Bits.{all_bits, element_bit, later_names, names_behind, names_within, next_name, opens_bit};
-ghost use Rattle.fac_items.specs.inner.TakenBits.{all_bound, begun, bit_taken, bits_of, bits_taken, nest_seen, phrase_in};
+ghost use Rattle.fac_items.specs.inner.TakenBits.{all_bound, begun, bit_taken, bits_of, bits_taken, phrase_in};
 
 use crate::behind::names_behind;
 use crate::closing::{close, take_term};
@@ -42,7 +42,7 @@ fn open_bracket<'a>(
     bracket: Bracket,
     place: Place,
 ) -> Result<(), Memory>
-    ensures nest { (s : Scope) → OnOk result (nest_seen nest.new ≡ bit_taken s (nest_seen nest.old) (opens_bit bracket place (names_seen names.old))) }
+    ensures nest { (s : Scope) → OnOk result (nest.new ≡ bit_taken s nest.old (opens_bit bracket place (names_seen names.old))) }
     ensures names { OnOk result (names_seen names.new ≡ names_within bracket (names_seen names.old)) }
 {
     match bracket {
@@ -63,7 +63,7 @@ fn take<'a>(
     names: &mut Stack<Option<NameAt<'a>>>,
     element: &'a Element,
 ) -> Result<(), Memory>
-    ensures nest { OnOk result (nest_seen nest.new ≡ bit_taken scope.now (nest_seen nest.old) (element_bit (names_seen names.old) element.now)) }
+    ensures nest { OnOk result (nest.new ≡ bit_taken scope.now nest.old (element_bit (names_seen names.old) element.now)) }
     ensures names { OnOk result (names_seen names.new ≡ names_behind element.now (names_seen names.old)) }
 {
     match element {
@@ -86,7 +86,7 @@ fn take_all<'a>(
     names: Stack<Option<NameAt<'a>>>,
     elements: &'a [Element],
 ) -> Result<(), Memory>
-    ensures { OnOk result (nest_seen nest.new ≡ bits_taken scope.now (nest_seen nest.old) (all_bits (names_seen names.entry) elements.now)) }
+    ensures { OnOk result (nest.new ≡ bits_taken scope.now nest.old (all_bits (names_seen names.entry) elements.now)) }
 {
     let mut left = names;
     for element in elements {
@@ -103,7 +103,7 @@ fn take_phrase<'a>(
     inputs: &[NameAt<'a>],
     elements: &'a [Element],
 ) -> Result<(), Memory>
-    ensures { OnOk result (nest_seen nest.new ≡ bits_taken scope.now (all_bound (map name_tok inputs.now) [] (nest_seen nest.old)) (bits_of scope.now elements.now)) }
+    ensures { OnOk result (nest.new ≡ bits_taken scope.now (all_bound (map name_tok inputs.now) [] nest.old) (bits_of scope.now elements.now)) }
 {
     let names = names_behind(alloc, scope, elements)?;
     bind_all(alloc, nest, inputs)?;
@@ -117,9 +117,9 @@ fn finish(
     arrays: &mut List<List<Lit>>,
     first: &mut Option<NameFault>,
 ) -> Phrase
-    ensures phrase { result ≡ phrase_in (nest_seen nest.entry).content }
-    ensures arrays { arrays.new ≡ (nest_seen nest.entry).arrays }
-    ensures first { first.new ≡ (nest_seen nest.entry).first }
+    ensures phrase { result ≡ phrase_in nest.entry.content }
+    ensures arrays { arrays.new ≡ nest.entry.arrays }
+    ensures first { first.new ≡ nest.entry.first }
 {
     let Nest {
         content,

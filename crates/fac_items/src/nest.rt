@@ -9,7 +9,7 @@ ghost use Rattle.fac_vocab.specs.Scopes.{Scope};
 ghost use Rattle.fac_items.specs.FromElements.{node, tested_call, tok};
 ghost use Rattle.fac_items.specs.Items.{local_of, search_fault, word_of};
 ghost use Rattle.fac_items.specs.inner.Behind.{name_tok};
-ghost use Rattle.fac_items.specs.inner.TakenBits.{added_taken, all_bound, array_in, array_opened, array_or_cases, array_taken, begun, bound_taken, bracket_opened, case_opened, cond_place, fresh_opened, hole_taken, item_taken, last_opened, leaf_inside, locals_at, locals_seen, name_as, name_in, nest_seen, opened_inside, quotation_opened, reference_taken};
+ghost use Rattle.fac_items.specs.inner.TakenBits.{added_taken, all_bound, array_in, array_opened, array_or_cases, array_taken, begun, bound_taken, bracket_opened, case_opened, cond_place, fresh_opened, hole_taken, item_taken, last_opened, leaf_inside, locals_at, locals_seen, name_as, name_in, opened_inside, quotation_opened, reference_taken};
 
 use crate::added::{Added, number_of};
 use crate::content::{Content, add_element, add_literal, add_reference, add_what};
@@ -22,6 +22,7 @@ use fac_lang::{Lit, What};
 use fac_source::{Bracket, Callee, NameFault, NameKind, Term, Token, refuse_name};
 use fac_vocab::Scope;
 use std::alloc::Global;
+use std::marker::Model;
 use std::mem;
 
 // Where one stands among the pairs before a `cond`.
@@ -75,7 +76,7 @@ pub enum Around<'a> {
     },
 }
 
-/// Items and elements as far as they were taken.
+/// Items and elements as far as they were taken. Contracts see what stands in the open brackets as phrases, and locals by their texts.
 #[derive(Drop)]
 pub struct Nest<'a> {
     // The brackets that are open, the innermost first.
@@ -93,9 +94,22 @@ pub struct Nest<'a> {
     pub first: Option<NameFault>,
 }
 
+impl<'a> Model for Nest<'a> {
+    ghost use Rattle.std.specs.Prelude.{map};
+    ghost use Rattle.std.specs.Coded.{codes};
+    ghost use Rattle.fac_lang.specs.PhraseCodes.{coded_phrase};
+    ghost use Rattle.fac_items.specs.inner.TakenBits.{Taken, around_seen, content_seen, locals_seen};
+
+    ghost Value = { Taken };
+
+    ghost coded = { Prim.hlevel (codes, coded_phrase) };
+
+    ghost view = { λ n. record { outer = map around_seen n.outer; at = n.at; content = content_seen n.content; locals = locals_seen n.locals.items; holes = n.holes; arrays = n.arrays; first = n.first } };
+}
+
 /// Before the first item, with the literal arrays and the first refusal so far.
 pub fn begin<'a>(alloc: Global, arrays: List<List<Lit>>, first: Option<NameFault>) -> Nest<'a>
-    ensures { nest_seen result ≡ begun arrays first }
+    ensures { result ≡ begun arrays first }
 {
     Nest {
         outer: Stack::new(alloc),
@@ -110,7 +124,7 @@ pub fn begin<'a>(alloc: Global, arrays: List<List<Lit>>, first: Option<NameFault
 
 // Adds an item.
 fn add(nest: &mut Nest<'_>, what: What, place: Place) -> Result<(), Memory>
-    ensures { OnOk result (nest_seen nest.new ≡ item_taken (what_item what) place (nest_seen nest.old)) }
+    ensures { OnOk result (nest.new ≡ item_taken (what_item what) place nest.old) }
 {
     add_what(&mut nest.content, what, place)
 }
@@ -122,7 +136,7 @@ pub fn add_word(
     added: Added,
     place: Place,
 ) -> Result<(), Memory>
-    ensures { OnOk result (nest_seen nest.new ≡ added_taken scope.now added place (nest_seen nest.old)) }
+    ensures { OnOk result (nest.new ≡ added_taken scope.now added place nest.old) }
 {
     add(nest, What::Word(number_of(scope, added)), place)
 }
@@ -134,7 +148,7 @@ fn take_item_name(
     nest: &mut Nest<'_>,
     token: &Token,
 ) -> Result<(), Memory>
-    ensures { OnOk result (nest_seen nest.new ≡ name_as scope.now (tok token.now) token.now.place (local_of (nest_seen nest.old).locals (tok token.now).text) (nest_seen nest.old)) }
+    ensures { OnOk result (nest.new ≡ name_as scope.now (tok token.now) token.now.place (local_of nest.old.locals (tok token.now).text) nest.old) }
 {
     match local_of(nest.locals.as_slice(), text(&token.kind)) {
         Some(number) => {
@@ -165,7 +179,7 @@ fn take_element_name(
 
 // Takes a name.
 fn take_name(alloc: Global, scope: &Scope, nest: &mut Nest<'_>, token: &Token) -> Result<(), Memory>
-    ensures { OnOk result (nest_seen nest.new ≡ name_in scope.now (tok token.now) token.now.place (nest_seen nest.old).content (nest_seen nest.old)) }
+    ensures { OnOk result (nest.new ≡ name_in scope.now (tok token.now) token.now.place nest.old.content nest.old) }
 {
     match &mut nest.content {
         Content::Items(_) => take_item_name(alloc, scope, nest, token),
@@ -183,7 +197,7 @@ fn take_reference(
     name: &Token,
     place: Place,
 ) -> Result<(), Memory>
-    ensures { OnOk result (nest_seen nest.new ≡ reference_taken scope.now (tok name.now) place (nest_seen nest.old)) }
+    ensures { OnOk result (nest.new ≡ reference_taken scope.now (tok name.now) place nest.old) }
 {
     let number = word_of(alloc, scope, &mut nest.first, name)?;
     add_reference(&mut nest.content, number, place)
@@ -196,7 +210,7 @@ fn take_call(
     height: Height,
     place: Place,
 ) -> Result<(), Memory>
-    ensures { (s : Scope) → OnOk result (nest_seen nest.new ≡ leaf_inside s (tested_call callee height place) (nest_seen nest.old)) }
+    ensures { (s : Scope) → OnOk result (nest.new ≡ leaf_inside s (tested_call callee height place) nest.old) }
 {
     match callee {
         Callee::Callable => add(nest, What::CallEff(height), place),
@@ -212,7 +226,7 @@ fn bind<'a>(
     twice: bool,
     place: Place,
 ) -> Result<(), Memory>
-    ensures { OnOk result (nest_seen nest.new ≡ bound_taken (name_tok name.entry) twice place (nest_seen nest.old)) }
+    ensures { OnOk result (nest.new ≡ bound_taken (name_tok name.entry) twice place nest.old) }
 {
     let number = local_number(nest.locals.len())?;
     add(nest, What::Bind(number), place)?;
@@ -232,7 +246,7 @@ fn bind<'a>(
 
 /// Binds the inputs of a quotation or definition, the last one first.
 pub fn bind_all<'a>(alloc: Global, nest: &mut Nest<'a>, names: &[NameAt<'a>]) -> Result<(), Memory>
-    ensures { OnOk result (nest_seen nest.new ≡ all_bound (map name_tok names.now) [] (nest_seen nest.old)) }
+    ensures { OnOk result (nest.new ≡ all_bound (map name_tok names.now) [] nest.old) }
 {
     let mut count = names.len();
     while count > 0 {
@@ -246,7 +260,7 @@ pub fn bind_all<'a>(alloc: Global, nest: &mut Nest<'a>, names: &[NameAt<'a>]) ->
 
 // Takes a hole of the fry around.
 fn take_hole(nest: &mut Nest<'_>, place: Place) -> Result<(), Memory>
-    ensures { OnOk result (nest_seen nest.new ≡ hole_taken place (nest_seen nest.old)) }
+    ensures { OnOk result (nest.new ≡ hole_taken place nest.old) }
 {
     let number = nest.holes;
     match number.checked_add(1) {
@@ -266,7 +280,7 @@ pub fn take_inside<'a>(
     nest: &mut Nest<'a>,
     term: &'a Term,
 ) -> Result<(), Memory>
-    ensures { OnOk result (nest_seen nest.new ≡ leaf_inside scope.now (node term.now) (nest_seen nest.old)) }
+    ensures { OnOk result (nest.new ≡ leaf_inside scope.now (node term.now) nest.old) }
 {
     match term {
         Term::Literal(token, literal) => add_literal(
@@ -302,7 +316,7 @@ pub fn open_quotation(
     place: Place,
     at: At,
 ) -> Result<(), Memory>
-    ensures { OnOk result (nest_seen nest.new ≡ quotation_opened added place at (nest_seen nest.old)) }
+    ensures { OnOk result (nest.new ≡ quotation_opened added place at nest.old) }
 {
     let count = nest.locals.len();
     let before = mem::replace(&mut nest.content, Content::Items(Vec::new(alloc)));
@@ -319,7 +333,7 @@ pub fn open_quotation(
 
 // Opens a fry, or a quotation in an array.
 fn open_fresh(alloc: Global, nest: &mut Nest<'_>, place: Place) -> Result<(), Memory>
-    ensures { OnOk result (nest_seen nest.new ≡ fresh_opened place (nest_seen nest.old)) }
+    ensures { OnOk result (nest.new ≡ fresh_opened place nest.old) }
 {
     let count = nest.locals.len();
     let holes = nest.holes;
@@ -337,7 +351,7 @@ fn open_fresh(alloc: Global, nest: &mut Nest<'_>, place: Place) -> Result<(), Me
 
 // Opens an array, in which no locals of around are in scope.
 fn open_array(alloc: Global, nest: &mut Nest<'_>, place: Place) -> Result<(), Memory>
-    ensures { OnOk result (nest_seen nest.new ≡ array_opened place (nest_seen nest.old)) }
+    ensures { OnOk result (nest.new ≡ array_opened place nest.old) }
 {
     let holes = nest.holes;
     let before = mem::replace(&mut nest.content, Content::Elements(Vec::new(alloc)));
@@ -354,7 +368,7 @@ fn open_array(alloc: Global, nest: &mut Nest<'_>, place: Place) -> Result<(), Me
 
 // Opens the last quotation before a `cond`.
 fn open_last(nest: &mut Nest<'_>, at: At) -> Result<(), Memory>
-    ensures { OnOk result (nest_seen nest.new ≡ last_opened at (nest_seen nest.old)) }
+    ensures { OnOk result (nest.new ≡ last_opened at nest.old) }
 {
     let count = nest.locals.len();
     nest.outer.push(Around::Last { count, at })?;
@@ -371,7 +385,7 @@ fn open_case(
     pairs: u64,
     place: Place,
 ) -> Result<(), Memory>
-    ensures { OnOk result (nest_seen nest.new ≡ case_opened cond spot pairs place (nest_seen nest.old)) }
+    ensures { OnOk result (nest.new ≡ case_opened cond spot pairs place nest.old) }
 {
     match spot {
         Spot::Between => open_last(nest, At::Cases(cond, Spot::BehindLast, pairs)),
@@ -395,7 +409,7 @@ fn open_inside(
     bracket: Bracket,
     place: Place,
 ) -> Result<(), Memory>
-    ensures { OnOk result (nest_seen nest.new ≡ opened_inside bracket place (nest_seen nest.old)) }
+    ensures { OnOk result (nest.new ≡ opened_inside bracket place nest.old) }
 {
     match bracket {
         Bracket::Quotation => match &nest.content {
@@ -414,7 +428,7 @@ pub fn open(
     bracket: Bracket,
     place: Place,
 ) -> Result<(), Memory>
-    ensures { OnOk result (nest_seen nest.new ≡ bracket_opened bracket place (nest_seen nest.old)) }
+    ensures { OnOk result (nest.new ≡ bracket_opened bracket place nest.old) }
 {
     match nest.at {
         At::Inside => open_inside(alloc, nest, bracket, place),
@@ -440,7 +454,7 @@ fn open_with<'a>(
     tokens: &'a [Token],
     place: Place,
 ) -> Result<(), Memory>
-    ensures { OnOk result (nest_seen nest.new ≡ all_bound (map tok tokens.now) [] (opened_inside Quotation place (nest_seen nest.old))) }
+    ensures { OnOk result (nest.new ≡ all_bound (map tok tokens.now) [] (opened_inside Quotation place nest.old)) }
 {
     let names = names_at(alloc, tokens)?;
     open_inside(alloc, nest, Bracket::Quotation, place)?;
@@ -454,7 +468,7 @@ pub fn open_locals<'a>(
     tokens: &'a [Token],
     place: Place,
 ) -> Result<(), Memory>
-    ensures { OnOk result (nest_seen nest.new ≡ locals_at nest.old.at (map tok tokens.now) place (nest_seen nest.old)) }
+    ensures { OnOk result (nest.new ≡ locals_at nest.old.at (map tok tokens.now) place nest.old) }
 {
     match nest.at {
         At::Inside => open_with(alloc, nest, tokens, place),
@@ -482,7 +496,7 @@ fn open_pairs(
     cond: Option<Place>,
     place: Place,
 ) -> Result<(), Memory>
-    ensures { OnOk result (nest_seen nest.new ≡ array_or_cases cond place (nest_seen nest.old)) }
+    ensures { OnOk result (nest.new ≡ array_or_cases cond place nest.old) }
 {
     match cond {
         Some(cond) => {
@@ -500,7 +514,7 @@ fn open_array_inside(
     name: Option<NameAt<'_>>,
     place: Place,
 ) -> Result<(), Memory>
-    ensures { OnOk result (nest_seen nest.new ≡ array_in (nest_seen nest.old).content (option_map name_tok name.entry) place (nest_seen nest.old)) }
+    ensures { OnOk result (nest.new ≡ array_in nest.old.content (option_map name_tok name.entry) place nest.old) }
 {
     match &nest.content {
         Content::Items(_) => {
@@ -518,7 +532,7 @@ pub fn open_braces(
     name: Option<NameAt<'_>>,
     place: Place,
 ) -> Result<(), Memory>
-    ensures { OnOk result (nest_seen nest.new ≡ array_taken (option_map name_tok name.entry) place (nest_seen nest.old)) }
+    ensures { OnOk result (nest.new ≡ array_taken (option_map name_tok name.entry) place nest.old) }
 {
     match nest.at {
         At::Inside => open_array_inside(alloc, nest, name, place),

@@ -6,7 +6,6 @@ use Rattle.fac_source.specs.declared.tree.Bracket.TheVariants.{Quotation, Array,
 use Rattle.fac_source.specs.declared.tree.Element.{Element}
 use Rattle.fac_source.specs.declared.tree.Element.TheVariants as element
 use Rattle.fac_items.specs.declared.behind.Level.{Level as LevelRead}
-use Rattle.fac_items.specs.declared.behind.Scan.{Scan}
 use Rattle.fac_items.specs.declared.cases.Cases.{Cases}
 use Rattle.fac_items.specs.declared.cases.Cases.TheVariants.{Nothing}
 use Rattle.fac_items.specs.declared.cases.Child.{Child}
@@ -35,9 +34,6 @@ level_seen l = record { cases = l.cases; first = option_map name_tok l.first }
 
 abbrev pub names_seen : List (Option NameAt) → List (Option Tok)
 names_seen os = map (option_map name_tok) os
-
-abbrev pub scan_seen : Scan → Scanned
-scan_seen s = record { here = level_seen s.here; around = map level_seen s.around; names = names_seen s.names }
 
 abbrev pub none_yet : Level
 none_yet = record { cases = Nothing; first = None }
@@ -80,11 +76,19 @@ outer_levels (l ∷ ls) = ls
 abbrev pub opened_before : Child → Scanned → Scanned
 opened_before c s = record s { here = with_element c None (inner_level s.around); around = outer_levels s.around }
 
+-- one that opens, with the name behind it where it is an array
+abbrev pub bracket_before : (List ℕ → Bool) → Bracket → Scanned → Scanned
+bracket_before is_cond b s = opened_before (child_of b s.here.cases) (record s { names = names_with is_cond b s.here.cases (inner_level s.around).first s.names })
+
+-- one that closes, before which elements begin anew
+abbrev pub closed_before : Scanned → Scanned
+closed_before s = record s { here = none_yet; around = s.here ∷ s.around }
+
 abbrev pub scanned : (List ℕ → Bool) → Element → Scanned → Scanned
 scanned is_cond (element.Item t) s = record s { here = with_element child.Other (leaf_name (node t)) s.here }
-scanned is_cond (element.Opens b p) s = opened_before (child_of b s.here.cases) (record s { names = names_with is_cond b s.here.cases (inner_level s.around).first s.names })
+scanned is_cond (element.Opens b p) s = bracket_before is_cond b s
 scanned is_cond (element.OpensLocals p names bar) s = opened_before child.Other s
-scanned is_cond (element.Closes b p) s = record s { here = none_yet; around = s.here ∷ s.around }
+scanned is_cond (element.Closes b p) s = closed_before s
 
 abbrev pub all_scanned : (List ℕ → Bool) → List Element → Scanned → Scanned
 all_scanned is_cond [] s = s

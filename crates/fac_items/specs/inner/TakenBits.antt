@@ -25,7 +25,6 @@ use Rattle.fac_items.specs.declared.nest.At.{At}
 use Rattle.fac_items.specs.declared.nest.At.TheVariants.{Inside, Cases}
 use Rattle.fac_items.specs.declared.nest.Spot.{Spot}
 use Rattle.fac_items.specs.declared.nest.Spot.TheVariants.{Between, BeforeFirst, BeforeSecond, BehindSecond, BehindLast}
-use Rattle.fac_items.specs.declared.nest.Nest.{Nest}
 use Rattle.fac_items.specs.Written.{Tok, Node, n_lit, n_ref, n_name, n_call, n_execute, n_next, n_bind, n_hole, n_at}
 use Rattle.fac_items.specs.Items.{is_cond, literal, local_of, search_fault, word_of}
 use Rattle.fac_items.specs.inner.Behind.{all_scanned, none_scanned}
@@ -70,9 +69,6 @@ pub record Taken : Type 0 where
   pub holes : ℕ
   pub arrays : List (List Lit)
   pub first : Option NameFault
-
-abbrev pub nest_seen : Nest → Taken
-nest_seen n = record { outer = map around_seen n.outer; at = n.at; content = content_seen n.content; locals = locals_seen n.locals.items; holes = n.holes; arrays = n.arrays; first = n.first }
 
 -- Items without a bracket.
 
