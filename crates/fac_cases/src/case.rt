@@ -276,7 +276,8 @@ impl Case {
         files: &mut MemFiles,
     ) -> Result<(), Memory> {
         let source = MemSource::new(self.input.copy(alloc)?, self.reads.copy(alloc)?);
-        let mut channels = Channels::new(alloc, source, sink(alloc, &self.output)?);
+        let output = sink(alloc, &self.output)?;
+        let mut channels = Channels::new(alloc, source, output);
         let mut note = sink(alloc, &self.note)?;
         called(alloc, told, words, files, &mut channels, &mut note)
     }
