@@ -19,12 +19,10 @@
 //!     @tokens N         no call: the source is a file of this number, and its tokens are told
 //!
 //! There are the files of these sources and no others. What a call left of its input is told too.
-ghost use Rattle.fac_lines.specs.LineAnswers.{AtEnd};
-
 use crate::telling::{tell_bytes, tell_end, tell_left, tell_loads, tell_stack, tell_tokens};
 use fac_base::{Bytes, Duplicate, List, Memory, Text};
 use fac_io::{Files, MemFiles, MemSink, MemSource, Sink, Source};
-use fac_lines::Lines;
+use fac_lines::Channels;
 use fac_tool::{Ended, factor_top};
 use std::alloc::Global;
 use std::mem;
@@ -114,14 +112,10 @@ fn call<F: Files, S: Source, K: Sink, N: Sink>(
     alloc: Global,
     words: &[String],
     files: &mut F,
-    input: &mut Lines<S>,
-    output: &mut K,
+    channels: &mut Channels<S, K>,
     note: &mut N,
-) -> Ended
-    requires { AtEnd input.old.ended (S.left input.old.source) }
-    ensures { AtEnd input.new.ended (S.left input.new.source) }
-{
-    factor_top(alloc, words, files, input, output, note)
+) -> Ended {
+    factor_top(alloc, words, files, channels, note)
 }
 
 // Tells how a call ended, before which so much was asked of the files.
@@ -153,16 +147,13 @@ fn called(
     told: &mut Text,
     words: &[String],
     files: &mut MemFiles,
-    input: &mut Lines<MemSource>,
-    output: &mut MemSink,
+    channels: &mut Channels<MemSource, MemSink>,
     note: &mut MemSink,
-) -> Result<(), Memory>
-    requires { AtEnd input.old.ended (⟦<MemSource as Source>⟧.left input.old.source) }
-{
+) -> Result<(), Memory> {
     let before = files.asked().as_slice().len();
-    let ended = call(alloc, words, files, input, output, note);
-    tell_call(alloc, told, &ended, files, before, output, note)?;
-    tell_left(alloc, told, input)
+    let ended = call(alloc, words, files, channels, note);
+    tell_call(alloc, told, &ended, files, before, channels.output(), note)?;
+    tell_left(alloc, told, channels)
 }
 
 // A sink whose listed writes fail.
@@ -285,18 +276,10 @@ impl Case {
         files: &mut MemFiles,
     ) -> Result<(), Memory> {
         let source = MemSource::new(self.input.copy(alloc)?, self.reads.copy(alloc)?);
-        let mut input = Lines::new(alloc, source);
-        let mut output = sink(alloc, &self.output)?;
+        let output = sink(alloc, &self.output)?;
+        let mut channels = Channels::new(alloc, source, output);
         let mut note = sink(alloc, &self.note)?;
-        called(
-            alloc,
-            told,
-            words,
-            files,
-            &mut input,
-            &mut output,
-            &mut note,
-        )
+        called(alloc, told, words, files, &mut channels, &mut note)
     }
 
     // Makes the calls, and tells how each ended.

@@ -1,9 +1,7 @@
 //! How the end of a call and the tokens of a file are told.
-ghost use Rattle.fac_lines.specs.LineAnswers.{AtEnd};
-
 use fac_base::{Bytes, Memory, Text};
-use fac_io::{Asked, MemSource, Source};
-use fac_lines::Lines;
+use fac_io::{Asked, MemSink, MemSource};
+use fac_lines::Channels;
 use fac_source::{TokKind, Token};
 use fac_token::{TokenFault, tokens};
 use std::alloc::Global;
@@ -83,12 +81,14 @@ pub fn tell_bytes(told: &mut Text, what: &str, bytes: &[u8]) -> Result<(), Memor
 }
 
 /// Tells the lines that are left of an input, each with a newline, up to one that can't be had.
-pub fn tell_left(alloc: Global, told: &mut Text, input: &mut Lines<MemSource>) -> Result<(), Memory>
-    requires { AtEnd input.old.ended (⟦<MemSource as Source>⟧.left input.old.source) }
-{
+pub fn tell_left(
+    alloc: Global,
+    told: &mut Text,
+    channels: &mut Channels<MemSource, MemSink>,
+) -> Result<(), Memory> {
     let mut left = Bytes::new(alloc);
     for _ in 0..MOST_LINES {
-        let Ok(Some(line)) = input.line() else {
+        let Ok(Some(line)) = channels.line() else {
             return tell_bytes(told, "  left ", left.as_slice());
         };
         left.extend(line.as_slice())?;

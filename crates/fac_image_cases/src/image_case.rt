@@ -29,8 +29,6 @@
 //!     @output N M             the write of this number fails after M bytes
 //!     @run N M                runs the code from the place N, with M ticks
 //!     @twice N M              runs it so two times on one machine
-ghost use Rattle.std.specs.Prelude.{◌≡◌, false, IfOk};
-
 use crate::instructions::instr;
 use crate::told_rows::Rows;
 use crate::told_runs::told;
@@ -38,16 +36,16 @@ use crate::told_tables::tables;
 use fac_base::{Bytes, List, Memory, Text};
 use fac_code::{Image, Instr};
 use fac_io::{MemSink, MemSource};
-use fac_lines::Lines;
+use fac_lines::Channels;
 use fac_vm::Machine;
 use std::alloc::Global;
 
 // The most bytes that the sink takes.
 const ROOM: u64 = 20;
 
-// The input, the reads of it that fail, and the writes that fail.
+// What a case says of input and output: the input, the reads of it that fail, and the writes that fail.
 #[derive(Drop)]
-struct Channels {
+struct SaidOfChannels {
     input: Vec<u8>,
     reads: Vec<u64>,
     writes: Vec<(u64, u64)>,
@@ -58,7 +56,7 @@ struct Channels {
 pub struct Case {
     rows: Rows,
     code: Vec<Instr>,
-    channels: Channels,
+    said: SaidOfChannels,
 }
 
 // The two numbers of a text.
@@ -78,40 +76,38 @@ fn sink(alloc: Global, fails: &[(u64, u64)]) -> Result<MemSink, Memory> {
     MemSink::new(alloc, ROOM, List::from_vec(Vec::from_slice(alloc, fails)?)?)
 }
 
-// The lines of the input.
-fn lines(alloc: Global, channels: &Channels) -> Result<Lines<MemSource>, Memory>
-    ensures { IfOk result (λ lines. lines.ended ≡ false) }
-{
-    let bytes = Bytes::from_slice(alloc, channels.input.as_slice())?;
-    let fails = List::from_vec(Vec::from_slice(alloc, channels.reads.as_slice())?)?;
-    Ok(Lines::new(alloc, MemSource::new(bytes, fails)))
+// The channels of a run.
+fn channels(alloc: Global, said: &SaidOfChannels) -> Result<Channels<MemSource, MemSink>, Memory> {
+    let bytes = Bytes::from_slice(alloc, said.input.as_slice())?;
+    let fails = List::from_vec(Vec::from_slice(alloc, said.reads.as_slice())?)?;
+    let output = sink(alloc, said.writes.as_slice())?;
+    Ok(Channels::new(alloc, MemSource::new(bytes, fails), output))
 }
 
 // Lets a machine run, and tells how the run ended.
 fn run_told(
     alloc: Global,
     machine: &mut Machine,
-    channels: &Channels,
-    out: &mut MemSink,
+    said: &SaidOfChannels,
     budget: u64,
 ) -> Result<Text, Memory> {
-    let mut input = lines(alloc, channels)?;
-    let stop = machine.run(alloc, &mut input, out, budget);
-    told(alloc, stop, machine, out.taken())
+    let mut channels = channels(alloc, said)?;
+    let stop = machine.run(alloc, &mut channels, budget);
+    told(alloc, stop, machine, channels.output().taken())
 }
 
-// Lets a machine run, once or twice, and tells how each run ended. Each reads the input from its start.
+// Lets a machine run, once or twice, and tells how each run ended. Each has channels of its own: it reads the input from its start, and its writes are
+// counted anew.
 fn runs_told(
     alloc: Global,
     machine: &mut Machine,
-    channels: &Channels,
+    said: &SaidOfChannels,
     budget: u64,
     again: bool,
 ) -> Result<Text, Memory> {
-    let mut out = sink(alloc, channels.writes.as_slice())?;
-    let mut ends = run_told(alloc, machine, channels, &mut out, budget)?;
+    let mut ends = run_told(alloc, machine, said, budget)?;
     if again {
-        ends.push_str(run_told(alloc, machine, channels, &mut out, budget)?.as_str())?;
+        ends.push_str(run_told(alloc, machine, said, budget)?.as_str())?;
     }
     Ok(ends)
 }
@@ -120,12 +116,12 @@ fn runs_told(
 fn run(
     alloc: Global,
     image: Image,
-    channels: &Channels,
+    said: &SaidOfChannels,
     budget: u64,
     again: bool,
 ) -> Result<Text, Memory> {
     let mut machine = Machine::new(alloc, image)?;
-    runs_told(alloc, &mut machine, channels, budget, again)
+    runs_told(alloc, &mut machine, said, budget, again)
 }
 
 impl Case {
@@ -134,7 +130,7 @@ impl Case {
         Case {
             rows: Rows::new(alloc),
             code: Vec::new(alloc),
-            channels: Channels {
+            said: SaidOfChannels {
                 input: Vec::new(alloc),
                 reads: Vec::new(alloc),
                 writes: Vec::new(alloc),
@@ -174,7 +170,7 @@ impl Case {
     fn add_input(&mut self, text: &str) -> Result<bool, Memory> {
         for byte in text.as_bytes() {
             let byte = if *byte == b'|' { b'\n' } else { *byte };
-            self.channels.input.push(byte)?;
+            self.said.input.push(byte)?;
         }
         Ok(true)
     }
@@ -183,7 +179,7 @@ impl Case {
     fn add_read(&mut self, text: &str) -> Result<bool, Memory> {
         match text.parse::<u64>() {
             Ok(number) => {
-                self.channels.reads.push(number)?;
+                self.said.reads.push(number)?;
                 Ok(true)
             }
             Err(_) => Ok(false),
@@ -194,7 +190,7 @@ impl Case {
     fn add_output(&mut self, text: &str) -> Result<bool, Memory> {
         match pair(text) {
             Some(pair) => {
-                self.channels.writes.push(pair)?;
+                self.said.writes.push(pair)?;
                 Ok(true)
             }
             None => Ok(false),
@@ -213,7 +209,7 @@ impl Case {
             return Text::from_str(alloc, "  not taken\n");
         };
         match self.image(alloc, start)? {
-            Some(image) => run(alloc, image, &self.channels, budget, again),
+            Some(image) => run(alloc, image, &self.said, budget, again),
             None => Text::from_str(alloc, "  no image\n"),
         }
     }

@@ -1,27 +1,24 @@
-//! Tests of the lines of a source.
-ghost use Rattle.std.specs.Prelude.{◌≡◌, Some, false, IfOk};
-ghost use Rattle.fac_lines.specs.LineAnswers.{AtEnd};
-
+//! Tests of the lines of an input.
 use fac_base::{Bytes, List, Memory};
-use fac_io::MemSource;
-use fac_lines::{LineFault, Lines};
+use fac_io::{MemSink, MemSource};
+use fac_lines::{Channels, LineFault};
 use std::alloc::Global;
 use std::test::Fail;
 
-// The lines of these bytes, where the reads of the listed numbers fail.
-fn lines_of(alloc: Global, bytes: Bytes, fails: &[u64]) -> Result<Lines<MemSource>, Memory>
-    ensures { IfOk result (λ lines. lines.ended ≡ false) }
-{
+// Channels whose input has these bytes, where the reads of the listed numbers fail.
+fn channels_of(
+    alloc: Global,
+    bytes: Bytes,
+    fails: &[u64],
+) -> Result<Channels<MemSource, MemSink>, Memory> {
     let fails = List::from_vec(Vec::from_slice(alloc, fails)?)?;
-    Ok(Lines::new(alloc, MemSource::new(bytes, fails)))
+    let output = MemSink::new(alloc, 0, List::new(alloc))?;
+    Ok(Channels::new(alloc, MemSource::new(bytes, fails), output))
 }
 
 // What a call comes to: whether it gives this line, or why it gives none.
-fn gives(lines: &mut Lines<MemSource>, line: &[u8]) -> &'static str
-    requires { AtEnd lines.old.ended (Some lines.old.source.left) }
-    ensures { AtEnd lines.new.ended (Some lines.new.source.left) }
-{
-    match lines.line() {
+fn gives(channels: &mut Channels<MemSource, MemSink>, line: &[u8]) -> &'static str {
+    match channels.line() {
         Ok(Some(given)) => if given.as_slice() == line {
             "this"
         } else {
@@ -35,21 +32,19 @@ fn gives(lines: &mut Lines<MemSource>, line: &[u8]) -> &'static str
 }
 
 // Whether these lines come, and none behind them.
-fn gives_all(lines: &mut Lines<MemSource>, each: &[&str]) -> bool
-    requires { AtEnd lines.old.ended (Some lines.old.source.left) }
-{
+fn gives_all(channels: &mut Channels<MemSource, MemSink>, each: &[&str]) -> bool {
     for line in each {
-        if gives(lines, line.as_bytes()) != "this" {
+        if gives(channels, line.as_bytes()) != "this" {
             return false;
         }
     }
-    gives(lines, b"".as_slice()) == "none"
+    gives(channels, b"".as_slice()) == "none"
 }
 
 // Whether a text has these lines.
 fn has_lines(alloc: Global, text: &str, each: &[&str]) -> Result<bool, Memory> {
     let bytes = Bytes::from_slice(alloc, text.as_bytes())?;
-    Ok(gives_all(&mut lines_of(alloc, bytes, &[])?, each))
+    Ok(gives_all(&mut channels_of(alloc, bytes, &[])?, each))
 }
 
 // Whether small texts have the lines that they should.
@@ -73,24 +68,24 @@ fn many(alloc: Global, count: usize, behind: &str) -> Result<Bytes, Memory> {
 // Whether a line of the most bytes is given.
 fn longest(alloc: Global) -> Result<bool, Memory> {
     let line = many(alloc, 4_000_000, "")?;
-    let mut lines = lines_of(alloc, many(alloc, 4_000_000, "\nb")?, &[])?;
-    Ok(gives(&mut lines, line.as_slice()) == "this" && gives_all(&mut lines, &["b"]))
+    let mut channels = channels_of(alloc, many(alloc, 4_000_000, "\nb")?, &[])?;
+    Ok(gives(&mut channels, line.as_slice()) == "this" && gives_all(&mut channels, &["b"]))
 }
 
 // Whether a line of one more is refused, and its newline is left.
 fn too_long(alloc: Global) -> Result<bool, Memory> {
-    let mut lines = lines_of(alloc, many(alloc, 4_000_001, "\nb")?, &[])?;
-    Ok(gives(&mut lines, b"".as_slice()) == "too long" && gives_all(&mut lines, &["", "b"]))
+    let mut channels = channels_of(alloc, many(alloc, 4_000_001, "\nb")?, &[])?;
+    Ok(gives(&mut channels, b"".as_slice()) == "too long" && gives_all(&mut channels, &["", "b"]))
 }
 
 // Whether a line goes on behind a read that fails, where the first read gives 65,536 bytes.
 fn goes_on(alloc: Global) -> Result<bool, Memory> {
     let line = many(alloc, 65_536, "bc")?;
-    let mut lines = lines_of(alloc, many(alloc, 65_536, "bc\nd")?, &[2])?;
+    let mut channels = channels_of(alloc, many(alloc, 65_536, "bc\nd")?, &[2])?;
     Ok(
-        gives(&mut lines, b"".as_slice()) == "failed"
-            && gives(&mut lines, line.as_slice()) == "this"
-            && gives_all(&mut lines, &["d"]),
+        gives(&mut channels, b"".as_slice()) == "failed"
+            && gives(&mut channels, line.as_slice()) == "this"
+            && gives_all(&mut channels, &["d"]),
     )
 }
 

@@ -8,14 +8,14 @@ use Rattle.fac_source.specs.declared.refusal.NameFault.{NameFault}
 use Rattle.fac_names.specs.Resolution.{resolved, ResolvedAreWhole}
 use Rattle.fac_check.specs.Verdicts.{verdict}
 use Rattle.fac_check.specs.Promises.{AcceptedAreSafe}
-use Rattle.std.specs.declared.option.Option.{Option}
-use Rattle.fac_io.specs.Told.{SinkTold, Stays-same, TookNothing-same}
+use Rattle.fac_io.specs.Told.{Stays-same, TookNothing-same}
+use Rattle.fac_lines.specs.Channels.{ChannelsTold}
 use Rattle.fac_tool.specs.declared.accepting.Accepted.{Accepted}
 use Rattle.fac_tool.specs.declared.accepting.NamedProgram.{NamedProgram}
 use Rattle.fac_notes.specs.declared.report.Report.TheVariants as report
 use Rattle.fac_tool.specs.declared.ended.Ended.{Ended}
 use Rattle.fac_tool.specs.Answer.{OnAccepted, Sources, trees, come_to, accepted, answer_on, limit, own_definitions, on_resolved, on_verdict}
-use Rattle.fac_tool.specs.SeenObjects.{SinkSeen, FilesSeen, InputSeen, OnInput}
+use Rattle.fac_tool.specs.SeenObjects.{SinkSeen, FilesSeen, InputSeen, OnInput, input_seen, output_seen}
 use Rattle.fac_tool.specs.Ends.{Work, idle, runs, runs_and_lists, EndsOn, UnreadBy, work_of}
 use Rattle.fac_tool.specs.inner.Stops.{StandsForSafe}
 use Rattle.fac_tool.specs.Loads.{LoadsGive, LoadsEnd}
@@ -23,10 +23,10 @@ use Rattle.fac_tool.specs.Saved.{FilesTold, until, since, Saves}
 use Rattle.fac_tool.specs.Executed.{OnImage, DoesOnBytes}
 use Rattle.fac_tool.specs.Plans.{Plan, Task, AreKept, AnswersTask, on_sources, on_image, saving}
 use Rattle.fac_tool.specs.Answers.{NoTexts, Loaded, ReachesBy}
-use Rattle.fac_tool.specs.inner.StepEnds.{reported, still, still_input, EndsEarly, StepsEnd, ended_by, EndsRead, AreTrees, AreAccepted}
+use Rattle.fac_tool.specs.inner.StepEnds.{reported, EndsEarly, StepsEnd, ended_by, EndsRead, AreTrees, AreAccepted}
 use Rattle.fac_tool.specs.inner.FormsTaken.{AreNamed}
 use Rattle.fac_tool.proofs.EarlyEnds.{is_refused}
-use Rattle.fac_tool.proofs.InputLemmas.{onward, on_still}
+use Rattle.fac_tool.proofs.InputLemmas.{onward, on_still, still_unread}
 use Rattle.fac_tool.proofs.SourceLemmas.{accepted_safe}
 
 -- a refused name is the answer
@@ -62,10 +62,10 @@ accepted_ends :
 accepted_ends task s files P out seen ended input left come resolves accepts h = record { ends = rw (come, resolves, accepts) h.ends; unread = rw (come, resolves, accepts) h.unread }
 
 -- work that wasn't begun takes nothing of the input
-unread_by : (work : Work) (told : Option (List ℕ)) (m : ℕ) → UnreadBy work (still_input told m)
-unread_by idle told m = record { left = Stays-same told; count = refl }
-unread_by (runs P input budget) told m = tt
-unread_by (runs_and_lists P input budget) told m = tt
+unread_by : (work : Work) (still : ChannelsTold) → UnreadBy work (input_seen still still)
+unread_by idle still = still_unread still
+unread_by (runs P input budget) still = tt
+unread_by (runs_and_lists P input budget) still = tt
 
 -- what files tell behind what was done with them, and from then on
 abbrev pub told_behind : FilesSeen → FilesTold
@@ -76,30 +76,30 @@ kept_behind files = record { held = Stays-same files.held_now; asked = Stays-sam
 
 -- the steps of a command: the loads gave no texts
 pub reaches_no_texts :
-    (plan : Plan) (files : FilesSeen) (in_told : Option (List ℕ)) (in_faults : ℕ) (told : SinkTold) (faults : ℕ) (r : Result Ended Ended) (ended : Ended) →
-    IsErrAnd r (λ other. other ≡ ended) → LoadsEnd plan.files plan.limit files ended → ReachesBy plan files (still_input in_told in_faults) (still told faults) (ended_by r)
-reaches_no_texts plan files in_told in_faults told faults (Ok x) ended same none = absurd same
-reaches_no_texts plan files in_told in_faults told faults (Err other) ended same none =
-    inl (subst (λ (x : Ended). NoTexts plan.files plan.limit files (still_input in_told in_faults) (still told faults) x) (sym same) (record { ends = none; unread = record { left = Stays-same in_told; count = refl }; out_is = TookNothing-same told }))
+    (plan : Plan) (files : FilesSeen) (still : ChannelsTold) (r : Result Ended Ended) (ended : Ended) →
+    IsErrAnd r (λ other. other ≡ ended) → LoadsEnd plan.files plan.limit files ended → ReachesBy plan files (input_seen still still) (output_seen still still) (ended_by r)
+reaches_no_texts plan files still (Ok x) ended same none = absurd same
+reaches_no_texts plan files still (Err other) ended same none =
+    inl (subst (λ (x : Ended). NoTexts plan.files plan.limit files (input_seen still still) (output_seen still still) x) (sym same) (record { ends = none; unread = still_unread still; out_is = TookNothing-same still.output }))
 
 -- or the work on them ended early
 pub reaches_early :
-    AcceptedAreSafe → ResolvedAreWhole → (names : List (List ℕ)) (task : Task) (files : FilesSeen) (texts : List (List ℕ)) (in_told : Option (List ℕ)) (in_faults : ℕ) (told : SinkTold) (faults : ℕ) (r : Result Ended Ended) (ended : Ended) →
-    IsErrAnd r (λ other. other ≡ ended) → LoadsGive names limit files texts → EndsRead texts ended → ReachesBy (on_sources names task) files (still_input in_told in_faults) (still told faults) (ended_by r)
-reaches_early law whole names task files texts in_told in_faults told faults (Ok x) ended same loads read = absurd same
-reaches_early law whole names task files texts in_told in_faults told faults (Err other) ended same loads read =
+    AcceptedAreSafe → ResolvedAreWhole → (names : List (List ℕ)) (task : Task) (files : FilesSeen) (texts : List (List ℕ)) (still : ChannelsTold) (r : Result Ended Ended) (ended : Ended) →
+    IsErrAnd r (λ other. other ≡ ended) → LoadsGive names limit files texts → EndsRead texts ended → ReachesBy (on_sources names task) files (input_seen still still) (output_seen still still) (ended_by r)
+reaches_early law whole names task files texts still (Ok x) ended same loads read = absurd same
+reaches_early law whole names task files texts still (Err other) ended same loads read =
     let work : List ℕ → Work = work_of task.work (accepted (come_to read.sources)) in
-    let answers : AnswersTask task (come_to read.sources) (since files (told_behind files)) (still_input in_told in_faults) (still told faults) ended = record {
+    let answers : AnswersTask task (come_to read.sources) (since files (told_behind files)) (input_seen still still) (output_seen still still) ended = record {
       kept = kept_behind files;
-      ends = on_still in_told in_faults (λ input. record { ends = read.ends task.answer input (work input) told faults (still_input in_told in_faults); unread = unread_by (work input) in_told in_faults });
+      ends = on_still still (λ input. record { ends = read.ends task.answer input (work input) still.output still.output_faults (input_seen still still); unread = unread_by (work input) still });
     } in
-    let early : Loaded (on_sources names task) files (still_input in_told in_faults) (still told faults) ended = record {
+    let early : Loaded (on_sources names task) files (input_seen still still) (output_seen still still) ended = record {
       texts = texts;
       loaded = told_behind files;
       loads = loads;
       does = record { sources = read.sources; are_read = read.are_read; sound = accepted_safe law whole texts read.sources read.are_read; ends = inl answers };
     } in
-    inr (subst (λ (x : Ended). Loaded (on_sources names task) files (still_input in_told in_faults) (still told faults) x) (sym same) early)
+    inr (subst (λ (x : Ended). Loaded (on_sources names task) files (input_seen still still) (output_seen still still) x) (sym same) early)
 
 -- or their program was accepted, and this is how the task ended that was carried out on it
 pub reaches_end :
@@ -123,10 +123,10 @@ reaches_end law whole names task files texts seen out accepted r loads there end
 
 -- or this is how its image was saved
 pub reaches_saved :
-    AcceptedAreSafe → ResolvedAreWhole → (names : List (List ℕ)) (image : List ℕ) (files : FilesSeen) (loaded : FilesTold) (texts : List (List ℕ)) (in_told : Option (List ℕ)) (in_faults : ℕ) (told : SinkTold) (faults : ℕ) (accepted : Accepted) (ended : Ended) →
+    AcceptedAreSafe → ResolvedAreWhole → (names : List (List ℕ)) (image : List ℕ) (files : FilesSeen) (loaded : FilesTold) (texts : List (List ℕ)) (still : ChannelsTold) (accepted : Accepted) (ended : Ended) →
     LoadsGive names limit (until files loaded) texts → (there : AreAccepted texts accepted) → ((P : Program) → StandsForSafe accepted.checked.closed P → Saves P image (since files loaded) ended) →
-    ReachesBy (on_sources names (saving image)) files (still_input in_told in_faults) (still told faults) ended
-reaches_saved law whole names image files loaded texts in_told in_faults told faults accepted ended loads there saves =
+    ReachesBy (on_sources names (saving image)) files (input_seen still still) (output_seen still still) ended
+reaches_saved law whole names image files loaded texts still accepted ended loads there saves =
     let are = there.are_trees in
     inr (record {
       texts = texts;
@@ -136,7 +136,7 @@ reaches_saved law whole names image files loaded texts in_told in_faults told fa
         sources = are.sources;
         are_read = are.are_read;
         sound = accepted_safe law whole texts are.sources are.are_read;
-        ends = inr (record { P = there.P; is = rw (are.come, there.resolves, there.accepts) refl; saves = saves there.P there.stands; unread = record { left = Stays-same in_told; count = refl }; out_is = TookNothing-same told });
+        ends = inr (record { P = there.P; is = rw (are.come, there.resolves, there.accepts) refl; saves = saves there.P there.stands; unread = still_unread still; out_is = TookNothing-same still.output });
       };
     })
 

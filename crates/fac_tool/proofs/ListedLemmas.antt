@@ -9,13 +9,17 @@ use Rattle.fac_lang.specs.declared.program.Program.{Program}
 use Rattle.fac_lang.specs.Phrases.{Value}
 use Rattle.fac_lang.specs.World.{State}
 use Rattle.fac_lang.specs.Eval.{Result as Run, Done, Failed, Spent, Stuck}
+use Rattle.fac_lines.specs.Channels.{ChannelsTold, CountsStand, IsUnread as AreUnread}
+use Rattle.fac_locals.specs.declared.closing.Closed.{Closed}
 use Rattle.fac_tool.specs.declared.ended.Ended.{Ended}
 use Rattle.fac_tool.specs.Answer.{Answer, meaning, of_run, run_answer, stack_answer, shown, stack_lines, lines_if, with_lines}
-use Rattle.fac_tool.specs.SeenObjects.{SinkSeen, InputSeen}
+use Rattle.fac_tool.specs.SeenObjects.{SinkSeen, InputSeen, OnInput, input_seen, output_seen}
 use Rattle.fac_tool.specs.Answers.{NotePart}
-use Rattle.fac_tool.specs.Ends.{Ending, Told, Usage, FileFault, InputFault, WriteFault, TooLong, NoMemory, ending_of, EndsBy, EndsAs, Matches, runs, runs_and_lists, StopsWithin, RunPieces, FaultBehindRun}
-use Rattle.fac_tool.specs.inner.StepEnds.{bare, still}
+use Rattle.fac_tool.specs.Ends.{Ending, Told, Usage, FileFault, InputFault, WriteFault, TooLong, NoMemory, ending_of, EndsBy, EndsAs, Matches, runs, runs_and_lists, StopsWithin, RunPieces, FaultBehindRun, EndsOn}
+use Rattle.fac_tool.specs.inner.StepEnds.{bare, EndsRun}
 use Rattle.fac_tool.specs.inner.ListedStacks.{Lists, ListsStack}
+use Rattle.fac_tool.specs.inner.Stops.{StandsForSafe}
+use Rattle.fac_tool.proofs.InputLemmas.{onward, same_input}
 
 -- a sink from one state to another
 abbrev sink : SinkTold → SinkTold → ℕ → ℕ → SinkSeen
@@ -140,7 +144,22 @@ lists_by P input budget b m n i j k seen left reached ended (Some texts) le is w
     lists_some P input budget b m n i j k seen left reached ended texts le is within (has_stack P input budget (run_answer P input budget) (sink b m i j) seen left reached texts (ending_of reached.status) is ends) h
 
 -- how a run ends behind which the lines of its stack are written
-pub ends_listed :
+ends_listed :
     (P : Program) (input : List ℕ) (budget : ℕ) (b m n : SinkTold) (i j k : ℕ) (seen : InputSeen) (left : List ℕ) (reached ended : Ended) → i ≤ j → StopsWithin P input budget reached.ticks (sink b m i j) →
     EndsAs (run_answer P input budget) (runs P input budget) (sink b m i j) seen left reached → ListsStack reached (sink m n j k) ended → EndsAs (stack_answer P input budget) (runs_and_lists P input budget) (sink b n i k) seen left ended
 ends_listed P input budget b m n i j k seen left reached ended le within ends h = lists_by P input budget b m n i j k seen left reached ended reached.stack le refl within ends h
+
+-- likewise on one input, for each program that a closed one stands for
+pub lists_on :
+    (closed : Closed) (budget : ℕ) (old mid new : ChannelsTold) (reached ended : Ended) → AreUnread mid new → CountsStand old mid →
+    OnInput (input_seen old mid) (λ input left. (P : Program) → StandsForSafe closed P → EndsRun P budget (output_seen old mid) (input_seen old mid) reached input left) → ListsStack reached (output_seen mid new) ended →
+    OnInput (input_seen old new) (λ input left. (P : Program) → StandsForSafe closed P → EndsOn (λ bytes. stack_answer P bytes budget) (λ bytes. runs_and_lists P bytes budget) (output_seen old new) (input_seen old new) ended input left)
+lists_on closed budget old mid new reached ended unread counts ran lists =
+    let out = output_seen old new in
+    subst (λ (seen : InputSeen). OnInput seen (λ input left. (P : Program) → StandsForSafe closed P → EndsOn (λ bytes. stack_answer P bytes budget) (λ bytes. runs_and_lists P bytes budget) out seen ended input left)) (same_input old mid new unread)
+    (onward (λ input left h P stands.
+    let run = h P stands in
+    record {
+      ends = ends_listed P input budget old.output mid.output new.output old.output_faults mid.output_faults new.output_faults (input_seen old mid) left reached ended counts.output run.within run.ends lists;
+      unread = tt;
+    }) ran)

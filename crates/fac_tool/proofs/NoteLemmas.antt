@@ -1,7 +1,8 @@
--- An empty note, of which nothing is written, and endings that are told.
-use Rattle.std.proofs.Common.{◌≡◌, ◌<◌, ℕ, List, [], ◌∷◌, inr, subst, arith}
+-- An empty note and no lines, of which nothing is written, and endings that are told.
+use Rattle.std.proofs.Common.{◌≡◌, ◌<◌, ℕ, List, [], ◌∷◌, Result, Ok, inr, refl, subst, arith}
 use Rattle.std.specs.Prelude.{length}
 use Rattle.fac_io.specs.Told.{SinkTold, TookWhole}
+use Rattle.fac_lines.specs.Channels.{ChannelsTold, TakesPiece}
 use Rattle.fac_tool.specs.declared.ended.Ended.{Ended}
 use Rattle.fac_tool.specs.SeenObjects.{SinkSeen}
 use Rattle.fac_tool.specs.ToldNotes.{memory_note}
@@ -11,6 +12,14 @@ use Rattle.fac_tool.proofs.EarlyEnds.{grows_nothing}
 pub took_no_note : (told : SinkTold) (note : List ℕ) → length note ≡ 0 → TookWhole told told note
 took_no_note told [] e = record { taken = grows_nothing told.taken; pieces = grows_nothing told.pieces }
 took_no_note told (b ∷ bs) e = absurd (omega (arith, e))
+
+pub wrote_no_lines : {A E : Type 0} (told : ChannelsTold) (lines : List ℕ) (done : A) → length lines ≡ 0 → TakesPiece {A = A} {E = E} told told lines (Ok done)
+wrote_no_lines told lines done e = record {
+  took = took_no_note told.output lines e;
+  cause = record { later = omega arith; cause = λ failed. absurd failed };
+  no_fault = refl;
+  unread = record { input = refl; faults = refl };
+}
 
 -- an ending is told by what is equal to its note
 pub told_so :

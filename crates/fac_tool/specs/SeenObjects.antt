@@ -4,8 +4,8 @@ use Rattle.std.specs.declared.option.Option.{Option}
 use Rattle.fac_io.specs.declared.files.Asked.{Asked}
 use Rattle.fac_io.specs.Names.{Held}
 use Rattle.fac_io.specs.Told.{SinkTold, sink_tells, Told, Stays}
+use Rattle.fac_lines.specs.Channels.{ChannelsTold}
 use Rattle.fac_lines.specs.LineAnswers.{bytes_left}
-use Rattle.fac_lines.specs.SeenLines.{LinesSeen}
 
 -- a sink: what it tells of the bytes that it took and of their pieces, and its count of faults, before the call and now
 pub record SinkSeen : Type 0 where
@@ -33,17 +33,22 @@ abbrev pub files_seen : {F : Type 0} → (F → Option Held) → (F → Option (
 files_seen held asked faults old new =
     record { held_before = held old; held_now = held new; asked_before = asked old; asked_now = asked new; faults_before = faults old; faults_now = faults new }
 
--- the lines of an input: the bytes that are left, where that is told, and the count of faults, before the call and now
+-- the input of channels: the bytes that are left, where that is told, and the count of faults, before the call and now
 pub record InputSeen : Type 0 where
   pub before : Option (List ℕ)
   pub now : Option (List ℕ)
   pub faults_before : ℕ
   pub faults_now : ℕ
 
--- lines of a source of some kind, which tells these, as they were and as they are
-abbrev pub input_seen : {S : Type 0} → (S → Option (List ℕ)) → (S → ℕ) → LinesSeen S → LinesSeen S → InputSeen
-input_seen left faults old new =
-    record { before = bytes_left old.kept (left old.source); now = bytes_left new.kept (left new.source); faults_before = faults old.source; faults_now = faults new.source }
+-- the input of channels, as they were and as they are
+abbrev pub input_seen : ChannelsTold → ChannelsTold → InputSeen
+input_seen old new =
+    record { before = bytes_left old.input.kept old.input.left; now = bytes_left new.input.kept new.input.left; faults_before = old.input_faults; faults_now = new.input_faults }
+
+-- their output
+abbrev pub output_seen : ChannelsTold → ChannelsTold → SinkSeen
+output_seen old new =
+    record { before = old.output; now = new.output; faults_before = old.output_faults; faults_now = new.output_faults }
 
 -- where the bytes are told, these were left before, and these are left now
 abbrev pub IsInput : InputSeen → List ℕ → List ℕ → Type 0

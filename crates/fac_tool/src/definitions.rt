@@ -1,14 +1,16 @@
 //! The definitions of a command's files, and the line that tells how many there are.
-ghost use Rattle.std.specs.Prelude.{◌≡◌, ◌≤◌, ℕ, List, IfOk};
+ghost use Rattle.std.specs.Prelude.{◌≡◌, ℕ, List, IfOk};
 ghost use Rattle.std.specs.List.{count_by};
+ghost use Rattle.fac_lines.specs.Channels.{CountsStand, IsUnread};
 ghost use Rattle.fac_tool.specs.Answer.{checked_answer, checked_line as line_of_checked, is_definition as is_defined};
 ghost use Rattle.fac_tool.specs.Ends.{EndsAs, idle};
-ghost use Rattle.fac_tool.specs.SeenObjects.{sink_seen, InputSeen};
+ghost use Rattle.fac_tool.specs.SeenObjects.{output_seen, InputSeen};
 
 use crate::Ended;
 use crate::ended::bare;
 use fac_base::{List, Memory, Text};
-use fac_io::Sink;
+use fac_io::{Sink, Source};
+use fac_lines::Channels;
 use fac_notes::status::{NO_MEMORY, SUCCESS, WRITE_FAULT};
 use fac_source::{Form, has_phrase};
 use std::alloc::Global;
@@ -45,13 +47,18 @@ fn checked_line(alloc: Global, definitions: u64) -> Result<Text, Memory>
 }
 
 /// Tells that files with so many definitions were checked, in one write.
-pub fn tell_checked<K: Sink>(alloc: Global, definitions: u64, out: &mut K) -> Ended
-    ensures ends { (input : List ℕ) (seen : InputSeen) → EndsAs (checked_answer definitions input) idle (sink_seen K.taken K.pieces K.faults out.old out.new) seen input result }
-    ensures counts { K.faults out.old ≤ K.faults out.new }
+pub fn tell_checked<S: Source, K: Sink>(
+    alloc: Global,
+    definitions: u64,
+    channels: &mut Channels<S, K>,
+) -> Ended
+    ensures ends { (input : List ℕ) (seen : InputSeen) → EndsAs (checked_answer definitions input) idle (output_seen channels.old channels.new) seen input result }
+    ensures unread { IsUnread channels.old channels.new }
+    ensures counts { CountsStand channels.old channels.new }
 {
     match checked_line(alloc, definitions) {
         Err(_) => bare(NO_MEMORY, 0),
-        Ok(line) => match out.write(line.as_bytes()) {
+        Ok(line) => match channels.write(line.as_bytes()) {
             Ok(()) => bare(SUCCESS, 0),
             Err(_) => bare(WRITE_FAULT, 0),
         },

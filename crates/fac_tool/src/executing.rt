@@ -1,10 +1,9 @@
 //! The run of an image without its source.
-ghost use Rattle.std.specs.Prelude.{◌≡◌, ◌≤◌, IfOk};
-ghost use Rattle.fac_io.specs.Faults.{HasCause};
-ghost use Rattle.fac_lines.specs.LineAnswers.{AtEnd};
+ghost use Rattle.std.specs.Prelude.{◌≡◌, IfOk};
+ghost use Rattle.fac_lines.specs.Channels.{CountsFaults, CountsStand};
 ghost use Rattle.fac_vm.specs.SeenMachine.{callables_in, held_in};
 ghost use Rattle.fac_tool.specs.Executed.{DoesOnBytes, executed};
-ghost use Rattle.fac_tool.specs.SeenObjects.{input_seen, sink_seen, OnInput};
+ghost use Rattle.fac_tool.specs.SeenObjects.{input_seen, output_seen, OnInput};
 ghost use Rattle.fac_tool.specs.inner.ImageSteps.{IsImageReportOf, MakesMachine, RunsFirst, RunsImage};
 ghost use Rattle.fac_tool.specs.inner.Stops.{IsFresh};
 
@@ -14,7 +13,7 @@ use crate::value_texts::{stack_texts, value_text};
 use crate::{Ended, Report};
 use fac_base::Memory;
 use fac_io::{Sink, Source as Reader};
-use fac_lines::Lines;
+use fac_lines::Channels;
 use fac_notes::name_in_image;
 use fac_notes::status::{INPUT_FAULT, NO_MEMORY, SUCCESS, WRITE_FAULT};
 use fac_vm::{Machine, RunError, Stop, StopKind};
@@ -48,19 +47,17 @@ fn run_first<S: Reader, K: Sink>(
     alloc: Global,
     machine: &mut Machine,
     budget: u64,
-    input: &mut Lines<S>,
-    out: &mut K,
+    channels: &mut Channels<S, K>,
 ) -> Stop
-    requires fresh { IsFresh machine.old }
-    requires at_end { AtEnd input.old.ended (S.left input.old.source) }
-    ensures runs { OnInput (input_seen S.left S.faults input.old input.new) (λ bytes left.
-        RunsFirst machine.old.image budget (callables_in machine.new) (held_in machine.new) result.ticks (sink_seen K.taken K.pieces K.faults out.old out.new) result.what bytes left) }
+    requires { IsFresh machine.old }
+    ensures runs { OnInput (input_seen channels.old channels.new) (λ bytes left.
+        RunsFirst machine.old.image budget (callables_in machine.new) (held_in machine.new) result.ticks (output_seen channels.old channels.new) result.what bytes left) }
     ensures image { machine.new.image ≡ machine.old.image }
-    ensures cause { HasCause (K.faults out.old) (K.faults out.new) (result.what ≡ StopKind.WriteFault) }
-    ensures input_cause { HasCause (S.faults input.old.source) (S.faults input.new.source) (result.what ≡ StopKind.InputFault) }
-    ensures at_end { AtEnd input.new.ended (S.left input.new.source) }
+    ensures faults { CountsFaults channels.old channels.new (result.what ≡ StopKind.InputFault) (result.what ≡ StopKind.WriteFault) }
 {
-    machine.run(alloc, input, out, budget)
+    let stop = machine.run(alloc, channels, budget);
+    channels.nothing_is_behind_the_end();
+    stop
 }
 
 /// Runs a fresh machine for the first time and answers. What is told of the run is told by its image alone.
@@ -68,18 +65,14 @@ pub fn run_image<S: Reader, K: Sink>(
     alloc: Global,
     machine: &mut Machine,
     budget: u64,
-    input: &mut Lines<S>,
-    out: &mut K,
+    channels: &mut Channels<S, K>,
 ) -> Ended
-    requires fresh { IsFresh machine.old }
-    requires at_end { AtEnd input.old.ended (S.left input.old.source) }
-    ensures ends { OnInput (input_seen S.left S.faults input.old input.new)
-        (RunsImage machine.old.image budget (input_seen S.left S.faults input.old input.new) (sink_seen K.taken K.pieces K.faults out.old out.new) result) }
-    ensures at_end { AtEnd input.new.ended (S.left input.new.source) }
-    ensures counts { K.faults out.old ≤ K.faults out.new }
-    ensures input_counts { S.faults input.old.source ≤ S.faults input.new.source }
+    requires { IsFresh machine.old }
+    ensures ends { OnInput (input_seen channels.old channels.new)
+        (RunsImage machine.old.image budget (input_seen channels.old channels.new) (output_seen channels.old channels.new) result) }
+    ensures counts { CountsStand channels.old channels.new }
 {
-    let stop = run_first(alloc, machine, budget, input, out);
+    let stop = run_first(alloc, machine, budget, channels);
     let ticks = stop.ticks;
     match stop.what {
         StopKind::Done => match stack_texts(alloc, machine) {
@@ -114,22 +107,18 @@ fn machine_of_bytes(alloc: Global, bytes: &[u8]) -> Result<Machine, Ended>
     }
 }
 
-/// Runs the image of bytes on the lines of an input with this budget of ticks.
+/// Runs the image of bytes over channels with this budget of ticks.
 pub fn execute<S: Reader, K: Sink>(
     alloc: Global,
     bytes: &[u8],
     budget: u64,
-    input: &mut Lines<S>,
-    out: &mut K,
+    channels: &mut Channels<S, K>,
 ) -> Ended
-    requires { AtEnd input.old.ended (S.left input.old.source) }
-    ensures at_end { AtEnd input.new.ended (S.left input.new.source) }
-    ensures ends { DoesOnBytes (executed budget) bytes.now (input_seen S.left S.faults input.old input.new) (sink_seen K.taken K.pieces K.faults out.old out.new) result }
-    ensures counts { K.faults out.old ≤ K.faults out.new }
-    ensures input_counts { S.faults input.old.source ≤ S.faults input.new.source }
+    ensures ends { DoesOnBytes (executed budget) bytes.now (input_seen channels.old channels.new) (output_seen channels.old channels.new) result }
+    ensures counts { CountsStand channels.old channels.new }
 {
     match machine_of_bytes(alloc, bytes) {
-        Ok(mut machine) => run_image(alloc, &mut machine, budget, input, out),
+        Ok(mut machine) => run_image(alloc, &mut machine, budget, channels),
         Err(ended) => ended,
     }
 }

@@ -1,10 +1,10 @@
 //! The run of an accepted program: its image is run.
-ghost use Rattle.std.specs.Prelude.{◌≡◌, ◌≤◌, IfOk};
+ghost use Rattle.std.specs.Prelude.{IfOk};
 ghost use Rattle.fac_lang.specs.declared.program.Program.{Program as Source};
-ghost use Rattle.fac_lines.specs.LineAnswers.{AtEnd};
+ghost use Rattle.fac_lines.specs.Channels.{CountsStand};
 ghost use Rattle.fac_tool.specs.Answer.{run_answer, stack_answer};
 ghost use Rattle.fac_tool.specs.Ends.{runs, runs_and_lists};
-ghost use Rattle.fac_tool.specs.SeenObjects.{sink_seen, input_seen, OnInput};
+ghost use Rattle.fac_tool.specs.SeenObjects.{input_seen, output_seen, OnInput};
 ghost use Rattle.fac_tool.specs.inner.Stops.{Carried, IsFresh, StandsForSafe};
 ghost use Rattle.fac_tool.specs.inner.StepEnds.{StepsEnd, EndsRun};
 
@@ -17,7 +17,7 @@ use fac_base::Memory;
 use fac_carry::printed_forms_are_equal;
 use fac_check::Checked;
 use fac_io::{Sink, Source as Reader};
-use fac_lines::Lines;
+use fac_lines::Channels;
 use fac_machine::runs_have_one_end;
 use fac_notes::status::NO_MEMORY;
 use fac_vm::Machine;
@@ -28,20 +28,16 @@ fn run_carried<S: Reader, K: Sink>(
     alloc: Global,
     machine: &mut Machine,
     budget: u64,
-    input: &mut Lines<S>,
-    out: &mut K,
+    channels: &mut Channels<S, K>,
 ) -> Ended
-    requires fresh { IsFresh machine.old }
-    requires at_end { AtEnd input.old.ended (S.left input.old.source) }
-    ensures ends { OnInput (input_seen S.left S.faults input.old input.new) (λ bytes left. (P : Source) → Carried P machine.old.image →
-        EndsRun P budget (sink_seen K.taken K.pieces K.faults out.old out.new) (input_seen S.left S.faults input.old input.new) result bytes left) }
-    ensures counts { K.faults out.old ≤ K.faults out.new }
-    ensures input_counts { S.faults input.old.source ≤ S.faults input.new.source }
-    ensures at_end { AtEnd input.new.ended (S.left input.new.source) }
+    requires { IsFresh machine.old }
+    ensures ends { OnInput (input_seen channels.old channels.new) (λ bytes left. (P : Source) → Carried P machine.old.image →
+        EndsRun P budget (output_seen channels.old channels.new) (input_seen channels.old channels.new) result bytes left) }
+    ensures counts { CountsStand channels.old channels.new }
 {
     runs_have_one_end();
     printed_forms_are_equal();
-    run_image(alloc, machine, budget, input, out)
+    run_image(alloc, machine, budget, channels)
 }
 
 // A fresh machine for an accepted program.
@@ -56,24 +52,20 @@ fn machine_of(alloc: Global, checked: &Checked) -> Result<Machine, Memory>
     }
 }
 
-/// Compiles an accepted program and runs it on the lines of an input with this budget of ticks.
+/// Compiles an accepted program and runs it over channels with this budget of ticks.
 pub fn run_program<S: Reader, K: Sink>(
     alloc: Global,
     checked: &Checked,
     budget: u64,
-    input: &mut Lines<S>,
-    out: &mut K,
+    channels: &mut Channels<S, K>,
 ) -> Result<Ended, Ended>
-    requires stands { (P : Source) × StandsForSafe checked.now.closed P }
-    requires at_end { AtEnd input.old.ended (S.left input.old.source) }
-    ensures ends { OnInput (input_seen S.left S.faults input.old input.new) (λ bytes left. (P : Source) → StandsForSafe checked.now.closed P →
-        StepsEnd (λ bytes. run_answer P bytes budget) (λ bytes. runs P bytes budget) (sink_seen K.taken K.pieces K.faults out.old out.new) (input_seen S.left S.faults input.old input.new) result bytes left) }
-    ensures counts { K.faults out.old ≤ K.faults out.new }
-    ensures input_counts { S.faults input.old.source ≤ S.faults input.new.source }
-    ensures at_end { AtEnd input.new.ended (S.left input.new.source) }
+    requires { (P : Source) × StandsForSafe checked.now.closed P }
+    ensures ends { OnInput (input_seen channels.old channels.new) (λ bytes left. (P : Source) → StandsForSafe checked.now.closed P →
+        StepsEnd (λ bytes. run_answer P bytes budget) (λ bytes. runs P bytes budget) (output_seen channels.old channels.new) (input_seen channels.old channels.new) result bytes left) }
+    ensures counts { CountsStand channels.old channels.new }
 {
     match machine_of(alloc, checked) {
-        Ok(mut machine) => Ok(run_carried(alloc, &mut machine, budget, input, out)),
+        Ok(mut machine) => Ok(run_carried(alloc, &mut machine, budget, channels)),
         Err(_) => Err(bare(NO_MEMORY, 0)),
     }
 }
@@ -83,21 +75,17 @@ pub fn run_and_list<S: Reader, K: Sink>(
     alloc: Global,
     checked: &Checked,
     budget: u64,
-    input: &mut Lines<S>,
-    out: &mut K,
+    channels: &mut Channels<S, K>,
 ) -> Result<Ended, Ended>
-    requires stands { (P : Source) × StandsForSafe checked.now.closed P }
-    requires at_end { AtEnd input.old.ended (S.left input.old.source) }
-    ensures ends { OnInput (input_seen S.left S.faults input.old input.new) (λ bytes left. (P : Source) → StandsForSafe checked.now.closed P →
-        StepsEnd (λ bytes. stack_answer P bytes budget) (λ bytes. runs_and_lists P bytes budget) (sink_seen K.taken K.pieces K.faults out.old out.new) (input_seen S.left S.faults input.old input.new) result bytes left) }
-    ensures counts { K.faults out.old ≤ K.faults out.new }
-    ensures input_counts { S.faults input.old.source ≤ S.faults input.new.source }
-    ensures at_end { AtEnd input.new.ended (S.left input.new.source) }
+    requires { (P : Source) × StandsForSafe checked.now.closed P }
+    ensures ends { OnInput (input_seen channels.old channels.new) (λ bytes left. (P : Source) → StandsForSafe checked.now.closed P →
+        StepsEnd (λ bytes. stack_answer P bytes budget) (λ bytes. runs_and_lists P bytes budget) (output_seen channels.old channels.new) (input_seen channels.old channels.new) result bytes left) }
+    ensures counts { CountsStand channels.old channels.new }
 {
     match machine_of(alloc, checked) {
         Ok(mut machine) => {
-            let ended = run_carried(alloc, &mut machine, budget, input, out);
-            Ok(list_stack(alloc, ended, out))
+            let ended = run_carried(alloc, &mut machine, budget, channels);
+            Ok(list_stack(alloc, ended, channels))
         }
         Err(_) => Err(bare(NO_MEMORY, 0)),
     }

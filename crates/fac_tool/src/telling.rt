@@ -86,8 +86,8 @@ fn write_note<N: Sink>(notes: &mut N, note: &[u8]) -> Result<(), Failed>
     notes.write(note)
 }
 
-/// Tells an ending by this note, in one write, or by none where it is empty.
-pub fn tell_by<N: Sink>(note: &[u8], reached: Ended, notes: &mut N) -> Ended
+// Tells an ending by this note, in one write, or by none where it is empty.
+fn tell_by<N: Sink>(note: &[u8], reached: Ended, notes: &mut N) -> Ended
     ensures told { TellsBy note.now reached (sink_seen N.taken N.pieces N.faults notes.old notes.new) result }
     ensures counts { N.faults notes.old ≤ N.faults notes.new }
 {

@@ -1,18 +1,17 @@
 //! The top call.
 ghost use Rattle.std.specs.Prelude.{◌≡◌, ◌⊎◌, None, map, string_bytes};
 ghost use Rattle.fac_io.specs.Faults.{Rose};
-ghost use Rattle.fac_lines.specs.LineAnswers.{AtEnd};
 ghost use Rattle.fac_notes.specs.declared.status.TheConstants.{NO_COMMAND, FILE_FAULT, INPUT_FAULT, WRITE_FAULT};
 ghost use Rattle.fac_command.specs.Command.{command_of};
 ghost use Rattle.fac_command.specs.SeenCommands.{command_seen};
-ghost use Rattle.fac_tool.specs.SeenObjects.{sink_seen, files_seen, input_seen};
+ghost use Rattle.fac_tool.specs.SeenObjects.{files_seen, input_seen, output_seen, sink_seen};
 ghost use Rattle.fac_tool.specs.Answers.{Answers, Works};
 
 use crate::telling::{tell, tell_usage};
 use crate::work::work;
 use crate::{Command, Ended, read_words};
 use fac_io::{Files, Sink, Source};
-use fac_lines::Lines;
+use fac_lines::Channels;
 use std::alloc::Global;
 
 // Does the work of a command, and tells how it ended.
@@ -20,20 +19,17 @@ fn work_and_tell<F: Files, S: Source, K: Sink, N: Sink>(
     alloc: Global,
     command: Command<'_>,
     files: &mut F,
-    input: &mut Lines<S>,
-    out: &mut K,
+    channels: &mut Channels<S, K>,
     notes: &mut N,
 ) -> Ended
-    requires { AtEnd input.old.ended (S.left input.old.source) }
-    ensures at_end { AtEnd input.new.ended (S.left input.new.source) }
-    ensures works { Works (command_seen command.entry)
+    ensures { Works (command_seen command.entry)
         (files_seen F.held F.asked F.faults files.old files.new)
-        (input_seen S.left S.faults input.old input.new)
-        (sink_seen K.taken K.pieces K.faults out.old out.new)
+        (input_seen channels.old channels.new)
+        (output_seen channels.old channels.new)
         (sink_seen N.taken N.pieces N.faults notes.old notes.new)
         result }
 {
-    let reached = work(alloc, command, files, input, out);
+    let reached = work(alloc, command, files, channels);
     tell(alloc, command.files(), reached, notes)
 }
 
@@ -42,22 +38,19 @@ fn answer<F: Files, S: Source, K: Sink, N: Sink>(
     alloc: Global,
     words: &[String],
     files: &mut F,
-    input: &mut Lines<S>,
-    out: &mut K,
+    channels: &mut Channels<S, K>,
     notes: &mut N,
 ) -> Ended
-    requires { AtEnd input.old.ended (S.left input.old.source) }
-    ensures at_end { AtEnd input.new.ended (S.left input.new.source) }
-    ensures answers { Answers (map string_bytes words.now)
+    ensures { Answers (map string_bytes words.now)
         (files_seen F.held F.asked F.faults files.old files.new)
-        (input_seen S.left S.faults input.old input.new)
-        (sink_seen K.taken K.pieces K.faults out.old out.new)
+        (input_seen channels.old channels.new)
+        (output_seen channels.old channels.new)
         (sink_seen N.taken N.pieces N.faults notes.old notes.new)
         result }
 {
     match read_words(words) {
         None => tell_usage(notes),
-        Some(command) => work_and_tell(alloc, command, files, input, out, notes),
+        Some(command) => work_and_tell(alloc, command, files, channels, notes),
     }
 }
 
@@ -77,27 +70,23 @@ pub fn factor_top<F: Files, S: Source, K: Sink, N: Sink>(
     alloc: Global,
     words: &[String],
     files: &mut F,
-    input: &mut Lines<S>,
-    out: &mut K,
+    channels: &mut Channels<S, K>,
     notes: &mut N,
 ) -> Ended
-    // Where it is known that the input has ended, its source has nothing left. This holds behind the call too.
-    requires { AtEnd input.old.ended (S.left input.old.source) }
-    ensures at_end { AtEnd input.new.ended (S.left input.new.source) }
     // The status, the ticks, the stack, the refusal, the output in its pieces, what is left of the input, and the note, by the command, the bytes
     // of its files and the input.
     ensures answer { Answers (map string_bytes words.now)
         (files_seen F.held F.asked F.faults files.old files.new)
-        (input_seen S.left S.faults input.old input.new)
-        (sink_seen K.taken K.pieces K.faults out.old out.new)
+        (input_seen channels.old channels.new)
+        (output_seen channels.old channels.new)
         (sink_seen N.taken N.pieces N.faults notes.old notes.new)
         result }
 
     // The causes, each by itself. They follow from `answer`.
     ensures usage { result.status ≡ NO_COMMAND → command_of (map string_bytes words.now) ≡ None }
     ensures file_fault { result.status ≡ FILE_FAULT → Rose (F.faults files.old) (F.faults files.new) }
-    ensures input_fault { result.status ≡ INPUT_FAULT → Rose (S.faults input.old.source) (S.faults input.new.source) }
-    ensures write_fault { result.status ≡ WRITE_FAULT → Rose (K.faults out.old) (K.faults out.new) ⊎ Rose (N.faults notes.old) (N.faults notes.new) }
+    ensures input_fault { result.status ≡ INPUT_FAULT → Rose channels.old.input_faults channels.new.input_faults }
+    ensures write_fault { result.status ≡ WRITE_FAULT → Rose channels.old.output_faults channels.new.output_faults ⊎ Rose (N.faults notes.old) (N.faults notes.new) }
 {
-    answer(alloc, words, files, input, out, notes)
+    answer(alloc, words, files, channels, notes)
 }

@@ -1,16 +1,15 @@
 //! The work of a command, as a list of steps: each gives a result for the next one, or an ending of the work.
-ghost use Rattle.std.specs.Prelude.{◌≡◌, ◌≤◌, ℕ, List, Option, Some, map, string_bytes};
+ghost use Rattle.std.specs.Prelude.{◌≤◌, Some, map, string_bytes};
 ghost use Rattle.fac_command.specs.SeenCommands.{command_seen};
-ghost use Rattle.fac_io.specs.Told.{SinkTold};
 ghost use Rattle.fac_lang.specs.declared.program.Program.{Program as Source};
-ghost use Rattle.fac_lines.specs.LineAnswers.{AtEnd};
+ghost use Rattle.fac_lines.specs.Channels.{ChannelsTold, CountsStand};
 ghost use Rattle.fac_tool.specs.Answers.{Reaches, ReachesBy};
 ghost use Rattle.fac_tool.specs.Ends.{work_of};
 ghost use Rattle.fac_tool.specs.Executed.{executed, listed};
 ghost use Rattle.fac_tool.specs.Plans.{on_image, on_sources, plan_of, saving};
-ghost use Rattle.fac_tool.specs.SeenObjects.{sink_seen, files_seen, input_seen, OnInput};
+ghost use Rattle.fac_tool.specs.SeenObjects.{files_seen, input_seen, output_seen, OnInput};
 ghost use Rattle.fac_tool.specs.inner.Stops.{StandsForSafe};
-ghost use Rattle.fac_tool.specs.inner.StepEnds.{StepsEnd, ended_by, still, still_input};
+ghost use Rattle.fac_tool.specs.inner.StepEnds.{StepsEnd, ended_by};
 ghost use Rattle.fac_tool.specs.inner.Tasks.{task_seen};
 
 use crate::accepting::{Accepted, accepted_program};
@@ -24,7 +23,7 @@ use crate::{Command, Ended};
 use fac_base::limits::MOST_IMAGE_BYTES;
 use fac_check::accepted_programs_are_safe;
 use fac_io::{Files, Sink, Source as Reader};
-use fac_lines::Lines;
+use fac_lines::Channels;
 use fac_names::resolved_programs_are_whole;
 use std::alloc::Global;
 
@@ -44,21 +43,17 @@ fn carry_out<S: Reader, K: Sink>(
     alloc: Global,
     task: Task,
     accepted: &Accepted,
-    input: &mut Lines<S>,
-    out: &mut K,
+    channels: &mut Channels<S, K>,
 ) -> Result<Ended, Ended>
-    requires stands { (P : Source) × StandsForSafe accepted.now.checked.closed P }
-    requires at_end { AtEnd input.old.ended (S.left input.old.source) }
-    ensures ends { OnInput (input_seen S.left S.faults input.old input.new) (λ bytes left. (P : Source) → StandsForSafe accepted.now.checked.closed P →
-        StepsEnd ((task_seen task).answer accepted.now.definitions P) (work_of (task_seen task).work (Some P)) (sink_seen K.taken K.pieces K.faults out.old out.new) (input_seen S.left S.faults input.old input.new) result bytes left) }
-    ensures counts { K.faults out.old ≤ K.faults out.new }
-    ensures input_counts { S.faults input.old.source ≤ S.faults input.new.source }
-    ensures at_end { AtEnd input.new.ended (S.left input.new.source) }
+    requires { (P : Source) × StandsForSafe accepted.now.checked.closed P }
+    ensures ends { OnInput (input_seen channels.old channels.new) (λ bytes left. (P : Source) → StandsForSafe accepted.now.checked.closed P →
+        StepsEnd ((task_seen task).answer accepted.now.definitions P) (work_of (task_seen task).work (Some P)) (output_seen channels.old channels.new) (input_seen channels.old channels.new) result bytes left) }
+    ensures counts { CountsStand channels.old channels.new }
 {
     match task {
-        Task::Check => Ok(tell_checked(alloc, accepted.definitions, out)),
-        Task::Run(budget) => run_program(alloc, &accepted.checked, budget, input, out),
-        Task::RunStack(budget) => run_and_list(alloc, &accepted.checked, budget, input, out),
+        Task::Check => Ok(tell_checked(alloc, accepted.definitions, channels)),
+        Task::Run(budget) => run_program(alloc, &accepted.checked, budget, channels),
+        Task::RunStack(budget) => run_and_list(alloc, &accepted.checked, budget, channels),
     }
 }
 
@@ -68,21 +63,17 @@ fn steps<F: Files, S: Reader, K: Sink>(
     task: Task,
     names: &[String],
     files: &mut F,
-    input: &mut Lines<S>,
-    out: &mut K,
+    channels: &mut Channels<S, K>,
 ) -> Result<Ended, Ended>
-    requires { AtEnd input.old.ended (S.left input.old.source) }
     ensures files_count { F.faults files.old ≤ F.faults files.new }
-    ensures input_count { S.faults input.old.source ≤ S.faults input.new.source }
-    ensures at_end { AtEnd input.new.ended (S.left input.new.source) }
-    ensures out_count { K.faults out.old ≤ K.faults out.new }
-    ensures ending { ReachesBy (on_sources (map string_bytes names.now) (task_seen task)) (files_seen F.held F.asked F.faults files.old files.new) (input_seen S.left S.faults input.old input.new) (sink_seen K.taken K.pieces K.faults out.old out.new) (ended_by result) }
+    ensures counts { CountsStand channels.old channels.new }
+    ensures ending { ReachesBy (on_sources (map string_bytes names.now) (task_seen task)) (files_seen F.held F.asked F.faults files.old files.new) (input_seen channels.old channels.new) (output_seen channels.old channels.new) (ended_by result) }
 {
     accepted_programs_are_safe();
     resolved_programs_are_whole();
     let texts = load_all(alloc, names, files)?;
     let accepted = accepted_program(alloc, texts)?;
-    carry_out(alloc, task, &accepted, input, out)
+    carry_out(alloc, task, &accepted, channels)
 }
 
 // The steps of `build` on the sources of these names, whose image has this one.
@@ -93,8 +84,8 @@ fn build_steps<F: Files>(
     files: &mut F,
 ) -> Result<Ended, Ended>
     ensures files_count { F.faults files.old ≤ F.faults files.new }
-    ensures ending { (in_told : Option (List ℕ)) → (in_faults : ℕ) → (told : SinkTold) → (faults : ℕ) →
-        ReachesBy (on_sources (map string_bytes names.now) (saving image.now)) (files_seen F.held F.asked F.faults files.old files.new) (still_input in_told in_faults) (still told faults) (ended_by result) }
+    ensures ending { (still : ChannelsTold) →
+        ReachesBy (on_sources (map string_bytes names.now) (saving image.now)) (files_seen F.held F.asked F.faults files.old files.new) (input_seen still still) (output_seen still still) (ended_by result) }
 {
     accepted_programs_are_safe();
     resolved_programs_are_whole();
@@ -109,33 +100,29 @@ fn execute_steps<F: Files, S: Reader, K: Sink>(
     name: &str,
     budget: u64,
     files: &mut F,
-    input: &mut Lines<S>,
-    out: &mut K,
+    channels: &mut Channels<S, K>,
 ) -> Result<Ended, Ended>
-    requires { AtEnd input.old.ended (S.left input.old.source) }
     ensures files_count { F.faults files.old ≤ F.faults files.new }
-    ensures input_count { S.faults input.old.source ≤ S.faults input.new.source }
-    ensures at_end { AtEnd input.new.ended (S.left input.new.source) }
-    ensures out_count { K.faults out.old ≤ K.faults out.new }
-    ensures ending { ReachesBy (on_image name.now (executed budget)) (files_seen F.held F.asked F.faults files.old files.new) (input_seen S.left S.faults input.old input.new) (sink_seen K.taken K.pieces K.faults out.old out.new) (ended_by result) }
+    ensures counts { CountsStand channels.old channels.new }
+    ensures ending { ReachesBy (on_image name.now (executed budget)) (files_seen F.held F.asked F.faults files.old files.new) (input_seen channels.old channels.new) (output_seen channels.old channels.new) (ended_by result) }
 {
     let bytes = load_one(alloc, name, MOST_IMAGE_BYTES, files)?;
-    Ok(execute(alloc, bytes.as_slice(), budget, input, out))
+    Ok(execute(alloc, bytes.as_slice(), budget, channels))
 }
 
 // The steps of `list` on the image of this name.
-fn list_steps<F: Files, K: Sink>(
+fn list_steps<F: Files, S: Reader, K: Sink>(
     alloc: Global,
     name: &str,
     files: &mut F,
-    out: &mut K,
+    channels: &mut Channels<S, K>,
 ) -> Result<Ended, Ended>
     ensures files_count { F.faults files.old ≤ F.faults files.new }
-    ensures out_count { K.faults out.old ≤ K.faults out.new }
-    ensures ending { (in_told : Option (List ℕ)) → (in_faults : ℕ) → ReachesBy (on_image name.now listed) (files_seen F.held F.asked F.faults files.old files.new) (still_input in_told in_faults) (sink_seen K.taken K.pieces K.faults out.old out.new) (ended_by result) }
+    ensures counts { CountsStand channels.old channels.new }
+    ensures ending { ReachesBy (on_image name.now listed) (files_seen F.held F.asked F.faults files.old files.new) (input_seen channels.old channels.new) (output_seen channels.old channels.new) (ended_by result) }
 {
     let bytes = load_one(alloc, name, MOST_IMAGE_BYTES, files)?;
-    Ok(list_image(alloc, bytes.as_slice(), out))
+    Ok(list_image(alloc, bytes.as_slice(), channels))
 }
 
 // Does what a command asks for.
@@ -143,26 +130,22 @@ fn command_steps<F: Files, S: Reader, K: Sink>(
     alloc: Global,
     command: Command<'_>,
     files: &mut F,
-    input: &mut Lines<S>,
-    out: &mut K,
+    channels: &mut Channels<S, K>,
 ) -> Result<Ended, Ended>
-    requires { AtEnd input.old.ended (S.left input.old.source) }
     ensures files_count { F.faults files.old ≤ F.faults files.new }
-    ensures input_count { S.faults input.old.source ≤ S.faults input.new.source }
-    ensures at_end { AtEnd input.new.ended (S.left input.new.source) }
-    ensures out_count { K.faults out.old ≤ K.faults out.new }
-    ensures ending { ReachesBy (plan_of (command_seen command.entry)) (files_seen F.held F.asked F.faults files.old files.new) (input_seen S.left S.faults input.old input.new) (sink_seen K.taken K.pieces K.faults out.old out.new) (ended_by result) }
+    ensures counts { CountsStand channels.old channels.new }
+    ensures ending { ReachesBy (plan_of (command_seen command.entry)) (files_seen F.held F.asked F.faults files.old files.new) (input_seen channels.old channels.new) (output_seen channels.old channels.new) (ended_by result) }
 {
     match command {
-        Command::Check { files: names } => steps(alloc, Task::Check, names, files, input, out),
+        Command::Check { files: names } => steps(alloc, Task::Check, names, files, channels),
         Command::Run {
             steps: budget,
             files: names,
-        } => steps(alloc, Task::Run(budget), names, files, input, out),
+        } => steps(alloc, Task::Run(budget), names, files, channels),
         Command::RunStack {
             steps: budget,
             files: names,
-        } => steps(alloc, Task::RunStack(budget), names, files, input, out),
+        } => steps(alloc, Task::RunStack(budget), names, files, channels),
         Command::Build {
             files: names,
             image,
@@ -170,8 +153,8 @@ fn command_steps<F: Files, S: Reader, K: Sink>(
         Command::Exec {
             steps: budget,
             image,
-        } => execute_steps(alloc, image, budget, files, input, out),
-        Command::List { image } => list_steps(alloc, image, files, out),
+        } => execute_steps(alloc, image, budget, files, channels),
+        Command::List { image } => list_steps(alloc, image, files, channels),
     }
 }
 
@@ -180,14 +163,11 @@ pub fn work<F: Files, S: Reader, K: Sink>(
     alloc: Global,
     command: Command<'_>,
     files: &mut F,
-    input: &mut Lines<S>,
-    out: &mut K,
+    channels: &mut Channels<S, K>,
 ) -> Ended
-    requires { AtEnd input.old.ended (S.left input.old.source) }
-    ensures at_end { AtEnd input.new.ended (S.left input.new.source) }
-    ensures reaches { Reaches (command_seen command.entry) (files_seen F.held F.asked F.faults files.old files.new) (input_seen S.left S.faults input.old input.new) (sink_seen K.taken K.pieces K.faults out.old out.new) result }
+    ensures { Reaches (command_seen command.entry) (files_seen F.held F.asked F.faults files.old files.new) (input_seen channels.old channels.new) (output_seen channels.old channels.new) result }
 {
-    match command_steps(alloc, command, files, input, out) {
+    match command_steps(alloc, command, files, channels) {
         Ok(ended) => ended,
         Err(ended) => ended,
     }

@@ -13,7 +13,6 @@ use Rattle.fac_notes.specs.declared.report.ByteFault.TheVariants as byte
 use Rattle.fac_notes.specs.declared.report.Report.{Report}
 use Rattle.fac_notes.specs.declared.report.Report.TheVariants as report
 use Rattle.fac_notes.specs.Statuses.{status_of}
-use Rattle.std.specs.declared.option.Option.{Option}
 use Rattle.fac_tool.specs.declared.ended.Ended.{Ended}
 use Rattle.fac_tool.specs.declared.accepting.Accepted.{Accepted}
 use Rattle.fac_tool.specs.Answer.{Answer, OnAccepted, Source, trees, together, come_to, answer_on, limit, own_definitions, run_answer}
@@ -50,10 +49,6 @@ tree_ending file parse.Memory = bare NO_MEMORY 0
 -- a sink that stays as it was
 abbrev pub still : SinkTold → ℕ → SinkSeen
 still told faults = record { before = told; now = told; faults_before = faults; faults_now = faults }
-
--- an input that stays as it was
-abbrev pub still_input : Option (List ℕ) → ℕ → InputSeen
-still_input told faults = record { before = told; now = told; faults_before = faults; faults_now = faults }
 
 -- an ending before anything is read or written, whatever the work was to be and on whatever input: the answer, or want of memory
 abbrev pub EndsEarly : (List ℕ → Answer) → Ended → Type 0

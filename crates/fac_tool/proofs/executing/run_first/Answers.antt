@@ -1,13 +1,13 @@
 use Rattle.fac_vm.specs.SeenMachine.{callables_in, held_in}
-use Rattle.fac_tool.specs.SeenObjects.{sink_seen}
-use Rattle.fac_tool.proofs.InputLemmas.{onward, on_lines}
+use Rattle.fac_tool.specs.SeenObjects.{output_seen}
+use Rattle.fac_tool.proofs.InputLemmas.{onward, on_channels}
 use Rattle.fac_tool.proofs.ExecutedLemmas.{runs_first}
 use Rattle.fac_tool.proofs.executing.run_first.Goals as goal
 
 pub returns-clause-runs : goal.returns-clause-runs
 returns-clause-runs g c =
-    let old = c.args.input.now in
-    let new = c.run.new.input in
-    let out = sink_seen g.K.Sink.taken g.K.Sink.pieces g.K.Sink.faults c.args.out.now c.run.new.out in
-    onward (λ input left h. runs_first c.args.machine.now c.args.budget (callables_in c.run.new.self) (held_in c.run.new.self) c.run.result.ticks out c.run.result.what input left c.requires.fresh c.run.ensures.within h)
-    (on_lines (g.S.Source.left old.source) (g.S.Source.left new.source) old.kept new.kept new.ended (g.S.Source.faults old.source) (g.S.Source.faults new.source) c.run.ensures.at_end c.run.ensures.runs)
+    let run = c.run-stop in
+    let old = c.args.channels.now in
+    let new = run.new.channels in
+    onward (λ input left h. runs_first c.args.machine.now c.args.budget (callables_in run.new.self) (held_in run.new.self) run.result.ticks (output_seen old new) run.result.what input left c.requires run.ensures.within h)
+    (on_channels old new c.nothing_is_behind_the_end.ensures run.ensures.runs)

@@ -1,4 +1,4 @@
-use Rattle.fac_tool.specs.SeenObjects.{sink_seen, input_seen}
+use Rattle.fac_tool.specs.SeenObjects.{output_seen, input_seen}
 use Rattle.fac_tool.proofs.InputLemmas.{onward}
 use Rattle.fac_tool.proofs.ExecutedLemmas.{done_on, failed_execution, spent_execution, trap_execution, input_fault_execution, write_fault_execution, memory_execution, no_stack_texts, no_report}
 use Rattle.fac_tool.proofs.executing.run_image.Goals as goal
@@ -7,8 +7,8 @@ pub returns-in-Ok-clause-ends : goal.returns-in-Ok-clause-ends
 returns-in-Ok-clause-ends g c =
     let stop = c.run_first-stop in
     let image = c.args.machine.now.image in
-    let seen = input_seen g.S.Source.left g.S.Source.faults c.args.input.now stop.new.input in
-    let out = sink_seen g.K.Sink.taken g.K.Sink.pieces g.K.Sink.faults c.args.out.now stop.new.out in
+    let seen = input_seen c.args.channels.now stop.new.channels in
+    let out = output_seen c.args.channels.now stop.new.channels in
     done_on image stop.new.machine c.args.budget stop.result.ticks seen out c.in-Ok.texts stop.result.what stop.ensures.image c.in-Ok.ensures c.in-Done.is stop.ensures.runs
 
 pub returns-in-Err-clause-ends : goal.returns-in-Err-clause-ends
@@ -41,13 +41,13 @@ returns-in-Trap-clause-ends g c =
 pub returns-in-InputFault-clause-ends : goal.returns-in-InputFault-clause-ends
 returns-in-InputFault-clause-ends g c =
     let stop = c.run_first-stop in
-    let rose = stop.ensures.input_cause.cause c.in-InputFault.is in
+    let rose = stop.ensures.faults.input.cause c.in-InputFault.is in
     onward (λ input left h. input_fault_execution _ stop.new.machine c.args.budget stop.result.ticks _ _ input left stop.result.what _ c.in-InputFault.is rose c.bare-in-InputFault.ensures h) stop.ensures.runs
 
 pub returns-in-WriteFault-clause-ends : goal.returns-in-WriteFault-clause-ends
 returns-in-WriteFault-clause-ends g c =
     let stop = c.run_first-stop in
-    let rose = stop.ensures.cause.cause c.in-WriteFault.is in
+    let rose = stop.ensures.faults.output.cause c.in-WriteFault.is in
     onward (λ input left h. write_fault_execution _ stop.new.machine c.args.budget stop.result.ticks _ _ input left stop.result.what _ c.in-WriteFault.is rose c.bare-in-WriteFault.ensures h) stop.ensures.runs
 
 pub returns-in-Memory-clause-ends : goal.returns-in-Memory-clause-ends

@@ -11,5 +11,5 @@ returns-in-Ok-clause-ends g c =
 
 pub returns-in-Err-clause-ends : goal.returns-in-Err-clause-ends
 returns-in-Err-clause-ends g c =
-    on_still _ _ (λ input P stands.
+    on_still c.args.channels.now (λ input P stands.
     no_memory_before_run (λ (bytes : List ℕ). run_answer P bytes c.args.budget) (λ (bytes : List ℕ). runs P bytes c.args.budget) _ _ _ c.bare.result input c.bare.ensures tt)

@@ -5,7 +5,7 @@ use Rattle.fac_tool.proofs.work.execute_steps.Goals as goal
 
 pub returns-in_err-bytes-clause-ending : goal.returns-in_err-bytes-clause-ending
 returns-in_err-bytes-clause-ending g c =
-    reaches_no_texts (on_image c.args.name.now (executed c.args.budget)) _ _ _ _ _ c.from_residual.result _ c.from_residual.ensures.1 c.in_err-bytes.ensures.loads
+    reaches_no_texts (on_image c.args.name.now (executed c.args.budget)) _ c.args.channels.now c.from_residual.result _ c.from_residual.ensures.1 c.in_err-bytes.ensures.loads
 
 pub returns-clause-ending : goal.returns-clause-ending
 returns-clause-ending g c =
