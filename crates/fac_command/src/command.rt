@@ -7,6 +7,9 @@ ghost use Rattle.fac_command.specs.SeenCommands.{command_seen};
 
 use fac_base::limits::{MOST_STEPS, MOST_STEPS_DIGITS, TICKS};
 
+/// What is told where the words of a command line meet no form. It has the commands, also some that are to come.
+pub const USAGE: &str = "usage: factorc check, run, build, exec, list, listen or gen\n";
+
 /// What the words of a command line ask for. The files and the image of a command are words of the command line.
 #[derive(Clone, Copy, Debug, PartialEq, Eq)]
 pub enum Command<'a> {

@@ -3,4 +3,4 @@
 
 mod command;
 
-pub use command::{Command, read_words};
+pub use command::{Command, USAGE, read_words};

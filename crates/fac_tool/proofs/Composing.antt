@@ -103,10 +103,12 @@ reaches_early law whole names task files texts still (Err other) ended same load
 
 -- or their program was accepted, and this is how the task ended that was carried out on it
 pub reaches_end :
-    AcceptedAreSafe → ResolvedAreWhole → (names : List (List ℕ)) (task : Task) (files : FilesSeen) (texts : List (List ℕ)) (seen : InputSeen) (out : SinkSeen) (accepted : Accepted) (r : Result Ended Ended) →
-    LoadsGive names limit files texts → (there : AreAccepted texts accepted) →
-    OnInput seen (λ input left. (P : Program) → StandsForSafe accepted.checked.closed P → StepsEnd (task.answer accepted.definitions P) (work_of task.work (Some P)) out seen r input left) → ReachesBy (on_sources names task) files seen out (ended_by r)
-reaches_end law whole names task files texts seen out accepted r loads there ends =
+    AcceptedAreSafe → ResolvedAreWhole → (names : List (List ℕ)) (task : Task) (files : FilesSeen) (texts : List (List ℕ)) (before now : ChannelsTold) (accepted : Accepted) (r : Result Ended Ended) →
+    LoadsGive names limit files texts → (there : AreAccepted texts accepted) → StepsEnd accepted.checked.closed (task.answer accepted.definitions) task.work before now r →
+    ReachesBy (on_sources names task) files (input_seen before now) (output_seen before now) (ended_by r)
+reaches_end law whole names task files texts before now accepted r loads there ends =
+    let seen = input_seen before now in
+    let out = output_seen before now in
     let are = there.are_trees in
     let carried : OnInput seen (EndsOn (task.answer accepted.definitions there.P) (work_of task.work (Some there.P)) out seen (ended_by r)) = onward (λ input left h. h there.P there.stands) ends in
     let counted = subst (λ (n : ℕ). OnInput seen (EndsOn (task.answer n there.P) (work_of task.work (Some there.P)) out seen (ended_by r))) there.count carried in

@@ -2,6 +2,7 @@
 use Rattle.std.specs.Prelude.{◌==◌, ℕ, List, [], ◌++◌, None, Some, codes, decimal, if◌then◌else◌}
 use Rattle.std.specs.declared.option.Option.{Option}
 use Rattle.fac_notes.specs.declared.status.TheConstants.{INPUT_FAULT, WRITE_FAULT, NO_MEMORY}
+use Rattle.fac_command.specs.declared.command.TheConstants.{USAGE}
 use Rattle.fac_notes.specs.declared.report.Report.{Report}
 use Rattle.fac_notes.specs.Notes.{line_of}
 
@@ -9,7 +10,7 @@ abbrev pub memory_note : List ℕ
 memory_note = codes "out of memory\n"
 
 abbrev pub usage_note : List ℕ
-usage_note = codes "usage: factorc check, run, build, exec, list, listen or gen\n"
+usage_note = USAGE.now
 
 abbrev pub input_fault_note : ℕ → List ℕ
 input_fault_note ticks = codes "input fault after " ++ decimal ticks ++ codes " ticks\n"

@@ -60,8 +60,7 @@ pub fn run_program<S: Reader, K: Sink>(
     channels: &mut Channels<S, K>,
 ) -> Result<Ended, Ended>
     requires { (P : Source) × StandsForSafe checked.now.closed P }
-    ensures ends { OnInput (input_seen channels.old channels.new) (λ bytes left. (P : Source) → StandsForSafe checked.now.closed P →
-        StepsEnd (λ bytes. run_answer P bytes budget) (λ bytes. runs P bytes budget) (output_seen channels.old channels.new) (input_seen channels.old channels.new) result bytes left) }
+    ensures ends { StepsEnd checked.now.closed (λ P input. run_answer P input budget) (λ P input. runs P input budget) channels.old channels.new result }
     ensures counts { CountsStand channels.old channels.new }
 {
     match machine_of(alloc, checked) {
@@ -78,8 +77,7 @@ pub fn run_and_list<S: Reader, K: Sink>(
     channels: &mut Channels<S, K>,
 ) -> Result<Ended, Ended>
     requires { (P : Source) × StandsForSafe checked.now.closed P }
-    ensures ends { OnInput (input_seen channels.old channels.new) (λ bytes left. (P : Source) → StandsForSafe checked.now.closed P →
-        StepsEnd (λ bytes. stack_answer P bytes budget) (λ bytes. runs_and_lists P bytes budget) (output_seen channels.old channels.new) (input_seen channels.old channels.new) result bytes left) }
+    ensures ends { StepsEnd checked.now.closed (λ P input. stack_answer P input budget) (λ P input. runs_and_lists P input budget) channels.old channels.new result }
     ensures counts { CountsStand channels.old channels.new }
 {
     match machine_of(alloc, checked) {

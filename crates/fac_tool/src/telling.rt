@@ -10,6 +10,7 @@ ghost use Rattle.fac_tool.specs.Answers.{numbered_names, TellsBy, Tells, TellsUs
 use crate::ended::bare;
 use crate::{Ended, Report};
 use fac_base::{List, Memory, Text};
+use fac_command::USAGE;
 use fac_io::{Failed, Sink};
 use fac_notes::status::{INPUT_FAULT, NO_COMMAND, NO_MEMORY, WRITE_FAULT};
 use fac_notes::{note, notes_are_not_empty};
@@ -113,11 +114,7 @@ pub fn tell<N: Sink>(alloc: Global, files: &[String], reached: Ended, notes: &mu
 pub fn tell_usage<N: Sink>(notes: &mut N) -> Ended
     ensures { TellsUsage (sink_seen N.taken N.pieces N.faults notes.old notes.new) result }
 {
-    tell_by(
-        b"usage: factorc check, run, build, exec, list, listen or gen\n".as_slice(),
-        bare(NO_COMMAND, 0),
-        notes,
-    )
+    tell_by(USAGE.as_bytes(), bare(NO_COMMAND, 0), notes)
 }
 
 /// Tells that there is no memory for the words of the command line. It takes none.

@@ -1,13 +1,12 @@
 //! The work of a command, as a list of steps: each gives a result for the next one, or an ending of the work.
-ghost use Rattle.std.specs.Prelude.{◌≤◌, Some, map, string_bytes};
+ghost use Rattle.std.specs.Prelude.{◌≤◌, map, string_bytes};
 ghost use Rattle.fac_command.specs.SeenCommands.{command_seen};
 ghost use Rattle.fac_lang.specs.declared.program.Program.{Program as Source};
 ghost use Rattle.fac_lines.specs.Channels.{ChannelsTold, CountsStand};
 ghost use Rattle.fac_tool.specs.Answers.{Reaches, ReachesBy};
-ghost use Rattle.fac_tool.specs.Ends.{work_of};
 ghost use Rattle.fac_tool.specs.Executed.{executed, listed};
 ghost use Rattle.fac_tool.specs.Plans.{on_image, on_sources, plan_of, saving};
-ghost use Rattle.fac_tool.specs.SeenObjects.{files_seen, input_seen, output_seen, OnInput};
+ghost use Rattle.fac_tool.specs.SeenObjects.{files_seen, input_seen, output_seen};
 ghost use Rattle.fac_tool.specs.inner.Stops.{StandsForSafe};
 ghost use Rattle.fac_tool.specs.inner.StepEnds.{StepsEnd, ended_by};
 ghost use Rattle.fac_tool.specs.inner.Tasks.{task_seen};
@@ -46,8 +45,7 @@ fn carry_out<S: Reader, K: Sink>(
     channels: &mut Channels<S, K>,
 ) -> Result<Ended, Ended>
     requires { (P : Source) × StandsForSafe accepted.now.checked.closed P }
-    ensures ends { OnInput (input_seen channels.old channels.new) (λ bytes left. (P : Source) → StandsForSafe accepted.now.checked.closed P →
-        StepsEnd ((task_seen task).answer accepted.now.definitions P) (work_of (task_seen task).work (Some P)) (output_seen channels.old channels.new) (input_seen channels.old channels.new) result bytes left) }
+    ensures ends { StepsEnd accepted.now.checked.closed ((task_seen task).answer accepted.now.definitions) (task_seen task).work channels.old channels.new result }
     ensures counts { CountsStand channels.old channels.new }
 {
     match task {

@@ -15,12 +15,14 @@ use Rattle.fac_notes.specs.declared.report.Report.TheVariants as report
 use Rattle.fac_notes.specs.Statuses.{status_of}
 use Rattle.fac_tool.specs.declared.ended.Ended.{Ended}
 use Rattle.fac_tool.specs.declared.accepting.Accepted.{Accepted}
+use Rattle.fac_lines.specs.Channels.{ChannelsTold}
+use Rattle.fac_locals.specs.declared.closing.Closed.{Closed}
 use Rattle.fac_tool.specs.Answer.{Answer, OnAccepted, Source, trees, together, come_to, answer_on, limit, own_definitions, run_answer}
 use Rattle.fac_tool.specs.Sources.{IsReadAs, AreReadWithPrelude}
 use Rattle.fac_io.specs.declared.files.Asked.TheVariants.{Load}
 use Rattle.fac_io.specs.Faults.{Rose}
 use Rattle.fac_io.specs.Told.{SinkTold, Stays, Grows}
-use Rattle.fac_tool.specs.SeenObjects.{SinkSeen, FilesSeen, InputSeen}
+use Rattle.fac_tool.specs.SeenObjects.{SinkSeen, FilesSeen, InputSeen, OnInput, input_seen, output_seen}
 use Rattle.fac_tool.specs.Ends.{Work, runs, StopsWithin, EndsAs, EndsOn}
 use Rattle.fac_tool.specs.inner.Stops.{StandsForSafe}
 use Rattle.fac_tool.specs.Loads.{LoadsGive, LoadsEnd}
@@ -74,9 +76,11 @@ abbrev pub ended_by : Result Ended Ended → Ended
 ended_by (Ok ended) = ended
 ended_by (Err ended) = ended
 
--- the last step ends the work, as the steps before it may
-abbrev pub StepsEnd : (List ℕ → Answer) → (List ℕ → Work) → SinkSeen → InputSeen → Result Ended Ended → List ℕ → List ℕ → Type 0
-StepsEnd answer work out seen result input left = EndsOn answer work out seen (ended_by result) input left
+-- The steps of work on an accepted program, for which this closed program stands, end it with the answer that the program has, or were cut short in its work. All
+-- that is said of it is said of one input.
+abbrev pub StepsEnd : Closed → (Program → List ℕ → Answer) → (Program → List ℕ → Work) → ChannelsTold → ChannelsTold → Result Ended Ended → Type 0
+StepsEnd closed answer work before now result =
+    OnInput (input_seen before now) (λ input left. (P : Program) → StandsForSafe closed P → EndsOn (answer P) (work P) (output_seen before now) (input_seen before now) (ended_by result) input left)
 
 -- a load gave this text, of at most so many bytes
 pub record LoadGives (name : List ℕ) (room : ℕ) (files : FilesSeen) (text : List ℕ) : Type 0 where

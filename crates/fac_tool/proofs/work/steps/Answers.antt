@@ -18,4 +18,4 @@ pub returns-clause-ending : goal.returns-clause-ending
 returns-clause-ending g c =
     let safe = c.accepted_programs_are_safe.ensures in
     let whole = c.resolved_programs_are_whole.ensures in
-    reaches_end safe whole _ (task_seen c.args.task) _ c.in_ok-texts.texts _ _ c.in_ok-accepted.accepted c.carry_out.result c.in_ok-texts.ensures.loads c.in_ok-accepted.ensures c.carry_out.ensures.ends
+    reaches_end safe whole _ (task_seen c.args.task) _ c.in_ok-texts.texts c.args.channels.now c.carry_out.new.channels c.in_ok-accepted.accepted c.carry_out.result c.in_ok-texts.ensures.loads c.in_ok-accepted.ensures c.carry_out.ensures.ends
