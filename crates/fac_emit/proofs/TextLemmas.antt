@@ -117,7 +117,7 @@ pub levels_are : suc MOST_LEVELS ≡ text_levels
 unfolding text_levels
 levels_are = refl
 
--- for a closed program with these templates
+-- for a closed program
 module _ (C : Closed) where
   abbrev texts : List (List ℕ)
   texts = program_texts C
