@@ -4,12 +4,13 @@ use Rattle.std.specs.Prelude.{nat_eq, ◌||◌, ◌&&◌, not, Option, Some, Non
 use Rattle.std.specs.List.{range_with_len}
 use Rattle.std.proofs.lemmas.List.FromFn.{get_or-map-range_with_len, length-map-range_with_len}
 use Rattle.std.proofs.lemmas.Option.{get_or_from_slice_get}
+use Rattle.std.proofs.lemmas.Bool.{cases_Bool, false_from_ne_true}
 use Rattle.fac_lang.specs.declared.program.ClassDef.{ClassDef}
 use Rattle.fac_lang.specs.Classes.{has_own, own_kind, own_count, has_kind}
 use Rattle.fac_lang.specs.Whole.{each_below}
 use Rattle.fac_classes.specs.ClassKinds.{place_of, lies_within, kind_total}
 use Rattle.fac_classes.specs.inner.OwnKinds.{own_kinds, owners_from}
-use Rattle.fac_classes.proofs.ListLemmas.{yes_or_no, same_number, not_true, false_by, both_first, both_second}
+use Rattle.fac_classes.proofs.ListLemmas.{same_number, not_true, both_first, both_second}
 use Rattle.fac_classes.proofs.KindLemmas.{own_kind_at, owner_count}
 
 -- own kinds
@@ -45,8 +46,8 @@ place_read cs defs places c r e v lt q =
 below_false : (test : ℕ → Bool) (n k : ℕ) → k < n → test k ≡ false → each_below test n ≡ false
 below_false test zero k lt e = absurd (omega (arith, lt))
 below_false test (suc n) k lt e =
-    false_by (test n && each_below test n) (λ h.
-    elim (yes_or_no (nat_eq k n)) [
+    false_from_ne_true (test n && each_below test n) (λ h.
+    elim (cases_Bool (nat_eq k n)) [
       | inl q ↦ not_true (sym e ∙ ap test (same_number k n q) ∙ both_first (test n) (each_below test n) h)
       | inr q ↦ not_true (sym (below_false test n k (less k n lt q) e) ∙ both_second (test n) (each_below test n) h)
     ])

@@ -3,10 +3,11 @@ use Rattle.std.proofs.Common.{◌≡◌, ◌<◌, ◌≤◌, ◌⊎◌, inl, inr
 use Rattle.std.specs.Prelude.{nat_eq}
 use Rattle.std.proofs.lemmas.List.{get_or-set_same, get_or-set_other}
 use Rattle.std.proofs.lemmas.Nat.{same_from_place, row_fits}
+use Rattle.std.proofs.lemmas.Bool.{cases_Bool}
 use Rattle.fac_lang.specs.declared.program.ClassDef.{ClassDef}
 use Rattle.fac_lang.specs.Classes.{has_kind}
 use Rattle.fac_classes.specs.inner.Cells.{cell, Grows, Marks, Joins, IsRight, IsFull}
-use Rattle.fac_classes.proofs.ListLemmas.{yes_or_no, same_number, itself, not_true}
+use Rattle.fac_classes.proofs.ListLemmas.{same_number, itself, not_true}
 
 at_place : (cells : List Bool) (p q : ℕ) → nat_eq q p ≡ true → p < length cells → get_or (set cells p true) q false ≡ true
 at_place cells p q e lt = ap (λ (x : ℕ). get_or (set cells p true) x false) (same_number q p e) ∙ get_or-set_same cells p true false lt
@@ -18,8 +19,8 @@ pub cell_set : (w : ℕ) (cells : List Bool) (c k : ℕ) → c * w + w ≤ lengt
 unfolding cell
 cell_set w cells c k row lt =
     record {
-      grows = λ d j under h. elim (yes_or_no (nat_eq (d * w + j) (c * w + k))) [ inl e ↦ at_place cells (c * w + k) (d * w + j) e (omega (arith, row, lt)) | inr e ↦ elsewhere cells (c * w + k) (d * w + j) e ∙ h ];
-      only = λ d j under h. elim (yes_or_no (nat_eq (d * w + j) (c * w + k))) [
+      grows = λ d j under h. elim (cases_Bool (nat_eq (d * w + j) (c * w + k))) [ inl e ↦ at_place cells (c * w + k) (d * w + j) e (omega (arith, row, lt)) | inr e ↦ elsewhere cells (c * w + k) (d * w + j) e ∙ h ];
+      only = λ d j under h. elim (cases_Bool (nat_eq (d * w + j) (c * w + k))) [
         | inl e ↦ inr (same_from_place d j c k w under lt (same_number (d * w + j) (c * w + k) e))
         | inr e ↦ inl (sym (elsewhere cells (c * w + k) (d * w + j) e) ∙ h)
       ];
@@ -53,7 +54,7 @@ joins_marked w to from i a b c lt l h m =
     record {
       grows = grows_on w a b c l.grows m.grows;
       only = λ d j under q. elim (m.only d j under q) [ inl p ↦ l.only d j under p | inr p ↦ inr (p.0, subst (λ (x : ℕ). cell w a from x ≡ true) (sym p.1) (in_source w to from i a b (l.only from i lt h))) ];
-      joined = λ j low under q. elim (yes_or_no (nat_eq j i)) [
+      joined = λ j low under q. elim (cases_Bool (nat_eq j i)) [
         | inl e ↦ subst (λ (x : ℕ). cell w c to x ≡ true) (sym (same_number j i e)) m.marked
         | inr e ↦ m.grows to j under (l.joined j (below_next j i low e) under q)
       ];
@@ -64,7 +65,7 @@ joins_passed w to from i a b lt l h =
     record {
       grows = l.grows;
       only = l.only;
-      joined = λ j low under q. elim (yes_or_no (nat_eq j i)) [
+      joined = λ j low under q. elim (cases_Bool (nat_eq j i)) [
         | inl e ↦ not_true (sym h ∙ l.grows from i lt (subst (λ (x : ℕ). cell w a from x ≡ true) (same_number j i e) q))
         | inr e ↦ l.joined j (below_next j i low e) under q
       ];

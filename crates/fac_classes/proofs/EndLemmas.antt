@@ -2,6 +2,7 @@
 use Rattle.std.proofs.Common.{◌≡◌, ◌<◌, ◌≤◌, inl, inr, ℕ, zero, suc, ◌+◌, List, [], ◌∷◌, length, Bool, true, false, cond, not, refl, sym, ap, ◌∙◌, subst, arith}
 use Rattle.std.specs.Prelude.{nat_eq, ◌||◌, Option, Some, None}
 use Rattle.std.specs.List.{list_any, list_all}
+use Rattle.std.proofs.lemmas.Bool.{cases_Bool, false_from_ne_true, or_cases, or_left, or_right}
 use Rattle.fac_lang.specs.declared.program.Program.{Program}
 use Rattle.fac_lang.specs.declared.program.ClassDef.{ClassDef}
 use Rattle.fac_lang.specs.declared.program.Shape.{Shape}
@@ -10,7 +11,7 @@ use Rattle.fac_lang.specs.Classes.{shape_at, parent_in, is_tuple}
 use Rattle.fac_lang.specs.Whole.{reaches, parts_of, each_below, shape_fits, is_class}
 use Rattle.fac_classes.specs.ClassKinds.{CanBeBuilt}
 use Rattle.fac_classes.specs.inner.Members.{IsIn, members_in, members, ends, AreSound}
-use Rattle.fac_classes.proofs.ListLemmas.{yes_or_no, false_by, both_first, both_second, same_number, itself, at_most, or_left, or_right, or_either, among, in_among, all_true, true_of_all, not_true}
+use Rattle.fac_classes.proofs.ListLemmas.{both_first, both_second, same_number, itself, at_most, among, in_among, all_true, true_of_all, not_true}
 
 -- How many numbers below n aren't in a list.
 abbrev free : List ℕ → ℕ → ℕ
@@ -44,7 +45,7 @@ free_there c vs m false false e h = omega (arith, h)
 free_less : (c : ℕ) (vs : List ℕ) (n : ℕ) → c < n → among c vs ≡ false → suc (free (c ∷ vs) n) ≤ free vs n
 free_less c vs zero lt new = absurd (omega (arith, lt))
 free_less c vs (suc m) lt new =
-    elim (yes_or_no (nat_eq m c)) [
+    elim (cases_Bool (nat_eq m c)) [
       | inl e ↦ free_here c vs m (nat_eq m c) (among m vs) e (ap (λ (x : ℕ). among x vs) (same_number m c e) ∙ new) (free_falls c vs m)
       | inr e ↦ free_there c vs m (nat_eq m c) (among m vs) e (free_less c vs m (below m c lt e) new)
     ]
@@ -61,9 +62,9 @@ one_part f cs c (e ∷ es) m (inr q) h = or_right (nat_eq c e || reaches f cs c 
 further_parts : (f : ℕ) (cs : List ClassDef) (c : ℕ) → ((e : ℕ) → reaches f cs c e ≡ true → reaches (suc f) cs c e ≡ true) → (es : List ℕ) → list_any (λ e. nat_eq c e || reaches f cs c e) es ≡ true → list_any (λ e. nat_eq c e || reaches (suc f) cs c e) es ≡ true
 further_parts f cs c more [] h = h
 further_parts f cs c more (e ∷ es) h =
-    elim (or_either (nat_eq c e || reaches f cs c e) (list_any (λ x. nat_eq c x || reaches f cs c x) es) h) [
+    elim (or_cases (nat_eq c e || reaches f cs c e) (list_any (λ x. nat_eq c x || reaches f cs c x) es) h) [
       | inl p ↦ or_left (nat_eq c e || reaches (suc f) cs c e) (list_any (λ x. nat_eq c x || reaches (suc f) cs c x) es)
-          (elim (or_either (nat_eq c e) (reaches f cs c e) p) [ inl q ↦ or_left (nat_eq c e) (reaches (suc f) cs c e) q | inr q ↦ or_right (nat_eq c e) (reaches (suc f) cs c e) (more e q) ])
+          (elim (or_cases (nat_eq c e) (reaches f cs c e) p) [ inl q ↦ or_left (nat_eq c e) (reaches (suc f) cs c e) q | inr q ↦ or_right (nat_eq c e) (reaches (suc f) cs c e) (more e q) ])
       | inr p ↦ or_right (nat_eq c e || reaches (suc f) cs c e) (list_any (λ x. nat_eq c x || reaches (suc f) cs c x) es) (further_parts f cs c more es p)
     ]
 
@@ -74,7 +75,7 @@ further (suc f) cs c d h = further_parts f cs c (λ e q. further f cs c e q) (pa
 further_to : (f g : ℕ) (cs : List ClassDef) (c d : ℕ) → f ≤ g → reaches f cs c d ≡ true → reaches g cs c d ≡ true
 further_to f zero cs c d le h = let e : f ≡ 0 = omega (arith, le) in subst (λ (n : ℕ). reaches n cs c d ≡ true) e h
 further_to f (suc g) cs c d le h =
-    elim (yes_or_no (nat_eq f (suc g))) [
+    elim (cases_Bool (nat_eq f (suc g))) [
       | inl e ↦ subst (λ (n : ℕ). reaches n cs c d ≡ true) (same_number f (suc g) e) h
       | inr e ↦ further g cs c d (further_to f g cs c d (less f g le e) h)
     ]
@@ -88,10 +89,10 @@ one_step f cs c m q = one_part f cs m (parts_of (shape_at cs c)) m q (or_left (n
 step_parts : (f : ℕ) (cs : List ClassDef) (c m : ℕ) → IsIn m (parts_of (shape_at cs c)) → ((e : ℕ) → reaches f cs c e ≡ true → reaches (suc f) cs m e ≡ true) → (es : List ℕ) → list_any (λ e. nat_eq c e || reaches f cs c e) es ≡ true → list_any (λ e. nat_eq m e || reaches (suc f) cs m e) es ≡ true
 step_parts f cs c m q more [] h = h
 step_parts f cs c m q more (e ∷ es) h =
-    elim (or_either (nat_eq c e || reaches f cs c e) (list_any (λ x. nat_eq c x || reaches f cs c x) es) h) [
+    elim (or_cases (nat_eq c e || reaches f cs c e) (list_any (λ x. nat_eq c x || reaches f cs c x) es) h) [
       | inl p ↦ or_left (nat_eq m e || reaches (suc f) cs m e) (list_any (λ x. nat_eq m x || reaches (suc f) cs m x) es)
           (or_right (nat_eq m e) (reaches (suc f) cs m e)
-          (elim (or_either (nat_eq c e) (reaches f cs c e) p) [ inl same ↦ subst (λ (x : ℕ). reaches (suc f) cs m x ≡ true) (same_number c e same) (one_step f cs c m q) | inr r ↦ more e r ]))
+          (elim (or_cases (nat_eq c e) (reaches f cs c e) p) [ inl same ↦ subst (λ (x : ℕ). reaches (suc f) cs m x ≡ true) (same_number c e same) (one_step f cs c m q) | inr r ↦ more e r ]))
       | inr p ↦ or_right (nat_eq m e || reaches (suc f) cs m e) (list_any (λ x. nat_eq m x || reaches (suc f) cs m x) es) (step_parts f cs c m q more es p)
     ]
 
@@ -112,7 +113,7 @@ pub ends_from : (cs : List ClassDef) → ((c : ℕ) → c < length cs → reache
 ends_from cs straight low zero vs c lt new fr len back = let less = free_less c vs (length cs) lt new in absurd (omega (arith, less, fr))
 ends_from cs straight low (suc f) vs c lt new fr len back =
     let less : suc (free (c ∷ vs) (length cs)) ≤ free vs (length cs) = free_less c vs (length cs) lt new in
-    all_true (λ m. ends f cs m) (members cs c) (λ m q. ends_from cs straight low f (c ∷ vs) m (low c m q) (false_by (among m (c ∷ vs)) (other m q)) (omega (arith, less, fr)) (omega (arith, len)) (behind m q))
+    all_true (λ m. ends f cs m) (members cs c) (λ m q. ends_from cs straight low f (c ∷ vs) m (low c m q) (false_from_ne_true (among m (c ∷ vs)) (other m q)) (omega (arith, less, fr)) (omega (arith, len)) (behind m q))
   where
     part : (m : ℕ) → IsIn m (members cs c) → IsIn m (parts_of (shape_at cs c))
     part m q = member_is_part (shape_at cs c) m q
@@ -131,7 +132,7 @@ all_end cs straight low c lt = let all = free_all (length cs) in ends_from cs st
 below_true : (test : ℕ → Bool) (n k : ℕ) → each_below test n ≡ true → k < n → test k ≡ true
 below_true test zero k h lt = absurd (omega (arith, lt))
 below_true test (suc n) k h lt =
-    elim (yes_or_no (nat_eq k n)) [
+    elim (cases_Bool (nat_eq k n)) [
       | inl e ↦ ap test (same_number k n e) ∙ both_first (test n) (each_below test n) h
       | inr e ↦ below_true test n k (both_second (test n) (each_below test n) h) (less k n lt e)
     ]

@@ -2,6 +2,7 @@
 use Rattle.std.proofs.Common.{◌≡◌, ◌<◌, ◌≤◌, ◌⊎◌, inl, inr, ℕ, zero, suc, ◌+◌, ◌-◌, List, [], ◌∷◌, length, get_or, Bool, true, false, sym, ap, ◌∙◌, subst, arith}
 use Rattle.std.specs.Prelude.{nat_eq, Option, Some, None, slice_get}
 use Rattle.std.proofs.lemmas.Option.{slice_get-get_or}
+use Rattle.std.proofs.lemmas.Bool.{cases_Bool}
 use Rattle.fac_lang.specs.declared.program.ClassDef.{ClassDef}
 use Rattle.fac_lang.specs.declared.program.Shape.{Shape}
 use Rattle.fac_lang.specs.declared.program.Shape.TheVariants.{Kind as built_in, Tuple as tuple_class, Union as union, Single as single}
@@ -11,7 +12,7 @@ use Rattle.fac_classes.specs.inner.Members.{built_in_in, AreSound}
 use Rattle.fac_classes.specs.inner.OwnKinds.{owners_from}
 use Rattle.fac_classes.specs.inner.Cells.{cell, Grows, Marks, IsRight, IsFull}
 use Rattle.fac_classes.specs.inner.Filling.{Lays, LaysBuiltIns, MarksUp, LaysOwners}
-use Rattle.fac_classes.proofs.ListLemmas.{yes_or_no, same_number, not_true}
+use Rattle.fac_classes.proofs.ListLemmas.{same_number, not_true}
 use Rattle.fac_classes.proofs.KindLemmas.{kinds_of_shape, is_class, is_owned, own_kind_above, own_kind_below, owner_at, owner_count, no_step_up, step_up, step_down, descends_itself}
 use Rattle.fac_classes.proofs.CellLemmas.{grows_on, marks_right, full_grows}
 
@@ -42,7 +43,7 @@ lays_marked cs sound w c j i x a b e l h m =
     record {
       grows = grows_on w x a b l.grows m.grows;
       right = marks_right cs w c i a b l.right (has_built_in cs sound c j i e ∙ sym h) m;
-      full = λ k low lt q. elim (yes_or_no (nat_eq k i)) [ inl p ↦ subst (λ (y : ℕ). cell w b c y ≡ true) (sym (same_number k i p)) m.marked | inr p ↦ m.grows c k lt (l.full k (below_next k i low p) lt q) ];
+      full = λ k low lt q. elim (cases_Bool (nat_eq k i)) [ inl p ↦ subst (λ (y : ℕ). cell w b c y ≡ true) (sym (same_number k i p)) m.marked | inr p ↦ m.grows c k lt (l.full k (below_next k i low p) lt q) ];
     }
 
 pub lays_passed : (cs : List ClassDef) → AreSound cs → (w c j i : ℕ) (x a : List Bool) → built_in_in (shape_at cs c) ≡ Some j → LaysBelow cs w c i x a → false ≡ built_in_has cs j i → LaysBelow cs w c (i + 1) x a
@@ -50,7 +51,7 @@ lays_passed cs sound w c j i x a e l h =
     record {
       grows = l.grows;
       right = l.right;
-      full = λ k low lt q. elim (yes_or_no (nat_eq k i)) [ inl p ↦ not_true (h ∙ sym (has_built_in cs sound c j i e) ∙ subst (λ (y : ℕ). has_kind cs c y ≡ true) (same_number k i p) q) | inr p ↦ l.full k (below_next k i low p) lt q ];
+      full = λ k low lt q. elim (cases_Bool (nat_eq k i)) [ inl p ↦ not_true (h ∙ sym (has_built_in cs sound c j i e) ∙ subst (λ (y : ℕ). has_kind cs c y ≡ true) (same_number k i p) q) | inr p ↦ l.full k (below_next k i low p) lt q ];
     }
 
 pub lays_all : (cs : List ClassDef) (w c i : ℕ) (x a : List Bool) → w ≤ i → LaysBelow cs w c i x a → Lays cs w c x a
@@ -65,7 +66,7 @@ built_ins_more cs w i x a b l m =
     record {
       grows = grows_on w x a b l.grows m.grows;
       right = m.right;
-      full = λ c j low e. elim (yes_or_no (nat_eq c i)) [ inl p ↦ subst (λ (y : ℕ). IsFull cs w b y) (sym (same_number c i p)) m.full | inr p ↦ full_grows cs w c a b m.grows (l.full c j (below_next c i low p) e) ];
+      full = λ c j low e. elim (cases_Bool (nat_eq c i)) [ inl p ↦ subst (λ (y : ℕ). IsFull cs w b y) (sym (same_number c i p)) m.full | inr p ↦ full_grows cs w c a b m.grows (l.full c j (below_next c i low p) e) ];
     }
 
 pub built_ins_passed : (cs : List ClassDef) (w i : ℕ) (x a : List Bool) → LaysBuiltIns cs w i x a → built_in_in (shape_at cs i) ≡ None → LaysBuiltIns cs w (i + 1) x a
@@ -73,7 +74,7 @@ built_ins_passed cs w i x a l none =
     record {
       grows = l.grows;
       right = l.right;
-      full = λ c j low e. elim (yes_or_no (nat_eq c i)) [
+      full = λ c j low e. elim (cases_Bool (nat_eq c i)) [
         | inl p ↦ let same : built_in_in (shape_at cs i) ≡ Some j = subst (λ (y : ℕ). built_in_in (shape_at cs y) ≡ Some j) (same_number c i p) e in absurd (let clash : None ≡ Some j = sym none ∙ same in cc)
         | inr p ↦ l.full c j (below_next c i low p) e
       ];
@@ -157,7 +158,7 @@ owns_more cs w i d owners x a b total lt q l m =
     record {
       grows = grows_on w x a b l.grows m.grows;
       right = m.right;
-      marked = λ c j r low e h. elim (yes_or_no (nat_eq j i)) [
+      marked = λ c j r low e h. elim (cases_Bool (nat_eq j i)) [
         | inl p ↦ last c j r e h (same_number j i p)
         | inr p ↦ m.grows c (8 + j) (let under = below_next j i low p in omega (arith, total, lt, under)) (l.marked c j r (below_next j i low p) e h)
       ];

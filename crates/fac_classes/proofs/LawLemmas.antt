@@ -5,15 +5,16 @@ use Rattle.fac_lang.specs.declared.program.ClassDef.{ClassDef}
 use Rattle.fac_lang.specs.Classes.{has_kind, kind_count, name_before, class_before}
 use Rattle.fac_lang.specs.Whole.{each_below}
 use Rattle.fac_classes.specs.ClassKinds.{kind_total, place_of, OneComesFirst, NarrowerComesFirst, PlacesTellOrder}
-use Rattle.fac_classes.proofs.ListLemmas.{yes_or_no, same_number, not_true, same_bool, both_first, both_second}
+use Rattle.fac_classes.proofs.ListLemmas.{same_number, not_true, same_bool, both_first, both_second}
 use Rattle.fac_classes.specs.inner.Members.{IsIn}
 use Rattle.fac_classes.proofs.VisitLemmas.{in_range}
 use Rattle.fac_classes.proofs.OrderLemmas.{class_total, class_one_way, class_irreflexive, class_transitive}
 use Rattle.std.specs.List.{count_by, range_with_len}
 use Rattle.std.proofs.lemmas.List.Sums.{sum_by-cons}
+use Rattle.std.proofs.lemmas.Bool.{cases_Bool}
 
 pub one_first : OneComesFirst
-one_first cs c d other = elim (yes_or_no (class_before cs d c)) [ inl e ↦ after e | inr e ↦ before e ]
+one_first cs c d other = elim (cases_Bool (class_before cs d c)) [ inl e ↦ after e | inr e ↦ before e ]
   where
     opposite : (a b x : Bool) → a ≡ x → b ≡ not x → a ≡ not b
     opposite true false true e f = refl
@@ -71,20 +72,21 @@ narrower_first cs c d h g = by (nat_eq (kind_count cs c (kind_total cs)) (kind_c
     by false b e f = f
 
 -- counts of classes before others
+
+one_less : (a b : Bool) → (a ≡ true → b ≡ true) → cond a 1 0 ≤ cond b 1 0
+one_less true true f = omega arith
+one_less true false f = not_true (f refl)
+one_less false true f = omega arith
+one_less false false f = omega arith
+
 counts_less : (p q : ℕ → Bool) (xs : List ℕ) → ((x : ℕ) → p x ≡ true → q x ≡ true) → count_by p xs ≤ count_by q xs
 counts_less p q [] h = omega arith
 counts_less p q (x ∷ xs) h =
     let le = counts_less p q xs h in
     let m = sum_by-cons (λ (y : ℕ). cond (p y) 1 0) x xs in
     let n = sum_by-cons (λ (y : ℕ). cond (q y) 1 0) x xs in
-    let one = by (p x) (q x) (h x) in
+    let one = one_less (p x) (q x) (h x) in
     omega (arith, le, m, n, one)
-  where
-    by : (a b : Bool) → (a ≡ true → b ≡ true) → cond a 1 0 ≤ cond b 1 0
-    by true true f = omega arith
-    by true false f = not_true (f refl)
-    by false true f = omega arith
-    by false false f = omega arith
 
 counts_fewer : (p q : ℕ → Bool) (xs : List ℕ) (x : ℕ) → ((x : ℕ) → p x ≡ true → q x ≡ true) → IsIn x xs → p x ≡ false → q x ≡ true → count_by p xs < count_by q xs
 counts_fewer p q [] x h r e f = absurd r
@@ -97,14 +99,8 @@ counts_fewer p q (y ∷ ys) x h (inr r) e f =
     let lt = counts_fewer p q ys x h r e f in
     let m = sum_by-cons (λ (z : ℕ). cond (p z) 1 0) y ys in
     let n = sum_by-cons (λ (z : ℕ). cond (q z) 1 0) y ys in
-    let one = by (p y) (q y) (h y) in
+    let one = one_less (p y) (q y) (h y) in
     omega (arith, lt, m, n, one)
-  where
-    by : (a b : Bool) → (a ≡ true → b ≡ true) → cond a 1 0 ≤ cond b 1 0
-    by true true f = omega arith
-    by true false f = not_true (f refl)
-    by false true f = omega arith
-    by false false f = omega arith
 
 place_less : (cs : List ClassDef) (c d : ℕ) → c < length cs → class_before cs c d ≡ true → place_of cs c < place_of cs d
 place_less cs c d lt h = counts_fewer (λ e. class_before cs e c) (λ e. class_before cs e d) (range_with_len 0 (length cs)) c (λ e k. class_transitive cs e c d k h) (in_range 0 (length cs) c (omega arith) (omega (arith, lt))) (class_irreflexive cs c) h
@@ -119,7 +115,7 @@ places_order cs c d low under = same_bool (class_before cs c d) (nat_lt (place_o
         lower m n lt = grind arith
 
     back : nat_lt (place_of cs c) (place_of cs d) ≡ true → class_before cs c d ≡ true
-    back h = elim (yes_or_no (nat_eq c d)) [ inl e ↦ alike e | inr e ↦ other e ]
+    back h = elim (cases_Bool (nat_eq c d)) [ inl e ↦ alike e | inr e ↦ other e ]
       where
         less : (m n : ℕ) → nat_lt m n ≡ true → m < n
         less m n e = grind arith
@@ -137,7 +133,7 @@ places_order cs c d low under = same_bool (class_before cs c d) (nat_lt (place_o
             absurd (omega (arith, lt, same))
 
         other : nat_eq c d ≡ false → class_before cs c d ≡ true
-        other e = elim (yes_or_no (class_before cs d c)) [
+        other e = elim (cases_Bool (class_before cs d c)) [
           | inl q ↦ let lt = less (place_of cs c) (place_of cs d) h in let more = place_less cs d c under q in absurd (omega (arith, lt, more))
           | inr q ↦ class_total cs c d (apart c d e) q
         ]

@@ -1,23 +1,16 @@
 -- Numbers in lists.
-use Rattle.std.proofs.Common.{◌≡◌, ◌<◌, ◌⊎◌, inl, inr, ℕ, List, [], ◌∷◌, Bool, true, false, refl, sym, ap, ◌∙◌, arith, true≢false}
-use Rattle.std.specs.Prelude.{nat_eq, nat_lt, ◌||◌, ◌&&◌}
+use Rattle.std.proofs.Common.{◌≡◌, ◌<◌, inl, inr, ℕ, List, [], ◌∷◌, Bool, true, false, refl, sym, ap, ◌∙◌, arith, true≢false}
+use Rattle.std.specs.Prelude.{nat_eq, nat_lt, ◌&&◌}
 use Rattle.std.specs.List.{list_any, list_all}
+use Rattle.std.proofs.lemmas.Bool.{false_from_ne_true, or_cases, or_left, or_right}
 use Rattle.fac_classes.specs.inner.Members.{IsIn}
 
 pub not_true : {A : Type 0} → false ≡ true → A
 not_true h = absurd (true≢false (sym h))
 
-pub yes_or_no : (b : Bool) → (b ≡ true) ⊎ (b ≡ false)
-yes_or_no true = inl refl
-yes_or_no false = inr refl
-
-pub false_by : (b : Bool) → (b ≡ true → ⊥) → b ≡ false
-false_by true never = absurd (never refl)
-false_by false never = refl
-
 pub same_bool : (a b : Bool) → (a ≡ true → b ≡ true) → (b ≡ true → a ≡ true) → a ≡ b
 same_bool true b f g = sym (f refl)
-same_bool false b f g = sym (false_by b (λ e. not_true (g e)))
+same_bool false b f g = sym (false_from_ne_true b (λ e. not_true (g e)))
 
 pub both : (a b : Bool) → a ≡ true → b ≡ true → (a && b) ≡ true
 both true b e f = f
@@ -31,18 +24,6 @@ pub both_second : (a b : Bool) → (a && b) ≡ true → b ≡ true
 both_second true b e = e
 both_second false b e = not_true e
 
-pub or_left : (a b : Bool) → a ≡ true → (a || b) ≡ true
-or_left true b e = refl
-or_left false b e = not_true e
-
-pub or_right : (a b : Bool) → b ≡ true → (a || b) ≡ true
-or_right true b e = refl
-or_right false b e = e
-
-pub or_either : (a b : Bool) → (a || b) ≡ true → (a ≡ true) ⊎ (b ≡ true)
-or_either true b e = inl refl
-or_either false b e = inr e
-
 pub same_number : (v w : ℕ) → nat_eq v w ≡ true → v ≡ w
 same_number v w e = grind arith
 
@@ -50,7 +31,7 @@ pub itself : (v : ℕ) → nat_eq v v ≡ true
 itself v = grind arith
 
 pub other_number : (v w : ℕ) → (v ≡ w → ⊥) → nat_eq v w ≡ false
-other_number v w never = false_by (nat_eq v w) (λ e. never (same_number v w e))
+other_number v w never = false_from_ne_true (nat_eq v w) (λ e. never (same_number v w e))
 
 pub at_most : (m n : ℕ) → nat_lt m n ≡ true → m < n
 at_most m n e = grind arith
@@ -61,7 +42,7 @@ among x ys = list_any (nat_eq x) ys
 
 pub in_among : (x : ℕ) (ys : List ℕ) → among x ys ≡ true → IsIn x ys
 in_among x [] h = not_true h
-in_among x (y ∷ ys) h = elim (or_either (nat_eq x y) (among x ys) h) [ inl e ↦ inl (same_number x y e) | inr e ↦ inr (in_among x ys e) ]
+in_among x (y ∷ ys) h = elim (or_cases (nat_eq x y) (among x ys) h) [ inl e ↦ inl (same_number x y e) | inr e ↦ inr (in_among x ys e) ]
 
 pub among_in : (x : ℕ) (ys : List ℕ) → IsIn x ys → among x ys ≡ true
 among_in x [] h = absurd h

@@ -18,12 +18,13 @@ use Rattle.std.proofs.lemmas.List.Sums.{sum_by-cons}
 use Rattle.std.proofs.lemmas.List.Sorted.{IsPermutation-map, All-permutation, Contains-permutation, sum_by-IsPermutation, length_permutation, sorted_far, ranks_by}
 use Rattle.std.proofs.lemmas.Map.Keys.{IsDistinct-IsPermutation}
 use Rattle.std.proofs.lemmas.Option.{slice_get-get_or, get_or_from_slice_get}
+use Rattle.std.proofs.lemmas.Bool.{cases_Bool}
 use Rattle.fac_lang.specs.declared.program.ClassDef.{ClassDef}
 use Rattle.fac_lang.specs.Classes.{bytes_before, full_name, kind_count, class_before, has_kind}
 use Rattle.fac_classes.specs.ClassKinds.{kind_total, place_of}
 use Rattle.fac_classes.specs.inner.Cells.{cell, IsTable}
 use Rattle.fac_classes.specs.inner.Ordering.{cell_count, key_of, key_seen, IsAscending, HasPlaces, IsOnce}
-use Rattle.fac_classes.proofs.ListLemmas.{yes_or_no, same_number, itself, other_number, not_true}
+use Rattle.fac_classes.proofs.ListLemmas.{same_number, itself, other_number, not_true}
 use Rattle.fac_classes.proofs.UnionLemmas.{some_same}
 
 -- How many kinds are marked, and how many a class has.
@@ -170,7 +171,7 @@ class_chain cs a b c h k = class_lt cs a c ∙ (classes_weak cs).chain a b c (sy
 
 -- what a class isn't before comes before what it is before
 pub class_after : (cs : List ClassDef) (a b c : ℕ) → class_before cs b a ≡ false → class_before cs b c ≡ true → class_before cs a c ≡ true
-class_after cs a b c h k = elim (yes_or_no (class_before cs a c)) [ inl e ↦ e | inr e ↦ not_true (sym (class_chain cs b a c h e) ∙ k) ]
+class_after cs a b c h k = elim (cases_Bool (class_before cs a c)) [ inl e ↦ e | inr e ↦ not_true (sym (class_chain cs b a c h e) ∙ k) ]
 
 pub class_transitive : (cs : List ClassDef) (a b c : ℕ) → class_before cs a b ≡ true → class_before cs b c ≡ true → class_before cs a c ≡ true
 class_transitive cs a b c h k = class_after cs a b c (class_one_way cs a b h) k
@@ -239,7 +240,7 @@ place_at cs numbers a i c e =
 
     behind : (j : ℕ) → i ≤ j → j < length numbers → class_before cs (get_or numbers j 0) c ≡ false
     behind j le l =
-        elim (yes_or_no (nat_eq i j)) [
+        elim (cases_Bool (nat_eq i j)) [
           | inl q ↦ ap (λ (x : ℕ). class_before cs (get_or numbers x 0) c) (sym (same_number i j q)) ∙ ap (λ (x : ℕ). class_before cs x c) here ∙ class_irreflexive cs c
           | inr q ↦ later j (less i j le q) l
         ]
@@ -282,7 +283,7 @@ places_none numbers places i c lt e = absurd (omega (arith, lt))
 
 pub places_more : (k : ℕ) (numbers places : List ℕ) → IsOnce numbers → k < length numbers → get_or numbers k 0 < length places → HasPlaces k numbers places → HasPlaces (k + 1) numbers (set places (get_or numbers k 0) k)
 places_more k numbers places once lt low h i c less e =
-    elim (yes_or_no (nat_eq i k)) [
+    elim (cases_Bool (nat_eq i k)) [
       | inl q ↦ last (same_number i k q)
       | inr q ↦ get_or-set_other places (get_or numbers k 0) c k 0 (other q) ∙ h i c (below i k less q) e
     ]

@@ -4,12 +4,13 @@ use Rattle.std.specs.Prelude.{nat_eq, Some, slice_get}
 use Rattle.std.specs.List.{range_with_len}
 use Rattle.std.proofs.lemmas.List.{append-nil, take_at, take-append-le, get_or-set_other, length-replicate}
 use Rattle.std.proofs.Common.{replicate}
+use Rattle.std.proofs.lemmas.Bool.{cases_Bool}
 use Rattle.fac_lang.specs.declared.program.ClassDef.{ClassDef}
 use Rattle.fac_classes.specs.declared.visits.Visit.{Visit}
 use Rattle.fac_classes.specs.declared.visits.Visit.TheVariants.{Enter as enter, Leave as leave}
 use Rattle.fac_classes.specs.inner.Members.{IsIn, members, ends, AreSound}
 use Rattle.fac_classes.specs.inner.Visits.{visited, IsThere, visits_of, Waits, ComesBehind, IsOrder, Walks, total, weight, left_weight, StepsTo}
-use Rattle.fac_classes.proofs.ListLemmas.{yes_or_no, same_number, itself, not_true, true_of_all}
+use Rattle.fac_classes.proofs.ListLemmas.{same_number, itself, not_true, true_of_all}
 
 -- Lists that are put together.
 pub in_left : (m : ℕ) (xs ys : List ℕ) → IsIn m xs → IsIn m (xs ++ ys)
@@ -34,7 +35,7 @@ in_at m (x ∷ xs) (suc i) e = inr (in_at m xs i e)
 pub in_range : (a n m : ℕ) → a ≤ m → m < a + n → IsIn m (range_with_len a n)
 in_range a zero m le lt = absurd (omega (arith, le, lt))
 in_range a (suc n) m le lt =
-    elim (yes_or_no (nat_eq m a)) [
+    elim (cases_Bool (nat_eq m a)) [
       | inl e ↦ inl (same_number m a e)
       | inr e ↦ inr (in_range (a + 1) n m (above m a le e) (omega (arith, lt)))
     ]
@@ -196,7 +197,7 @@ behind_more cs order c behind new i d m e q = by (split order c i d e)
 
 flag_set : (done : List Bool) (order : List ℕ) (c d : ℕ) → ((m : ℕ) → get_or done m false ≡ true → IsIn m order) → get_or (set done c true) d false ≡ true → IsIn d (order ++ c ∷ [])
 flag_set done order c d known h =
-    elim (yes_or_no (nat_eq d c)) [
+    elim (cases_Bool (nat_eq d c)) [
       | inl e ↦ in_right d order (c ∷ []) (inl (same_number d c e))
       | inr e ↦ in_left d order (c ∷ []) (known d (sym (get_or-set_other done c d true false (λ same. not_true (sym e ∙ ap (λ (x : ℕ). nat_eq x c) same ∙ itself c))) ∙ h))
     ]

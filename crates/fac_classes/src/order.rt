@@ -83,7 +83,7 @@ fn numbers_of(alloc: Global, keys: &[(u32, String, u32)]) -> Result<Vec<u32>, Me
     Ok(numbers)
 }
 
-// All classes in their order.
+// All classes in their order. It takes what `places_of` takes.
 fn ascending(
     alloc: Global,
     cells: &[bool],

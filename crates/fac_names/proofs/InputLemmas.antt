@@ -1,20 +1,16 @@
 -- The inputs of an effect are found among its tokens.
-use Rattle.std.proofs.Common.{◌≡◌, ◌-◌, ℕ, suc, List, [], ◌∷◌, ◌++◌, fold, Bool, true, false, cond, refl, ap, sym, ◌∙◌, append_assoc, append-nil, arith}
-use Rattle.std.specs.Prelude.{◌&&◌, codes, nat_le, length, if◌then◌else◌}
-use Rattle.std.specs.Str.{bytes_eq, chars}
-use Rattle.std.proofs.lemmas.Slice.Eq.{bytes_eq-Decides}
-use Rattle.fac_base.specs.declared.limits.TheConstants.{MOST_ELEMENTS}
+use Rattle.std.proofs.Common.{◌≡◌, ◌-◌, ℕ, suc, List, [], ◌∷◌, ◌++◌, fold, Bool, true, false, refl, ap, sym, ◌∙◌, append_assoc, append-nil, arith}
+use Rattle.std.specs.Prelude.{◌&&◌, codes, if◌then◌else◌}
+use Rattle.std.specs.Str.{bytes_eq}
 use Rattle.fac_base.specs.Signatures.{Signature}
-use Rattle.fac_source.specs.declared.token.TokKind.{TokKind}
-use Rattle.fac_source.specs.declared.token.TokKind.TheVariants.{Plain, Str}
 use Rattle.fac_source.specs.declared.token.Token.{Token}
-use Rattle.fac_source.specs.declared.tree.Literal.TheVariants.{Text}
 use Rattle.fac_effect.specs.declared.spelling.Spelling.TheVariants as spelled
 use Rattle.fac_effect.specs.SaidEffects.{read_back}
-use Rattle.fac_effect.specs.Spellings.{plain_token, spelling_of, string_spelling, token_spelling, token_text}
+use Rattle.fac_effect.specs.Spellings.{plain_token, token_spelling, token_text}
 use Rattle.fac_effect.specs.WrittenEffects.{AreValues, Entries, no_entries, plain, described, detailed, IsEffect, IsSide, IsWritten, Written, written, colon_name, entries_tokens, is_colon, is_row, plain_name, values_in, written_tokens}
+use Rattle.fac_effect.specs.inner.EffectParts.{AreNamed}
 use Rattle.fac_effect.proofs.EffectsReadBack.{written_back}
-use Rattle.fac_effect.proofs.SpellingLemmas.{sign_is}
+use Rattle.fac_effect.proofs.PartLemmas.{closes_no_name, dashes_no_name, no_sign, opens_no_name, side_named}
 use Rattle.fac_items.specs.Written.{Tok, f_define, given}
 use Rattle.fac_items.specs.FromElements.{nested, tok}
 use Rattle.fac_items.specs.Readings.{read_form, with_inputs}
@@ -32,34 +28,6 @@ use Rattle.fac_names.specs.declared.inputs.Sign.TheVariants.{Opens, Closes, Dash
 use Rattle.fac_names.specs.inner.Walks.{Walked, begun, entry_taken, sign_of, sign_taken, token_if, token_taken}
 
 -- No name is a sign.
-
-no_string_name : (b : Bool) → cond b (spelled.Literal Text) spelled.Other ≡ spelled.Name → ⊥
-no_string_name true h = cc
-no_string_name false h = cc
-
-string_no_name : (content : List ℕ) → string_spelling content ≡ spelled.Name → ⊥
-unfolding string_spelling
-string_no_name content h = no_string_name (nat_le (length (chars content)) MOST_ELEMENTS) h
-
-text_no_sign : (k : TokKind) (end : List ℕ) → token_spelling k ≡ spelled.Name → (spelling_of end ≡ spelled.Name → ⊥) → token_text k ≡ end → ⊥
-text_no_sign (Plain text) end h n e = n (ap spelling_of (sym e) ∙ h)
-text_no_sign (Str content) end h n e = string_no_name content h
-
-false_when : (b : Bool) → (b ≡ true → ⊥) → b ≡ false
-false_when true h = absurd (h refl)
-false_when false h = refl
-
-no_sign : (t : Token) (end : List ℕ) → token_spelling t.kind ≡ spelled.Name → (spelling_of end ≡ spelled.Name → ⊥) → bytes_eq (token_text t.kind) end ≡ false
-no_sign t end h n = false_when (bytes_eq (token_text t.kind) end) (λ b. text_no_sign t.kind end h n ((bytes_eq-Decides (token_text t.kind) end).0 b))
-
-opens_no_name : spelling_of (codes "(") ≡ spelled.Name → ⊥
-opens_no_name h = let e : spelled.Opens ≡ spelled.Name = sym (sign_is spelled.Opens tt) ∙ h in cc
-
-dashes_no_name : spelling_of (codes "--") ≡ spelled.Name → ⊥
-dashes_no_name h = let e : spelled.Dashes ≡ spelled.Name = sym (sign_is spelled.Dashes tt) ∙ h in cc
-
-closes_no_name : spelling_of (codes ")") ≡ spelled.Name → ⊥
-closes_no_name h = let e : spelled.Closes ≡ spelled.Name = sym (sign_is spelled.Closes tt) ∙ h in cc
 
 name_sign : (t : Token) → token_spelling t.kind ≡ spelled.Name → sign_of t ≡ Name
 name_sign t h =
@@ -86,36 +54,23 @@ mutual
       let c = plain_token closes (codes ")") in
       let m = plain_token dashes (codes "--") in
       ap (walk (walked_at (suc (suc d)) false f ns)) (append_assoc (entries_tokens ins) (m ∷ (entries_tokens outs ++ c ∷ [])) ts)
-      ∙ skip_side ins h.0 d f ns (m ∷ ((entries_tokens outs ++ c ∷ []) ++ ts))
+      ∙ skip_entries ins (side_named ins h.0) d f ns (m ∷ ((entries_tokens outs ++ c ∷ []) ++ ts))
       ∙ ap (walk (walked_at (suc (suc d)) false f ns)) (append_assoc (entries_tokens outs) (c ∷ []) ts)
-      ∙ skip_side outs h.1 d f ns (c ∷ ts)
+      ∙ skip_entries outs (side_named outs h.1) d f ns (c ∷ ts)
       ∙ ap (λ (n : ℕ). walk (walked_at n false f ns) ts) (let e : suc (suc d) - 1 ≡ suc d = omega arith in e)
 
-  skip_side : (es : Entries) → IsSide es → (d : ℕ) (f : Bool) (ns : List Tok) (ts : List Token) → walk (walked_at (suc (suc d)) false f ns) (entries_tokens es ++ ts) ≡ walk (walked_at (suc (suc d)) false f ns) ts
-  skip_side no_entries h d f ns ts = refl
-  skip_side (plain name es) h d f ns ts = ap (λ (w : Walked). walk w (entries_tokens es ++ ts)) (inner_name d f ns name h.0.0) ∙ skip_values es h.1 d f ns ts
-  skip_side (described name class es) h d f ns ts =
+  skip_entries : (es : Entries) → AreNamed es → (d : ℕ) (f : Bool) (ns : List Tok) (ts : List Token) → walk (walked_at (suc (suc d)) false f ns) (entries_tokens es ++ ts) ≡ walk (walked_at (suc (suc d)) false f ns) ts
+  skip_entries no_entries h d f ns ts = refl
+  skip_entries (plain name es) h d f ns ts = ap (λ (w : Walked). walk w (entries_tokens es ++ ts)) (inner_name d f ns name h.0.0) ∙ skip_entries es h.1 d f ns ts
+  skip_entries (described name class es) h d f ns ts =
       ap (λ (w : Walked). walk w (class ∷ (entries_tokens es ++ ts))) (inner_name d f ns name h.0.0)
       ∙ ap (λ (w : Walked). walk w (entries_tokens es ++ ts)) (inner_name d f ns class h.1.0)
-      ∙ skip_values es h.2 d f ns ts
-  skip_side (detailed name w es) h d f ns ts =
+      ∙ skip_entries es h.2 d f ns ts
+  skip_entries (detailed name w es) h d f ns ts =
       ap (λ (x : Walked). walk x ((written_tokens w ++ entries_tokens es) ++ ts)) (inner_name d f ns name h.0.0)
       ∙ ap (walk (walked_at (suc (suc d)) false f ns)) (append_assoc (written_tokens w) (entries_tokens es) ts)
       ∙ skip_written w h.1 (suc d) false f ns (entries_tokens es ++ ts)
-      ∙ skip_values es h.2 d f ns ts
-
-  skip_values : (es : Entries) → AreValues es → (d : ℕ) (f : Bool) (ns : List Tok) (ts : List Token) → walk (walked_at (suc (suc d)) false f ns) (entries_tokens es ++ ts) ≡ walk (walked_at (suc (suc d)) false f ns) ts
-  skip_values no_entries h d f ns ts = refl
-  skip_values (plain name es) h d f ns ts = ap (λ (w : Walked). walk w (entries_tokens es ++ ts)) (inner_name d f ns name h.0.0) ∙ skip_values es h.2 d f ns ts
-  skip_values (described name class es) h d f ns ts =
-      ap (λ (w : Walked). walk w (class ∷ (entries_tokens es ++ ts))) (inner_name d f ns name h.0.0)
-      ∙ ap (λ (w : Walked). walk w (entries_tokens es ++ ts)) (inner_name d f ns class h.2.0)
-      ∙ skip_values es h.3 d f ns ts
-  skip_values (detailed name w es) h d f ns ts =
-      ap (λ (x : Walked). walk x ((written_tokens w ++ entries_tokens es) ++ ts)) (inner_name d f ns name h.0.0)
-      ∙ ap (walk (walked_at (suc (suc d)) false f ns)) (append_assoc (written_tokens w) (entries_tokens es) ts)
-      ∙ skip_written w h.2 (suc d) false f ns (entries_tokens es ++ ts)
-      ∙ skip_values es h.3 d f ns ts
+      ∙ skip_entries es h.2 d f ns ts
 
 -- The entries of the outermost effect.
 

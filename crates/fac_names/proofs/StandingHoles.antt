@@ -2,6 +2,7 @@
 use Rattle.std.proofs.Common.{◌≡◌, ◌≤◌, ◌<◌, ℕ, zero, suc, List, [], ◌∷◌, ◌++◌, map, Option, Some, None, Bool, true, false, refl, sym, ◌∙◌, arith}
 use Rattle.std.specs.Prelude.{◌&&◌, ◌||◌, nat_eq, nat_lt}
 use Rattle.std.specs.List.{list_all}
+use Rattle.std.proofs.lemmas.Bool.{or_left, or_right}
 use Rattle.std.proofs.lemmas.List.Folds.{list_all-append}
 use Rattle.fac_lang.specs.Whole.{has_hole, has_holes, has_its_holes, item_has_hole, each_inner, each_item, joined, quotations}
 use Rattle.fac_lang.specs.Phrases.{int, yes, no, str, Phrase, end, then as placed, word, local}
@@ -10,7 +11,7 @@ use Rattle.fac_lang.specs.declared.program.Lit.{Lit}
 use Rattle.fac_vocab.specs.Scopes.{Scope}
 use Rattle.fac_items.specs.Written.{Tok, n_lit, n_array, n_quot, n_ref, n_name, n_fry, n_call, n_execute, n_bind, n_hole, n_next, n_full, n_part, Nodes, nothing, more}
 use Rattle.fac_items.specs.Items.{elements_of, local_of, phrase_of, word_of}
-use Rattle.fac_items.proofs.LocalNumbers.{append_closed, arrays_closed, is_closed, made_closed}
+use Rattle.fac_items.proofs.LocalNumbers.{append_closed, is_closed, made_closed}
 use Rattle.fac_items.proofs.PlainNodes.{AreElements, ArePlain}
 use Rattle.fac_endings.proofs.Apart.{and_true, true_both}
 
@@ -18,14 +19,6 @@ use Rattle.fac_endings.proofs.Apart.{and_true, true_both}
 
 abbrev pub stands : Phrase → Bool
 stands t = each_item has_its_holes t
-
-or_right : (a b : Bool) → b ≡ true → (a || b) ≡ true
-or_right true b h = refl
-or_right false b h = h
-
-or_left : (a b : Bool) → a ≡ true → (a || b) ≡ true
-or_left true b h = refl
-or_left false b h = absurd (cc)
 
 all_holes : (n : ℕ) (t : Phrase) → ((k : ℕ) → k < n → has_hole k t ≡ true) → has_holes n t ≡ true
 all_holes zero t h = refl
@@ -143,58 +136,6 @@ phrase_stands s locals (more (n_part ms) ns) arrays holes =
     }
 phrase_stands s locals (more n ns) arrays holes = let r = phrase_stands s locals ns arrays holes in record { inner = r.inner; each = r.each }
 
--- The quotations of arrays.
-
-abbrev are_standing : List (List Lit) → Bool
-are_standing arrays = list_all stands (joined (map quotations arrays))
-
-array_stands : (arrays : List (List Lit)) (ls : List Lit) → are_standing arrays ≡ true → list_all stands (quotations ls) ≡ true → are_standing (arrays ++ ls ∷ []) ≡ true
-array_stands [] ls h k = list_all-append stands (quotations ls) [] ∙ and_true (list_all stands (quotations ls)) true k refl
-array_stands (xs ∷ arrays) ls h k =
-    let both = true_both (list_all stands (quotations xs)) (are_standing arrays) (sym (list_all-append stands (quotations xs) (joined (map quotations arrays))) ∙ h) in
-    list_all-append stands (quotations xs) (joined (map quotations (arrays ++ ls ∷ []))) ∙ and_true (list_all stands (quotations xs)) (are_standing (arrays ++ ls ∷ [])) both.0 (array_stands arrays ls both.1 k)
-
-mutual
-  arrays_stand : (s : Scope) (locals : List (List ℕ)) (fry : Bool) (ns : Nodes) (arrays : List (List Lit)) (holes : ℕ) → ArePlain fry ns → are_standing arrays ≡ true → are_standing (phrase_of s locals ns arrays holes).arrays ≡ true
-  arrays_stand s locals fry nothing arrays holes h k = k
-  arrays_stand s locals fry (more (n_lit l p) ns) arrays holes h k = arrays_stand s locals fry ns arrays holes h.1 k
-  arrays_stand s locals fry (more (n_name t p) ns) arrays holes h k = arrays_stand s locals fry ns arrays holes h.1 k
-  arrays_stand s locals fry (more (n_ref t p) ns) arrays holes h k = arrays_stand s locals fry ns arrays holes h.1 k
-  arrays_stand s locals fry (more (n_call e p) ns) arrays holes h k = arrays_stand s locals fry ns arrays holes h.1 k
-  arrays_stand s locals fry (more (n_execute e p) ns) arrays holes h k = arrays_stand s locals fry ns arrays holes h.1 k
-  arrays_stand s locals fry (more (n_next p) ns) arrays holes h k = arrays_stand s locals fry ns arrays holes h.1 k
-  arrays_stand s locals fry (more (n_full v x p) ns) arrays holes h k = arrays_stand s locals fry ns arrays holes h.1 k
-  arrays_stand s locals fry (more (n_bind t twice p) ns) arrays holes h k = arrays_stand s (t.text ∷ locals) fry ns arrays holes h.1 k
-  arrays_stand s locals fry (more (n_hole p) ns) arrays holes h k = arrays_stand s locals fry ns arrays (suc holes) h.1 k
-  arrays_stand s locals fry (more (n_quot ms p) ns) arrays holes h k = let m = phrase_of s locals ms arrays holes in arrays_stand s locals fry ns m.arrays m.holes h.1 (arrays_stand s locals fry ms arrays holes h.0 k)
-  arrays_stand s locals fry (more (n_fry ms p) ns) arrays holes h k = let m = phrase_of s locals ms arrays 0 in arrays_stand s locals fry ns m.arrays holes h.1 (arrays_stand s locals true ms arrays 0 h.0 k)
-  arrays_stand s locals fry (more (n_part ms) ns) arrays holes h k = let m = phrase_of s locals ms arrays holes in arrays_stand s locals fry ns m.arrays m.holes h.1 (arrays_stand s locals fry ms arrays holes h.0 k)
-  arrays_stand s locals fry (more (n_array ms p) ns) arrays holes h k =
-      let m = elements_of s ms arrays in
-      let e = elements_stand s ms arrays h.0 k in
-      arrays_stand s locals fry ns (m.arrays ++ m.elements ∷ []) holes h.1 (array_stands m.arrays m.elements e.0 e.1)
-  arrays_stand s locals fry (more n ns) arrays holes h k = absurd h.0
-
-  elements_stand : (s : Scope) (es : Nodes) (arrays : List (List Lit)) → AreElements es → are_standing arrays ≡ true → (are_standing (elements_of s es arrays).arrays ≡ true) × (list_all stands (quotations (elements_of s es arrays).elements) ≡ true)
-  elements_stand s nothing arrays h k = (k, refl)
-  elements_stand s (more (n_lit (int z) p) es) arrays h k = elements_stand s es arrays h.1 k
-  elements_stand s (more (n_lit yes p) es) arrays h k = elements_stand s es arrays h.1 k
-  elements_stand s (more (n_lit no p) es) arrays h k = elements_stand s es arrays h.1 k
-  elements_stand s (more (n_lit (str bs) p) es) arrays h k = elements_stand s es arrays h.1 k
-  elements_stand s (more (n_lit l p) es) arrays h k = absurd h.0
-  elements_stand s (more (n_ref t p) es) arrays h k = elements_stand s es arrays h.1 k
-  elements_stand s (more (n_name t p) es) arrays h k = elements_stand s es arrays h.1 k
-  elements_stand s (more (n_quot ms p) es) arrays h k =
-      let m = phrase_of s [] ms arrays 0 in
-      let rest = elements_stand s es m.arrays h.1 (arrays_stand s [] false ms arrays 0 h.0 k) in
-      let q = phrase_stands s [] ms arrays 0 in
-      (rest.0, and_true (stands m.phrase) (list_all stands (quotations (elements_of s es m.arrays).elements)) q.inner rest.1)
-  elements_stand s (more (n_array ms p) es) arrays h k =
-      let m = elements_of s ms arrays in
-      let e = elements_stand s ms arrays h.0 k in
-      elements_stand s es (m.arrays ++ m.elements ∷ []) h.1 (array_stands m.arrays m.elements e.0 e.1)
-  elements_stand s (more n es) arrays h k = absurd h.0
-
 -- Both together.
 
 -- whether a phrase stands by itself, and each hole that a fry in it counts stands in that
@@ -213,13 +154,6 @@ sound_stands (t ∷ ts) h =
     let both = true_both (is_sound t) (list_all is_sound ts) h in
     and_true (stands t) (list_all stands ts) (true_both (is_closed t) (stands t) both.0).1 (sound_stands ts both.1)
 
-all_sound : (ts : List Phrase) → list_all is_closed ts ≡ true → list_all stands ts ≡ true → list_all is_sound ts ≡ true
-all_sound [] h k = refl
-all_sound (t ∷ ts) h k =
-    let one = true_both (is_closed t) (list_all is_closed ts) h in
-    let two = true_both (stands t) (list_all stands ts) k in
-    and_true (is_sound t) (list_all is_sound ts) (and_true (is_closed t) (stands t) one.0 two.0) (all_sound ts one.1 two.1)
-
 pub made_sound : (s : Scope) (ns : Nodes) (arrays : List (List Lit)) → ArePlain false ns → is_sound (phrase_of s [] ns arrays 0).phrase ≡ true
 made_sound s ns arrays h =
     let m = phrase_of s [] ns arrays 0 in
@@ -232,10 +166,56 @@ append_sound t u h k =
     let two = true_both (is_closed u) (stands u) k in
     and_true (is_closed (append t u)) (stands (append t u)) (append_closed t u one.0 two.0) (append_stands t u one.1 two.1)
 
+-- The quotations of arrays.
+
 abbrev pub are_sound : List (List Lit) → Bool
 are_sound arrays = list_all is_sound (joined (map quotations arrays))
 
+array_sound : (arrays : List (List Lit)) (ls : List Lit) → are_sound arrays ≡ true → list_all is_sound (quotations ls) ≡ true → are_sound (arrays ++ ls ∷ []) ≡ true
+array_sound [] ls h k = list_all-append is_sound (quotations ls) [] ∙ and_true (list_all is_sound (quotations ls)) true k refl
+array_sound (xs ∷ arrays) ls h k =
+    let both = true_both (list_all is_sound (quotations xs)) (are_sound arrays) (sym (list_all-append is_sound (quotations xs) (joined (map quotations arrays))) ∙ h) in
+    list_all-append is_sound (quotations xs) (joined (map quotations (arrays ++ ls ∷ []))) ∙ and_true (list_all is_sound (quotations xs)) (are_sound (arrays ++ ls ∷ [])) both.0 (array_sound arrays ls both.1 k)
+
+mutual
+  within_sound : (s : Scope) (locals : List (List ℕ)) (fry : Bool) (ns : Nodes) (arrays : List (List Lit)) (holes : ℕ) → ArePlain fry ns → are_sound arrays ≡ true → are_sound (phrase_of s locals ns arrays holes).arrays ≡ true
+  within_sound s locals fry nothing arrays holes h k = k
+  within_sound s locals fry (more (n_lit l p) ns) arrays holes h k = within_sound s locals fry ns arrays holes h.1 k
+  within_sound s locals fry (more (n_name t p) ns) arrays holes h k = within_sound s locals fry ns arrays holes h.1 k
+  within_sound s locals fry (more (n_ref t p) ns) arrays holes h k = within_sound s locals fry ns arrays holes h.1 k
+  within_sound s locals fry (more (n_call e p) ns) arrays holes h k = within_sound s locals fry ns arrays holes h.1 k
+  within_sound s locals fry (more (n_execute e p) ns) arrays holes h k = within_sound s locals fry ns arrays holes h.1 k
+  within_sound s locals fry (more (n_next p) ns) arrays holes h k = within_sound s locals fry ns arrays holes h.1 k
+  within_sound s locals fry (more (n_full v x p) ns) arrays holes h k = within_sound s locals fry ns arrays holes h.1 k
+  within_sound s locals fry (more (n_bind t twice p) ns) arrays holes h k = within_sound s (t.text ∷ locals) fry ns arrays holes h.1 k
+  within_sound s locals fry (more (n_hole p) ns) arrays holes h k = within_sound s locals fry ns arrays (suc holes) h.1 k
+  within_sound s locals fry (more (n_quot ms p) ns) arrays holes h k = let m = phrase_of s locals ms arrays holes in within_sound s locals fry ns m.arrays m.holes h.1 (within_sound s locals fry ms arrays holes h.0 k)
+  within_sound s locals fry (more (n_fry ms p) ns) arrays holes h k = let m = phrase_of s locals ms arrays 0 in within_sound s locals fry ns m.arrays holes h.1 (within_sound s locals true ms arrays 0 h.0 k)
+  within_sound s locals fry (more (n_part ms) ns) arrays holes h k = let m = phrase_of s locals ms arrays holes in within_sound s locals fry ns m.arrays m.holes h.1 (within_sound s locals fry ms arrays holes h.0 k)
+  within_sound s locals fry (more (n_array ms p) ns) arrays holes h k =
+      let m = elements_of s ms arrays in
+      let e = elements_sound s ms arrays h.0 k in
+      within_sound s locals fry ns (m.arrays ++ m.elements ∷ []) holes h.1 (array_sound m.arrays m.elements e.0 e.1)
+  within_sound s locals fry (more n ns) arrays holes h k = absurd h.0
+
+  elements_sound : (s : Scope) (es : Nodes) (arrays : List (List Lit)) → AreElements es → are_sound arrays ≡ true → (are_sound (elements_of s es arrays).arrays ≡ true) × (list_all is_sound (quotations (elements_of s es arrays).elements) ≡ true)
+  elements_sound s nothing arrays h k = (k, refl)
+  elements_sound s (more (n_lit (int z) p) es) arrays h k = elements_sound s es arrays h.1 k
+  elements_sound s (more (n_lit yes p) es) arrays h k = elements_sound s es arrays h.1 k
+  elements_sound s (more (n_lit no p) es) arrays h k = elements_sound s es arrays h.1 k
+  elements_sound s (more (n_lit (str bs) p) es) arrays h k = elements_sound s es arrays h.1 k
+  elements_sound s (more (n_lit l p) es) arrays h k = absurd h.0
+  elements_sound s (more (n_ref t p) es) arrays h k = elements_sound s es arrays h.1 k
+  elements_sound s (more (n_name t p) es) arrays h k = elements_sound s es arrays h.1 k
+  elements_sound s (more (n_quot ms p) es) arrays h k =
+      let m = phrase_of s [] ms arrays 0 in
+      let rest = elements_sound s es m.arrays h.1 (within_sound s [] false ms arrays 0 h.0 k) in
+      (rest.0, and_true (is_sound m.phrase) (list_all is_sound (quotations (elements_of s es m.arrays).elements)) (made_sound s ms arrays h.0) rest.1)
+  elements_sound s (more (n_array ms p) es) arrays h k =
+      let m = elements_of s ms arrays in
+      let e = elements_sound s ms arrays h.0 k in
+      elements_sound s es (m.arrays ++ m.elements ∷ []) h.1 (array_sound m.arrays m.elements e.0 e.1)
+  elements_sound s (more n es) arrays h k = absurd h.0
+
 pub arrays_sound : (s : Scope) (ns : Nodes) (arrays : List (List Lit)) → ArePlain false ns → are_sound arrays ≡ true → are_sound (phrase_of s [] ns arrays 0).arrays ≡ true
-arrays_sound s ns arrays h k =
-    let quoted = joined (map quotations arrays) in
-    all_sound (joined (map quotations (phrase_of s [] ns arrays 0).arrays)) (arrays_closed s [] false ns arrays 0 h (sound_closed quoted k)) (arrays_stand s [] false ns arrays 0 h (sound_stands quoted k))
+arrays_sound s ns arrays h k = within_sound s [] false ns arrays 0 h k

@@ -99,7 +99,7 @@ pub fn definition_parts(parts: &[Part]) -> Definition<'_>
     }
 }
 
-/// The parts of a definition whose inputs are locals.
+/// The parts of a definition whose inputs are locals. The pattern is that of `definition_parts`, from other slots.
 pub fn locals_parts(parts: &[Part]) -> Definition<'_>
     requires { FillAll (slot.Name ∷ slot.LocalsEffect ∷ slot.LocalsItems ∷ slot.Marks ∷ []) parts.now }
     ensures { IsLocals parts.now result.name.now result.written.now result.elements.now result.marks.now }
