@@ -16,7 +16,7 @@ took_no_note told (b ∷ bs) e = absurd (omega (arith, e))
 pub wrote_no_lines : {A E : Type 0} (told : ChannelsTold) (lines : List ℕ) (done : A) → length lines ≡ 0 → TakesPiece {A = A} {E = E} told told lines (Ok done)
 wrote_no_lines told lines done e = record {
   took = took_no_note told.output lines e;
-  cause = record { later = omega arith; cause = λ failed. absurd failed };
+  cause = record { later = omega arith; cause = λ failed. absurd (cc) };
   no_fault = refl;
   unread = record { input = refl; faults = refl };
 }
