@@ -1,10 +1,10 @@
 -- The input of which something is told.
-use Rattle.std.proofs.Common.{◌≡◌, ℕ, List, [], ◌++◌, Bool, None, Some, Result, refl, ap, sym, subst, ◌∙◌, arith}
+use Rattle.std.proofs.Common.{◌≡◌, ℕ, List, [], ◌++◌, Bool, None, Some, refl, ap, sym, subst, ◌∙◌}
 use Rattle.std.proofs.lemmas.List.{append_assoc}
 use Rattle.std.specs.Io.KnownBytes.{Consumes}
 use Rattle.std.specs.declared.option.Option.{Option}
 use Rattle.fac_io.specs.Told.{Stays, Stays-same}
-use Rattle.fac_lines.specs.Channels.{ChannelsTold, CountsStand, TakesPiece, IsUnread as AreUnread}
+use Rattle.fac_lines.specs.Channels.{ChannelsTold, IsUnread as AreUnread}
 use Rattle.fac_lines.specs.Inputs.{InputTold, ReadsInput}
 use Rattle.fac_lines.specs.LineAnswers.{bytes_left, AtEnd, MayCome}
 use Rattle.fac_tool.specs.SeenObjects.{InputSeen, OnInput, IsUnread, input_seen}
@@ -42,10 +42,6 @@ same_input old mid new unread =
     let input : mid.input ≡ new.input = sym unread.input in
     let faults : mid.input_faults ≡ new.input_faults = sym unread.faults in
     λ i. record { before = bytes_left old.input.kept old.input.left; now = bytes_left (input i).kept (input i).left; faults_before = old.input_faults; faults_now = faults i }
-
--- a write lets no count fall
-pub counts_of_write : {A E : Type 0} (old new : ChannelsTold) (piece : List ℕ) (answer : Result A E) → TakesPiece old new piece answer → CountsStand old new
-counts_of_write old new piece answer took = record { input = omega (arith, took.unread.faults); output = took.cause.later }
 
 -- an input of which the bytes are told, where the source gave these behind those that were kept
 abbrev lines_tell : Option (List ℕ) → Option (List ℕ) → List ℕ → List ℕ → ℕ → ℕ → InputSeen

@@ -1,5 +1,5 @@
 -- An empty note and no lines, of which nothing is written, and endings that are told.
-use Rattle.std.proofs.Common.{◌≡◌, ◌<◌, ℕ, List, [], ◌∷◌, Result, Ok, inr, refl, subst, arith}
+use Rattle.std.proofs.Common.{◌≡◌, ◌<◌, ℕ, List, [], ◌∷◌, Ok, inr, refl, subst, arith}
 use Rattle.std.specs.Prelude.{length}
 use Rattle.fac_io.specs.Told.{SinkTold, TookWhole}
 use Rattle.fac_lines.specs.Channels.{ChannelsTold, TakesPiece}
