@@ -100,7 +100,7 @@ impl FrameNodes {
         }
     }
 
-    /// A frame with one cell more.
+    /// A frame with one cell more. It promises what `push` of `StackNodes` does.
     pub fn push(&mut self, below: u32, mark: u32) -> Result<u32, Memory>
         requires { below < length self.old }
         ensures keeps { Keeps self.old self.new }

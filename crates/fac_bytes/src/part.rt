@@ -29,7 +29,8 @@ pub trait Part: Writable {
         ensures { MatchBool result (Self.format.Fits self.now) (Self.format.Fits self.now → ⊥) };
 }
 
-// So many parts one behind another. The list grows as they are read, so a wrong count takes no more memory than the bytes.
+// So many parts one behind another, as in fac_spelling, whose trait is another one. The list grows as they are read, so a wrong count takes no more
+// memory than the bytes.
 fn read_each<T: Part + Drop>(
     alloc: Global,
     count: u32,

@@ -163,7 +163,7 @@ impl<'a> Checker<'a> {
         Ok(top_kept(walked))
     }
 
-    // What an inline word with this phrase breaks. An expanded word isn't walked at its definition.
+    // What an inline word with this phrase breaks. An expanded word isn't walked at its definition. It takes what `row_broken` takes.
     fn inline_broken(
         &self,
         number: u32,
@@ -180,7 +180,7 @@ impl<'a> Checker<'a> {
         Ok(None)
     }
 
-    // What a word with this phrase breaks by its walk.
+    // What a word with this phrase breaks by its walk. It takes what `row_broken` takes.
     fn phrase_broken(
         &self,
         number: u32,

@@ -542,7 +542,7 @@ fn reference(marks: &mut Marks, stack: u32, word: u32) -> Result<Doing, Memory>
     put(marks, stack, mark)
 }
 
-// The item of a word that isn't the top-level phrase. An earlier one and a method are never items.
+// The item of a word that isn't the top-level phrase. An earlier one and a method are never items. It takes what `defined` takes, and the subject.
 fn word_item(
     subject: Subject<'_>,
     marks: &mut Marks,

@@ -264,6 +264,8 @@ fn nowhere() -> Place
     Place { file: 0, token: 0 }
 }
 
+// Every function of the walk says for itself what all of them keep of the subject, the marks and the items that are left, since its callers use each
+// clause alone.
 impl<'a> Walker<'a> {
     /// A walker with the empty stack and the frame with no cells alone.
     pub fn new(alloc: Global, subject: Subject<'a>) -> Result<Walker<'a>, Memory>
@@ -661,7 +663,7 @@ impl<'a> Walker<'a> {
         }
     }
 
-    // Walks a callable, and then puts a mark back. Its clauses are those of every function of the walk.
+    // Walks a callable, and then puts a mark back.
     #[cycle(walk)]
     fn walk_callable(&mut self, mark: u32, back: Option<u32>, step: Step) -> Result<Walked, Memory>
         requires mark { IsMark self.old.marks mark }
@@ -681,7 +683,7 @@ impl<'a> Walker<'a> {
         }
     }
 
-    // Walks both callables of an `if` from one stack, and joins what they leave. Its clauses are those of every function of the walk.
+    // Walks both callables of an `if` from one stack, and joins what they leave.
     #[cycle(walk)]
     fn walk_fork(&mut self, first: u32, second: u32, step: Step) -> Result<Walked, Memory>
         requires first { IsMark self.old.marks first }
@@ -919,7 +921,7 @@ impl<'a> Walker<'a> {
         }
     }
 
-    // Walks an item that is counted. The stack is that of what the item does, not the step's.
+    // Walks an item that is counted, with an arm for each doing, as `item_rule` has. The stack is that of what the item does, not the step's.
     #[cycle(walk)]
     fn walk_counted(&mut self, doing: Doing, step: Step) -> Result<Walked, Memory>
         requires { IsActOf (slice_get self.old.subject.closed.now.program.words) self.old.marks doing }

@@ -18,7 +18,8 @@ use fac_source::{NameFault, NameKind, Ref, refuse_if, refuse_name};
 use indexmap::IndexSet;
 use std::alloc::Global;
 
-// The method that a word of this sort is, where its phrase is a method's on this class and of this generic.
+// The method that a word of this sort is, where its phrase is a method's on this class and of this generic. Each sort has its line, as in fac_generic,
+// so that a new one is asked for here.
 fn key_by(class: Option<u32>, generic: u32, sort: &Sort) -> Option<MethodKey>
     ensures { result ≡ key_by class generic sort.now }
 {

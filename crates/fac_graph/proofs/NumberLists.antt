@@ -1,24 +1,12 @@
 -- Lists of numbers, and elements by their numbers.
 use Rattle.std.proofs.Common.{◌≡◌, ◌<◌, ◌≤◌, ◌⊎◌, inl, inr, ℕ, zero, suc, ◌+◌, ◌-◌, List, [], ◌∷◌, ◌++◌, length, get_or, set, take, drop, Bool, true, false, Some, None, refl, sym, ap, ◌∙◌, length-append, subst, arith}
-use Rattle.std.specs.Prelude.{slice_get, nat_eq, nat_lt, ◌||◌}
-use Rattle.std.proofs.lemmas.Bool.{and_parts, and_from}
+use Rattle.std.specs.Prelude.{slice_get, nat_eq, nat_lt}
+use Rattle.std.proofs.lemmas.Bool.{and_from, and_parts, or_cases, or_left, or_right}
 use Rattle.fac_graph.specs.Paths.{one_of, IsOneOf}
 use Rattle.fac_graph.specs.inner.Components.{are_below}
 
 pub some_same : {A : Type 0} → (x y : A) → Some x ≡ Some y → x ≡ y
 some_same x y e = cc
-
-pub or_left : (a b : Bool) → a ≡ true → (a || b) ≡ true
-or_left true b e = refl
-or_left false b e = absurd cc
-
-pub or_right : (a b : Bool) → b ≡ true → (a || b) ≡ true
-or_right true b e = refl
-or_right false b e = e
-
-pub or_either : (a b : Bool) → (a || b) ≡ true → (a ≡ true) ⊎ (b ≡ true)
-or_either true b e = inl refl
-or_either false b e = inr e
 
 pub same_number : (v w : ℕ) → nat_eq v w ≡ true → v ≡ w
 same_number v w e = grind arith
@@ -29,7 +17,7 @@ itself v = grind arith
 -- membership in lists that are put together
 pub in_left : (v : ℕ) (xs ys : List ℕ) → IsOneOf v xs → IsOneOf v (xs ++ ys)
 in_left v [] ys e = absurd cc
-in_left v (x ∷ xs) ys e = elim (or_either (nat_eq v x) (one_of v xs) e) [ inl p ↦ or_left (nat_eq v x) (one_of v (xs ++ ys)) p | inr p ↦ or_right (nat_eq v x) (one_of v (xs ++ ys)) (in_left v xs ys p) ]
+in_left v (x ∷ xs) ys e = elim (or_cases (nat_eq v x) (one_of v xs) e) [ inl p ↦ or_left (nat_eq v x) (one_of v (xs ++ ys)) p | inr p ↦ or_right (nat_eq v x) (one_of v (xs ++ ys)) (in_left v xs ys p) ]
 
 pub in_right : (v : ℕ) (xs ys : List ℕ) → IsOneOf v ys → IsOneOf v (xs ++ ys)
 in_right v [] ys e = e
@@ -38,13 +26,13 @@ in_right v (x ∷ xs) ys e = or_right (nat_eq v x) (one_of v (xs ++ ys)) (in_rig
 pub in_either : (v : ℕ) (xs ys : List ℕ) → IsOneOf v (xs ++ ys) → IsOneOf v xs ⊎ IsOneOf v ys
 in_either v [] ys e = inr e
 in_either v (x ∷ xs) ys e =
-    elim (or_either (nat_eq v x) (one_of v (xs ++ ys)) e) [
+    elim (or_cases (nat_eq v x) (one_of v (xs ++ ys)) e) [
       | inl p ↦ inl (or_left (nat_eq v x) (one_of v xs) p)
       | inr p ↦ elim (in_either v xs ys p) [ inl q ↦ inl (or_right (nat_eq v x) (one_of v xs) q) | inr q ↦ inr q ]
     ]
 
 pub only_one : (v w : ℕ) → IsOneOf v (w ∷ []) → v ≡ w
-only_one v w e = elim (or_either (nat_eq v w) (one_of v []) e) [ inl p ↦ same_number v w p | inr p ↦ absurd cc ]
+only_one v w e = elim (or_cases (nat_eq v w) (one_of v []) e) [ inl p ↦ same_number v w p | inr p ↦ absurd cc ]
 
 pub in_one : (v : ℕ) (xs : List ℕ) → IsOneOf v (v ∷ xs)
 in_one v xs = or_left (nat_eq v v) (one_of v xs) (itself v)
@@ -53,7 +41,7 @@ in_one v xs = or_left (nat_eq v v) (one_of v xs) (itself v)
 pub member_at : (v : ℕ) (xs : List ℕ) → IsOneOf v xs → (i : ℕ) × (slice_get xs i ≡ Some v)
 member_at v [] e = absurd cc
 member_at v (x ∷ xs) e =
-    elim (or_either (nat_eq v x) (one_of v xs) e) [
+    elim (or_cases (nat_eq v x) (one_of v xs) e) [
       | inl p ↦ (0, ap Some (sym (same_number v x p)))
       | inr p ↦ let found = member_at v xs p in (suc found.0, found.1)
     ]

@@ -215,7 +215,7 @@ fn visit_all(search: &mut Search, edges: &List<List<u32>>) -> Result<(), Memory>
     Ok(())
 }
 
-// Whether a node that is done leads back to itself.
+// Whether a node that is done leads back to itself. slots.rt has the same for its standings, which are of another type.
 fn flag_of(standing: Standing) -> bool
     requires { is_done (Some standing) ≡ true }
     ensures { standing ≡ Done result }

@@ -132,7 +132,7 @@ fn count_all(counting: &mut Counting, classes: &List<ClassDef>) -> Result<(), Me
     Ok(())
 }
 
-// How many slots a class has that is counted.
+// How many slots a class has that is counted. What is read of finished standings stands here and in components.rt, each for standings of its own type.
 fn count_of(standing: Standing) -> u32
     requires { is_known (Some standing) ≡ true }
     ensures { standing ≡ Known result }

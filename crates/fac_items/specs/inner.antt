@@ -4,3 +4,4 @@ pub mod CaseLists
 pub mod Bits
 pub mod Behind
 pub mod TakenBits
+pub mod Choosing

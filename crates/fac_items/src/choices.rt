@@ -1,7 +1,8 @@
 //! Quotations. Those that choose further, as `cond` is read, stand in one list with those around them.
 ghost use Rattle.std.specs.Prelude.{◌≡◌, ◌<◌, length, IfOk, MatchBool};
-ghost use Rattle.fac_lang.specs.Phrases.{append, end, quot, then, word};
+ghost use Rattle.fac_lang.specs.Phrases.{quot};
 ghost use Rattle.fac_lang.specs.PhraseView.{choices_phrase, items_phrase, what_item};
+ghost use Rattle.fac_items.specs.inner.Choosing.{with_both, with_choice};
 
 use fac_base::{Memory, Place};
 use fac_lang::{Choices, Item, Phrase, What};
@@ -18,7 +19,7 @@ fn phrase_of(items: Vec<Item>) -> Phrase
 
 // A quotation of these items and of two more behind them.
 fn whole(items: Vec<Item>, inner: Item, last: Item) -> Result<What, Memory>
-    ensures { IfOk result (λ what. what_item what ≡ quot (append (items_phrase items.items) (then (what_item inner.what) inner.place (then (what_item last.what) last.place end)))) }
+    ensures { IfOk result (λ what. what_item what ≡ quot (with_both inner last (items_phrase items.items))) }
 {
     let mut items = items;
     items.push(inner)?;
@@ -53,7 +54,7 @@ fn choice(
     chooses: u32,
     place: Place,
 ) -> Result<What, Memory>
-    ensures { IfOk result (λ what. what_item what ≡ quot (append (items_phrase items.items) (then (quot inner) place (then (word chooses) place end)))) }
+    ensures { IfOk result (λ what. what_item what ≡ quot (with_choice (quot inner) chooses place (items_phrase items.items))) }
 {
     let mut phrases = Vec::with_capacity(alloc, 2)?;
     phrases.push(inner)?;
@@ -69,7 +70,7 @@ fn further(
     chooses: u32,
     place: Place,
 ) -> Result<What, Memory>
-    ensures { IfOk result (λ what. what_item what ≡ quot (append (items_phrase items.items) (then (quot (choices_phrase choices)) place (then (word chooses) place end)))) }
+    ensures { IfOk result (λ what. what_item what ≡ quot (with_choice (quot (choices_phrase choices)) chooses place (items_phrase items.items))) }
 {
     let Choices {
         phrases,
@@ -98,7 +99,7 @@ fn around(
     chooses: u32,
     place: Place,
 ) -> Result<What, Memory>
-    ensures { IfOk result (λ what. what_item what ≡ quot (append (items_phrase items.items) (then (what_item inner) place (then (word chooses) place end)))) }
+    ensures { IfOk result (λ what. what_item what ≡ quot (with_choice (what_item inner) chooses place (items_phrase items.items))) }
 {
     match inner {
         What::Quot(phrase) => choice(alloc, items, phrase, chooses, place),
@@ -119,7 +120,7 @@ fn around(
 
 // A quotation of these items and of two more behind them, which may be a quotation and the word that chooses.
 fn ended(alloc: Global, items: Vec<Item>, inner: Item, last: Item) -> Result<What, Memory>
-    ensures { IfOk result (λ what. what_item what ≡ quot (append (items_phrase items.items) (then (what_item inner.what) inner.place (then (what_item last.what) last.place end)))) }
+    ensures { IfOk result (λ what. what_item what ≡ quot (with_both inner last (items_phrase items.items))) }
 {
     let Item {
         what: inside,

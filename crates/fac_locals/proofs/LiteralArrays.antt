@@ -188,7 +188,7 @@ pub program_closable : (P : Program) → IsSourceProgram P → IsWhole P → Are
 program_closable P b w =
     words_closable P P.top P.words (built_phrases P b) (and_parts _ _ (sym (list_all-append (each_item (item_fits P)) (word_phrases P.words) (joined (map quotations P.arrays))) ∙ w.items_fit)).0
 
--- a phrase whose arrays are all before this one
+-- a phrase whose arrays are all before this one, by the same cases as for `fitting_closable`; the tests have nothing else in common
 mutual
   naming_closable : (bound a : ℕ) (t : Phrase) → IsSourcePhrase bound t → list_all (λ (b : ℕ). nat_lt b a) (arrays_named t) ≡ true → IsClosable a t
   naming_closable bound a end h e = tt

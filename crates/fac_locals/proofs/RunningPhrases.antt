@@ -188,7 +188,7 @@ module _ (P : Program) where
     array_runs : (a : ℕ) (p : Place) → IsRun (array_phrase P a p)
     array_runs a p = elements_run (array_method P (length P.arrays) a) (array_method_is (length P.arrays) a) p (array_or_none (slice_get P.arrays a)) (array_built a P.arrays b.arrays_from_source)
 
-  -- Literals.
+  -- Literals, by the cases that NamedArrays of fac_emit has for another property of phrases.
   abbrev AllRun : List Quoted → Type 0
   AllRun [] = Unit {0}
   AllRun (l ∷ ls) = IsRun (quoted_phrase l) × AllRun ls

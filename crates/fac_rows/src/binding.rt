@@ -279,7 +279,7 @@ impl<'a> Binding<'a> {
         }
     }
 
-    // What a quotation input left, against its row.
+    // What a quotation input left, against its row. It takes what `tie_free` takes.
     fn tie_row(
         &mut self,
         marks: &Marks,

@@ -114,6 +114,7 @@ longer_ends : (more : ℕ) (test : ℕ → Bool) (low high b : ℕ) (front rest 
 longer_ends more test low high b front [] le h = tt
 longer_ends more test low high b front (c ∷ cs) le h = λ w. h (longer more test low high b (front ++ c ∷ []) le w)
 
+-- as for numbers without a test, of which the format, and so each lemma here, is another one
 longer_right : (more : ℕ) (test : ℕ → Bool) (low high b : ℕ) (bs : List ℕ) → 128 ≤ b → b < 256 → (r : Result (ℕ × List ℕ) ℕ) → Right (where_digits more (test_behind b test) (least low b) (most high b)) bs r
     → Right (where_digits (suc more) test low high) (b ∷ bs) (r >>= λ x. Ok (b - 128 + 128 * x.0, x.1))
 longer_right more test low high b bs le lt (Ok x) h =

@@ -87,6 +87,8 @@ returns-in-Int-clause-does c =
       ]
     ]) c.unknown.ensures.does
 
+-- The arms of `call( )` and `execute( )` have goals of one shape, each with names of its own.
+
 pub returns-in-CallEff-clause-there : goal.returns-in-CallEff-clause-there
 returns-in-CallEff-clause-there c = ok_maps c.effect_call.result (λ r there. doing_of (slice_get c.args.subject.closed.now.program.words) _ r there) c.effect_call.ensures.there
 

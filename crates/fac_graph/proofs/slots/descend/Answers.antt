@@ -1,3 +1,4 @@
+-- What both answers begin with speaks of `c`, whose type is another one in each goal.
 use Rattle.std.proofs.Common.{◌≡◌, ℕ, ◌+◌, ◌++◌, ◌∷◌, [], Option, set, refl, ap, ◌∙◌, arith}
 use Rattle.std.specs.Option.{option_to_list}
 use Rattle.fac_lang.specs.Classes.{shape_at}

@@ -1,3 +1,4 @@
+-- As for `make`. The goals of each function are a module of its own, so answers of one shape are written for each.
 use Rattle.std.proofs.Common.{◌∷◌, IfOk, subst}
 use Rattle.std.specs.Map.{keys_of, values_of}
 use Rattle.fac_abs.specs.SeenMarks.{MarksSeen, mark_of, frame_of, Grows}

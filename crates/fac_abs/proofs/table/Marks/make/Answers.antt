@@ -1,3 +1,4 @@
+-- As for `bind`. The goals of each function are a module of its own, so answers of one shape are written for each.
 use Rattle.std.proofs.Common.{IfOk, ◌≡◌, length, subst, sym}
 use Rattle.std.specs.Map.{keys_of}
 use Rattle.fac_abs.specs.Marks.{mark_depth}

@@ -1,3 +1,4 @@
+-- As for `ordinary_broken`. The goals of each function are a module of its own, so answers of one shape are written for each.
 use Rattle.std.proofs.Common.{◌≡◌, true, None, ◌∙◌, length, ap, sym, subst}
 use Rattle.fac_abs.specs.Marks.{unknowns}
 use Rattle.fac_check.specs.declared.subject.Subject.{Subject}
