@@ -3,12 +3,12 @@ use Rattle.std.proofs.Common.{◌≡◌, ◌<◌, ℕ, zero, suc, ◌+◌, List,
 use Rattle.std.specs.Prelude.{slice_get, ⊤}
 use Rattle.std.specs.declared.option.Option.{Option}
 use Rattle.fac_lang.specs.World.{World}
-use Rattle.fac_lang.specs.Procedures.{Gives, gives, bad, Fn, fn0, fn1, fn2, fn3}
+use Rattle.fac_lang.specs.Procedures.{Gives, gives, bad}
 use Rattle.fac_code.specs.declared.image.Image.{Image}
 use Rattle.fac_code.specs.declared.image.Instr.{Instr}
 use Rattle.fac_store.specs.MachineValues.{MValue}
-use Rattle.fac_machine.specs.Machine.{Job, instr, Machine, spent, Step, goes_on, ends, after, paying, job_cost, given, back, does_job, job_or_fetched, fetched, step}
-use Rattle.fac_machine.proofs.EachInstruction.{OfFn, IsClosed, each_job}
+use Rattle.fac_machine.specs.Machine.{Job, instr, Machine, spent, Step, goes_on, ends, after, paying, job_cost, given, going, jumping, next_job, back, does_job, job_or_fetched, fetched, step}
+use Rattle.fac_machine.proofs.EachInstruction.{From, Anything, any_fn, IsClosed, each_job}
 use Rattle.fac_vm.specs.Runs.{end_world}
 
 -- what a world tells of reading and writing: the input left, how many lines were asked for, and the output
@@ -73,35 +73,31 @@ back_by Free pc f out n (ends e) h = h
 abbrev Timed : Type 0 → World MValue → (ℕ → Step) → Type 0
 Timed Free w f = (n : ℕ) → Ticks Free f (mark_in w) n
 
-ticked : (Free : Type 0) (f g : ℕ → Step) (s : Machine) → f 0 ≡ ends (spent s) → ((n : ℕ) → f (suc n) ≡ g n) → Timed Free s.world g → Timed Free s.world f
-ticked Free f g s first next h zero = rw first (λ c none. refl)
-ticked Free f g s first next h (suc n) = rw (next n) (ticking Free Free f g s (mark_in s.world) n next first refl (g n) (h n))
+goes_timed : (Free : Type 0) (s : Machine) (w : World MValue) → s.world ≡ w → Timed Free w (λ n. goes_on s n)
+goes_timed Free s w same n = goes Free (λ n. goes_on s n) s (mark_in w) (λ n. refl) (λ c. ap mark_in same) n
+
+ticked : (Free : Type 0) (f g : ℕ → Step) (s : Machine) (w : World MValue) → s.world ≡ w → f 0 ≡ ends (spent s) → ((n : ℕ) → f (suc n) ≡ g n) → Timed Free w g → Timed Free w f
+ticked Free f g s w same first next h zero = rw first (λ c none. ap mark_in same)
+ticked Free f g s w same first next h (suc n) = rw (next n) (ticking Free Free f g s (mark_in w) n next first (ap mark_in same) (g n) (h n))
 
 -- what may write took a tick
 gives_timed : (Free : Type 0) (a : ℕ) (s : Machine) (g : Gives MValue) → (Free → ⊥) → Timed Free s.world (λ n. given a s n (λ t. goes_on (after t) n) g)
 gives_timed Free a s (gives vs w) costs n = goes Free _ _ (mark_in s.world) (λ n. refl) (λ c. absurd (costs c)) n
 gives_timed Free a s (bad e v w) costs n = λ c none. absurd (costs c)
 
--- nothing is asked of what primitives give
-abbrev Anything : World MValue → Gives MValue → Type 0
-Anything w g = ⊤
-
-any_fn : (f : Fn MValue) → OfFn Anything f
-any_fn (fn0 f) = λ w. tt
-any_fn (fn1 f) = λ x w. tt
-any_fn (fn2 f) = λ x y w. tt
-any_fn (fn3 f) = λ x y z w. tt
-
 module _ (M : Image) where
-  timing : (Free : Type 0) → IsClosed M Free Anything (Timed Free)
+  timing : (Free : Type 0) → IsClosed M Free ⊥ Anything (λ q f. Timed Free q.world f)
   timing Free = record {
-    goes = λ s none. goes Free (goes_on s) s (mark_in s.world) (λ n. refl) (λ c. refl);
-    works = λ j s costs. goes Free _ _ (mark_in s.world) (λ n. refl) (λ c. refl);
+    goes_behind = λ s. goes_timed Free (after s) s.world refl;
+    jumps = λ a s far. goes_timed Free (jumping a s) s.world refl;
+    enters = λ a frame s q same fewer. goes_timed Free (going a frame s) q.world same;
+    works = λ j s costs. goes_timed Free (next_job j s) s.world refl;
     halts = λ s n c none. refl;
     fails = λ e s n c none. refl;
-    traps = λ y s n c none. refl;
-    ticks = λ f g s first next h. ticked Free f g s first next h;
-    returns_to = λ pc w f costs h n. back_by Free pc f (mark_in w) n (f n) (h n);
+    traps = λ y s q same n c none. ap mark_in same;
+    ticks = λ f g s q r same kept first next h. ticked Free f g s q.world same first next (rw (← kept) h);
+    leaves = λ e s f costs h. h;
+    returns_to = λ pc q f costs h n. back_by Free pc f (mark_in q.world) n (f n) (h n);
     gives_on = λ a s g costs h. gives_timed Free a s g costs;
     primitives = λ q. any_fn _;
     getters = λ cs x w. tt;
@@ -126,7 +122,7 @@ module _ (M : Image) where
   paid (suc k) g s h (suc n) = ticking (suc k ≡ 0) ⊤ (λ n. paying (suc k) s n g) (λ n. paying k s n g) s (mark_in s.world) n (λ k. refl) refl refl (paying k s n g) (paid_by (suc k ≡ 0) g s h k n)
 
   job_timed : (j : Job) (s : Machine) → Timed ⊤ s.world (λ n. paying (job_cost j) s n (does_job M j s))
-  job_timed j s = paid (job_cost j) (does_job M j s) s (each_job M (job_cost j ≡ 0) Anything (Timed (job_cost j ≡ 0)) (timing (job_cost j ≡ 0)) j (λ free. free) s)
+  job_timed j s = paid (job_cost j) (does_job M j s) s (each_job M (job_cost j ≡ 0) Anything (λ q f. Timed (job_cost j ≡ 0) q.world f) (timing (job_cost j ≡ 0)) j (λ free. free) s)
 
   fetched_at : (o : Option Instr) (s : Machine) → Timed ⊤ s.world (fetched M o s)
   fetched_at None s n = λ c none. refl
