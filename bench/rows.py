@@ -129,7 +129,7 @@ ROWS = [
     ),
     Row(
         "What an instruction costs (`unbind`)",
-        r"Instr::Unbind\(cells\) =>|row_of \(i\.Unbind|\bFREE\b|free_here .*Unbind|`Unbind\(k\)` \| 0",
+        r"Instr::Unbind\(cells\) =>|row_of \(i\.Unbind|\bFREE\b|each_instr \(Unbind|`Unbind\(k\)` \| 0",
         also=[r"`[Uu]nbind\b"],
     ),
     Row("A kind of value (an iota)", r"\bValue(::|\.)Iota\b|\bIota\b"),

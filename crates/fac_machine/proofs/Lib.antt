@@ -1,3 +1,4 @@
+pub mod EachInstruction
 mod ExamplesOfFrames
 mod ExamplesOfJumps
 mod ExamplesOfWords
