@@ -245,6 +245,8 @@ pub struct Tables {
     pub pairs: List<(u32, u32)>,
 }
 
+// It has the tables as fields of its own, since nearly all that is said of an image is said of one of them.
+
 /// The code of a program. Its words have the numbers of the program's words.
 #[derive(Drop)]
 pub struct Image {

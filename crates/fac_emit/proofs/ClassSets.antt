@@ -11,6 +11,7 @@ use Rattle.fac_lang.specs.Classes.{has_own, own_kind, class_with, shape_at, desc
 use Rattle.fac_classes.specs.ClassKinds.{kind_total, kinds_below, kinds_of}
 use Rattle.fac_machine.specs.Machine.{set_has}
 use Rattle.fac_emit.specs.ProgramTables.{sets_from}
+use Rattle.fac_emit.proofs.TextLemmas.{or_left, or_right}
 
 never_true : {A : Type 0} → false ≡ true → A
 never_true h = absurd (true≢false (sym h))
@@ -22,14 +23,6 @@ both_true false b h = never_true h
 or_true : (a b : Bool) → (a || b) ≡ true → (a ≡ true) ⊎ (b ≡ true)
 or_true true b h = inl refl
 or_true false b h = inr h
-
-or_left : (a b : Bool) → a ≡ true → (a || b) ≡ true
-or_left true b h = refl
-or_left false b h = never_true h
-
-or_right : (a b : Bool) → b ≡ true → (a || b) ≡ true
-or_right true b h = refl
-or_right false b h = h
 
 same_bool : (a b : Bool) → (a ≡ true → b ≡ true) → (b ≡ true → a ≡ true) → a ≡ b
 same_bool true true f g = refl

@@ -79,6 +79,7 @@ fn told(alloc: Global, line: &str) -> Result<Text, Memory> {
     }
 }
 
+// As in `fac_number_cases`: a program alone has the runtime, and the loop is all of it.
 fn main(rt: HostRuntime) -> io::Result<()> {
     let alloc = rt.alloc();
     for line in rt.lines(alloc) {

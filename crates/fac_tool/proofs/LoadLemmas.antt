@@ -156,6 +156,7 @@ loads_end names before after name room limit h h' h'' a a' a'' n n' n'' texts en
       refusal = ap (λ (x : Ended). x.refusal) fails.is;
       rose = subst (λ (k : ℕ). Rose k n'') gives.faults fails.rose;
     }))
+-- the same facts of what was loaded before, in another record
 loads_end names before after name room limit h h' h'' a a' a'' n n' n'' texts ended place so_far (inr (inr (inr long))) =
     let gives = so_far.gives in
     inr (inr (record {

@@ -23,7 +23,7 @@ use fac_notes::status::NO_MEMORY;
 use fac_vm::Machine;
 use std::alloc::Global;
 
-// Runs a fresh machine and answers. What is said goes for each program that its image carries, on one input.
+// Runs a fresh machine and answers, as `run_image` does. What is said goes for each program that its image carries, on one input.
 fn run_carried<S: Reader, K: Sink>(
     alloc: Global,
     machine: &mut Machine,
@@ -68,6 +68,8 @@ pub fn run_program<S: Reader, K: Sink>(
         Err(_) => Err(bare(NO_MEMORY, 0)),
     }
 }
+
+// The two commands that run have one clause, each with its answer.
 
 /// Likewise, and then writes the lines of the stack where the run is done.
 pub fn run_and_list<S: Reader, K: Sink>(
