@@ -40,6 +40,10 @@ abbrev pub members_faults : List Draft → List Ref → List NameFault
 members_faults ds [] = []
 members_faults ds (r ∷ rs) = not_a_class ds r ++ members_faults ds rs
 
+-- a parent that is no tuple class
+abbrev pub parent_fault : List Draft → List ClassDef → Ref → List NameFault
+parent_fault ds cs r = fault_if (not (is_tuple_class cs (class_at ds r))) BadParent r.tok
+
 -- A tuple class with its parents has at most so many slots.
 abbrev pub most_slots : ℕ
 most_slots = MOST_SLOTS
@@ -52,7 +56,7 @@ abbrev pub tuple_faults : List Draft → List ClassDef → ℕ → Option Ref �
 tuple_faults ds cs c None slots = slot_faults [] slots
 tuple_faults ds cs c (Some r) slots =
     if too_many cs c slots then fault BadParent r.tok ∷ []
-    else fault_if (not (is_tuple_class cs (class_at ds r))) BadParent r.tok ++ slot_faults (inherited cs c) slots
+    else parent_fault ds cs r ++ slot_faults (inherited cs c) slots
 
 abbrev pub named_faults : List Draft → List ClassDef → ℕ → Named → List NameFault
 named_faults ds cs c (a_tuple parent slots) = tuple_faults ds cs c parent slots

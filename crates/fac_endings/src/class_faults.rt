@@ -1,9 +1,8 @@
 //! What the end shows to be refused of classes.
-ghost use Rattle.std.specs.Prelude.{◌≡◌, ◌<◌, ◌^◌, ◌+◌, ◌++◌, fold, length, not, Some, OnOk};
+ghost use Rattle.std.specs.Prelude.{◌≡◌, ◌<◌, ◌^◌, ◌+◌, ◌++◌, fold, length, Some, OnOk};
 ghost use Rattle.fac_source.specs.Refusals.{fault_if, sooner};
-ghost use Rattle.fac_source.specs.declared.refusal.NameKind.TheVariants.{BadParent, Cycle};
-ghost use Rattle.fac_endings.specs.ClassTable.{class_at, is_tuple_class};
-ghost use Rattle.fac_endings.specs.LastRefusals.{class_faults, members_faults, named_faults, not_a_class, slot_faults, tuple_faults};
+ghost use Rattle.fac_source.specs.declared.refusal.NameKind.TheVariants.{Cycle};
+ghost use Rattle.fac_endings.specs.LastRefusals.{class_faults, members_faults, named_faults, not_a_class, parent_fault, slot_faults, tuple_faults};
 ghost use Rattle.fac_endings.specs.inner.Chains.{slots_of};
 ghost use Rattle.fac_endings.specs.inner.Behind.{are_behind, is_behind};
 ghost use Rattle.fac_endings.specs.inner.Cycles.{AreCycles};
@@ -80,7 +79,7 @@ fn refuse_parent(
     table: Table<'_>,
     parent: &Ref,
 ) -> Result<(), Memory>
-    ensures { OnOk result (first.new ≡ fold sooner first.old (fault_if (not (is_tuple_class table.entry.classes.now (class_at table.entry.drafts.now parent.now))) BadParent parent.now.tok)) }
+    ensures { OnOk result (first.new ≡ fold sooner first.old (parent_fault table.entry.drafts.now table.entry.classes.now parent.now)) }
 {
     let is_tuple = is_tuple_class(table.classes, class_at(table.drafts, parent));
     refuse_if(alloc, first, !is_tuple, NameKind::BadParent, &parent.tok)
@@ -95,7 +94,7 @@ fn refuse_tuple(
     parent: &Ref,
     slots: &[Tok],
 ) -> Result<(), Memory>
-    ensures { OnOk result (first.new ≡ fold sooner first.old (fault_if (not (is_tuple_class table.entry.classes.now (class_at table.entry.drafts.now parent.now))) BadParent parent.now.tok ++ slot_faults (slots_of table.entry.classes.now bearers.now) slots.now)) }
+    ensures { OnOk result (first.new ≡ fold sooner first.old (parent_fault table.entry.drafts.now table.entry.classes.now parent.now ++ slot_faults (slots_of table.entry.classes.now bearers.now) slots.now)) }
 {
     refuse_parent(alloc, first, table, parent)?;
     refuse_slots(alloc, first, table.classes, bearers, slots)
