@@ -2,7 +2,8 @@
 ghost use Rattle.std.specs.Prelude.{◌≡◌, ◌&&◌, length, nat_le, nat_lt, slice_get};
 ghost use Rattle.std.specs.List.{list_all};
 ghost use Rattle.fac_code.specs.Code.{is_built_instr, has_built_code};
-ghost use Rattle.fac_code.specs.References.{is_code as does_code, names_code, names_quotation, names_constant, number_refers, instr_refers, number_places, place_refers, places_refer, elem_refers, arrays_refer, action_refers, word_refers, template_refers, texts_refer, slots_refer, kind_refers, is_kind, set_refers, method_refers, generic_refers, pairs_refer, tables_refer, refers as all_refer};
+ghost use Rattle.fac_code.specs.References.{is_code as does_code, names_code, names_quotation, names_constant, number_refers, instr_refers, number_places, place_refers, places_refer, elem_refers, arrays_refer, action_refers};
+ghost use Rattle.fac_code.specs.References.{word_refers, template_refers, texts_refer, slots_refer, kind_refers, is_kind, set_refers, method_refers, generic_refers, pairs_refer, tables_refer, refers as all_refer};
 ghost use Rattle.fac_code.specs.inner.MethodNumbers.{AreNumbersOf};
 
 use crate::method_numbers::MethodNumbers;

@@ -1,7 +1,8 @@
 //! The sequence of texts of a closed program, each of which is kept where it is first met.
 ghost use Rattle.std.specs.Prelude.{◌≡◌, ◌∷◌, [], IfOk, OnOk, slice_get};
 ghost use Rattle.fac_lang.specs.PhraseView.{what_item};
-ghost use Rattle.fac_emit.specs.ProgramTexts.{with_texts, item_texts, phrase_texts, element_texts, elements_texts, template_texts, array_texts, body_texts, own_slots, class_texts, classes_texts, found_class_texts, sort_texts, word_texts, words_texts, templates_texts, arrays_texts, program_texts, no_texts, own_texts, own_elements_texts};
+ghost use Rattle.fac_emit.specs.ProgramTexts.{with_texts, item_texts, phrase_texts, element_texts, elements_texts, template_texts, array_texts, body_texts, own_slots, class_texts, classes_texts};
+ghost use Rattle.fac_emit.specs.ProgramTexts.{found_class_texts, sort_texts, word_texts, words_texts, templates_texts, arrays_texts, program_texts, no_texts, own_texts, own_elements_texts};
 
 use crate::texts::Texts;
 use fac_base::limits::MOST_LEVELS;

@@ -9,7 +9,8 @@ ghost use Rattle.fac_vocab.specs.Scopes.{Scope};
 ghost use Rattle.fac_items.specs.FromElements.{node, tested_call, tok};
 ghost use Rattle.fac_items.specs.Items.{local_of, search_fault, word_of};
 ghost use Rattle.fac_items.specs.inner.Behind.{name_tok};
-ghost use Rattle.fac_items.specs.inner.TakenBits.{added_taken, all_bound, array_in, array_opened, array_or_cases, array_taken, begun, bound_taken, bracket_opened, case_opened, cond_place, fresh_opened, hole_taken, item_taken, last_opened, leaf_inside, locals_at, locals_seen, name_as, name_in, opened_inside, quotation_opened, reference_taken};
+ghost use Rattle.fac_items.specs.inner.TakenBits.{added_taken, all_bound, array_in, array_opened, array_or_cases, array_taken, begun, bound_taken, bracket_opened, case_opened, cond_place, fresh_opened};
+ghost use Rattle.fac_items.specs.inner.TakenBits.{hole_taken, item_taken, last_opened, leaf_inside, locals_at, locals_seen, name_as, name_in, opened_inside, quotation_opened, reference_taken};
 
 use crate::added::{Added, number_of};
 use crate::content::{Content, add_element, add_literal, add_reference, add_what};

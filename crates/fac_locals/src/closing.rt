@@ -7,7 +7,8 @@ ghost use Rattle.fac_graph.specs.Slots.{slot_counts};
 ghost use Rattle.fac_locals.specs.Cells.{cell_number, cells_behind};
 ghost use Rattle.fac_locals.specs.Asked.{quotations_in, quotations_at};
 ghost use Rattle.fac_locals.specs.Closed.{Closes};
-ghost use Rattle.fac_locals.specs.inner.Numbering.{ItemPassed, PhrasePassed, ArrayPassed, WordsPassed, ClosesWhat, ClosesTree, IsAsked, AreAsked, NumberTaken, KeptTaken, IsEnteredAsked, EntersLevel, EntersInside, ClosesChoices, ClosesQuotation, IsQuotedAsked, PartsClosed, closed_phrase, closed_element, closed_elements, closed_sort, closed_word, closed_words};
+ghost use Rattle.fac_locals.specs.inner.Numbering.{ItemPassed, PhrasePassed, ArrayPassed, WordsPassed, ClosesWhat, ClosesTree, IsAsked, AreAsked, NumberTaken, KeptTaken, IsEnteredAsked, EntersLevel};
+ghost use Rattle.fac_locals.specs.inner.Numbering.{EntersInside, ClosesChoices, ClosesQuotation, IsQuotedAsked, PartsClosed, closed_phrase, closed_element, closed_elements, closed_sort, closed_word, closed_words};
 ghost use Rattle.fac_locals.specs.inner.Numbering.{put_all, method_of, next_what, cell_what, phrase_of, plain_item, plain_phrase, phrase_cells, choice_in, level_templates, array_closed, arrays_closed, stage_of};
 
 use crate::counting::{behind_array, count_arrays, count_words, one_more};
