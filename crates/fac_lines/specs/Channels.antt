@@ -6,7 +6,7 @@ use Rattle.fac_io.specs.Faults.{HasCause}
 use Rattle.fac_io.specs.Told.{SinkTold, Took}
 use Rattle.fac_lines.specs.declared.line_fault.LineFault.{LineFault}
 use Rattle.fac_lines.specs.Inputs.{InputTold, ReadsInput}
-use Rattle.fac_lines.specs.LineAnswers.{LineAnswers, LineCounts}
+use Rattle.fac_lines.specs.LineAnswers.{AreWanted, LineAnswers, LineCounts}
 
 -- what is left of the input and what was taken of the output, as far as the two tell it, and how often each failed
 pub record ChannelsTold : Type 0 where
@@ -49,9 +49,11 @@ pub record IsUnread (before now : ChannelsTold) : Type 0 where
   pub input : now.input ≡ before.input
   pub faults : now.input_faults ≡ before.input_faults
 
--- The next line was asked for, with this answer. The input's count of faults rises where it failed, and stays at each other answer.
+-- The next line was asked for, with this answer, and no byte was read behind those that it wanted. The input's count of faults rises where it
+-- failed, and stays at each other answer.
 pub record TakesLine (before now : ChannelsTold) (answer : Result (Option (List ℕ)) LineFault) : Type 0 where
   pub reads : ReadsInput before.input now.input (λ old new. LineAnswers old answer new)
+  pub wanted : AreWanted before.input.kept reads.given
   pub counts : LineCounts before.input_faults now.input_faults answer
   pub unwritten : IsUnwritten before now
 
