@@ -11,7 +11,7 @@ use Rattle.fac_lang.specs.declared.program.Program.{Program}
 use Rattle.fac_lang.specs.declared.program.WordDef.{WordDef}
 use Rattle.fac_lang.specs.declared.program.Sort.{Sort}
 use Rattle.fac_lang.specs.declared.program.Sort.TheVariants.{Core as core_sort, Itself as itself, Class as class}
-use Rattle.fac_lang.specs.Phrases.{int, yes, no, str, iota, wrd, arr, tup, Phrase, end, then, Item, word, call_eff, exec_eff, Value, plain, fun, Callable, of_phrase}
+use Rattle.fac_lang.specs.Phrases.{int, yes, no, str, iota, wrd, arr, tup, Phrase, end, then, Item, word, call_effect, execute_effect, Value, plain, fun, Callable, of_phrase}
 use Rattle.fac_lang.specs.World.{World, State, pile, push, push_each}
 use Rattle.fac_lang.specs.Classes.{pick}
 use Rattle.fac_base.specs.HeightArithmetic.{curried_height, composed_height, fits}
@@ -349,30 +349,30 @@ module _ (Y : Setting) where
 
   -- a callable that is tested
   pub g_call_effect : (f : ℕ) (F : List MValue) → Templated Y f → (last : Option Instr) (q : Height) (p : Place) (t : Phrase) (S : List Sym) (K : List Task) (pc : ℕ) → AllHere S → slice_get M.code pc ≡ Some (CallEffect q false) →
-      Go Y f F last zero [] (do_phrase t ∷ K) (pc + 1) → Go Y f F last zero S (do_phrase (then (call_eff q) p t) ∷ K) pc
-  g_call_effect f F tpl last q p t S K pc a e go R base ms rs vs L w zero le ok lv l (keeps_phrase h) = spent_here Y last R base (at F pc ms rs R w) (state vs (V w)) (Some (call_eff q)) (CallEffect q false) e refl refl
+      Go Y f F last zero [] (do_phrase t ∷ K) (pc + 1) → Go Y f F last zero S (do_phrase (then (call_effect q) p t) ∷ K) pc
+  g_call_effect f F tpl last q p t S K pc a e go R base ms rs vs L w zero le ok lv l (keeps_phrase h) = spent_here Y last R base (at F pc ms rs R w) (state vs (V w)) (Some (call_effect q)) (CallEffect q false) e refl refl
   g_call_effect f F tpl last q p t S K pc a e go R base ms rs vs L w (suc n) le ok lv l (keeps_phrase {L = L1} h) = one ms vs (sym (all_here T S ms vs a l)) ok lv
     where
-      unfit : (v : MValue) (ms : List MValue) (vs : List Value) → A (call_eff q) (state vs (V w)) ≡ error WrongValues (value_view T v) word_call (state (values_view T ms) (V w)) →
+      unfit : (v : MValue) (ms : List MValue) (vs : List Value) → A (call_effect q) (state vs (V w)) ≡ error WrongValues (value_view T v) word_call (state (values_view T ms) (V w)) →
           fetched M (Some (CallEffect q false)) (at F pc (v ∷ ms) rs R w) (suc n) ≡ ends (failed (record { name = WrongValues; value = Some v; word = word_call }) (at F pc ms rs (resume (pc + 1) F ∷ R) w) n) →
-          Follows Y last R base (at F pc (v ∷ ms) rs R w) (suc n) (left Y (l_phrase (then (call_eff q) p t) ∷ L1) (state vs (V w)) (suc n))
+          Follows Y last R base (at F pc (v ∷ ms) rs R w) (suc n) (left Y (l_phrase (then (call_effect q) p t) ∷ L1) (state vs (V w)) (suc n))
       unfit v ms vs acted steps =
           let s = at F pc (v ∷ ms) rs R w in
-          fails_so Y F last (call_eff q) p t L1 R (resume (pc + 1) F ∷ []) (tt, tt) base rs ms (state vs (V w)) w pc n WrongValues v word_call acted s (suc n) (fetch Y s (suc n) (CallEffect q false) e ∙ steps)
+          fails_so Y F last (call_effect q) p t L1 R (resume (pc + 1) F ∷ []) (tt, tt) base rs ms (state vs (V w)) w pc n WrongValues v word_call acted s (suc n) (fetch Y s (suc n) (CallEffect q false) e ∙ steps)
 
       -- by whether it fits
-      by : (b : Bool) (c : MCallable) (ms : List MValue) (vs : List Value) → A (call_eff q) (state vs (V w)) ≡ either b (runs (callable_view T c) (state_view T ms w) []) (error WrongValues (fun (callable_view T c)) word_call (state_view T ms w)) →
-          fetched M (Some (CallEffect q false)) (at F pc (m_fun c ∷ ms) rs R w) (suc n) ≡ enters_if M b c (at F pc ms rs (resume (pc + 1) F ∷ R) w) n → Fine F rs (m_fun c ∷ ms) w → Live Y (l_phrase (then (call_eff q) p t) ∷ L1) (state vs (V w)) →
-          Follows Y last R base (at F pc (m_fun c ∷ ms) rs R w) (suc n) (left Y (l_phrase (then (call_eff q) p t) ∷ L1) (state vs (V w)) (suc n))
+      by : (b : Bool) (c : MCallable) (ms : List MValue) (vs : List Value) → A (call_effect q) (state vs (V w)) ≡ either b (runs (callable_view T c) (state_view T ms w) []) (error WrongValues (fun (callable_view T c)) word_call (state_view T ms w)) →
+          fetched M (Some (CallEffect q false)) (at F pc (m_fun c ∷ ms) rs R w) (suc n) ≡ enters_if M b c (at F pc ms rs (resume (pc + 1) F ∷ R) w) n → Fine F rs (m_fun c ∷ ms) w → Live Y (l_phrase (then (call_effect q) p t) ∷ L1) (state vs (V w)) →
+          Follows Y last R base (at F pc (m_fun c ∷ ms) rs R w) (suc n) (left Y (l_phrase (then (call_effect q) p t) ∷ L1) (state vs (V w)) (suc n))
       by true c ms vs acted steps ok lv =
           let s = at F pc (m_fun c ∷ ms) rs R w in
-          g_entered Y f F tpl last (call_eff q) p t K pc go R (resume (pc + 1) F ∷ []) (tt, tt) base (m_fun c ∷ ms) ms rs vs L1 w n le ok.cells (record { cells = tt; held = ok.held; values = ok.values.1; objects = ok.objects }) h c ok.values.0
+          g_entered Y f F tpl last (call_effect q) p t K pc go R (resume (pc + 1) F ∷ []) (tt, tt) base (m_fun c ∷ ms) ms rs vs L1 w n le ok.cells (record { cells = tt; held = ok.held; values = ok.values.1; objects = ok.objects }) h c ok.values.0
           [] tt acted (fetch Y s (suc n) (CallEffect q false) e ∙ steps) (ret_resume Y F pc R rs) lv
       by false c ms vs acted steps ok lv = unfit (m_fun c) ms vs acted steps
 
-      one : (ms : List MValue) (vs : List Value) → vs ≡ values_view T ms → Fine F rs ms w → Live Y (l_phrase (then (call_eff q) p t) ∷ L1) (state vs (V w)) →
-          Follows Y last R base (at F pc ms rs R w) (suc n) (left Y (l_phrase (then (call_eff q) p t) ∷ L1) (state vs (V w)) (suc n))
-      one [] vs is ok lv = wrong_here Y (call_eff q) p t L1 (state vs (V w)) (rw is refl) lv
+      one : (ms : List MValue) (vs : List Value) → vs ≡ values_view T ms → Fine F rs ms w → Live Y (l_phrase (then (call_effect q) p t) ∷ L1) (state vs (V w)) →
+          Follows Y last R base (at F pc ms rs R w) (suc n) (left Y (l_phrase (then (call_effect q) p t) ∷ L1) (state vs (V w)) (suc n))
+      one [] vs is ok lv = wrong_here Y (call_effect q) p t L1 (state vs (V w)) (rw is refl) lv
       one (m_plain x ∷ ms) vs is ok lv = unfit (m_plain x) ms vs (rw is refl) refl
       one (m_fun c ∷ ms) vs is ok lv =
           let st' = state_view T ms w in
@@ -383,29 +383,29 @@ module _ (Y : Setting) where
   -- a word that is tested
   pub g_execute_effect : (f : ℕ) (F : List MValue) → Templated Y f → ((m a : ℕ) → HasCode P M m a → CallsTo Y (Some Ret) f [] a [] (word_phrase P m)) → ((a : ℕ) (d : WordDef) → slice_get P.words a ≡ Some d → is_top_phrase P a ≡ false → HasAction P M a) →
       (last : Option Instr) (q : Height) (p : Place) (t : Phrase) (S : List Sym) (K : List Task) (pc : ℕ) → AllHere S → slice_get M.code pc ≡ Some (ExecuteEffect q false) → Go Y f F last zero [] (do_phrase t ∷ K) (pc + 1) →
-      Go Y f F last zero S (do_phrase (then (exec_eff q) p t) ∷ K) pc
-  g_execute_effect f F tpl words actions last q p t S K pc a e go R base ms rs vs L w zero le ok lv l (keeps_phrase h) = spent_here Y last R base (at F pc ms rs R w) (state vs (V w)) (Some (exec_eff q)) (ExecuteEffect q false) e refl refl
+      Go Y f F last zero S (do_phrase (then (execute_effect q) p t) ∷ K) pc
+  g_execute_effect f F tpl words actions last q p t S K pc a e go R base ms rs vs L w zero le ok lv l (keeps_phrase h) = spent_here Y last R base (at F pc ms rs R w) (state vs (V w)) (Some (execute_effect q)) (ExecuteEffect q false) e refl refl
   g_execute_effect f F tpl words actions last q p t S K pc a e go R base ms rs vs L w (suc n) le ok lv l (keeps_phrase {L = L1} h) = one ms vs (sym (all_here T S ms vs a l)) ok lv
     where
-      unfit : (v : MValue) (ms : List MValue) (vs : List Value) → A (exec_eff q) (state vs (V w)) ≡ error WrongValues (value_view T v) word_execute (state (values_view T ms) (V w)) →
+      unfit : (v : MValue) (ms : List MValue) (vs : List Value) → A (execute_effect q) (state vs (V w)) ≡ error WrongValues (value_view T v) word_execute (state (values_view T ms) (V w)) →
           fetched M (Some (ExecuteEffect q false)) (at F pc (v ∷ ms) rs R w) (suc n) ≡ ends (failed (record { name = WrongValues; value = Some v; word = word_execute }) (at F pc ms rs (resume (pc + 1) F ∷ R) w) n) →
-          Follows Y last R base (at F pc (v ∷ ms) rs R w) (suc n) (left Y (l_phrase (then (exec_eff q) p t) ∷ L1) (state vs (V w)) (suc n))
+          Follows Y last R base (at F pc (v ∷ ms) rs R w) (suc n) (left Y (l_phrase (then (execute_effect q) p t) ∷ L1) (state vs (V w)) (suc n))
       unfit v ms vs acted steps =
           let s = at F pc (v ∷ ms) rs R w in
-          fails_so Y F last (exec_eff q) p t L1 R (resume (pc + 1) F ∷ []) (tt, tt) base rs ms (state vs (V w)) w pc n WrongValues v word_execute acted s (suc n) (fetch Y s (suc n) (ExecuteEffect q false) e ∙ steps)
+          fails_so Y F last (execute_effect q) p t L1 R (resume (pc + 1) F ∷ []) (tt, tt) base rs ms (state vs (V w)) w pc n WrongValues v word_execute acted s (suc n) (fetch Y s (suc n) (ExecuteEffect q false) e ∙ steps)
 
       -- by whether it fits
-      by : (b : Bool) (d : ℕ) (ms : List MValue) (vs : List Value) → A (exec_eff q) (state vs (V w)) ≡ either b (run_phrase (alone d) (state_view T ms w)) (error WrongValues (plain (wrd d)) word_execute (state_view T ms w)) →
+      by : (b : Bool) (d : ℕ) (ms : List MValue) (vs : List Value) → A (execute_effect q) (state vs (V w)) ≡ either b (run_phrase (alone d) (state_view T ms w)) (error WrongValues (plain (wrd d)) word_execute (state_view T ms w)) →
           fetched M (Some (ExecuteEffect q false)) (at F pc (m_plain (wrd d) ∷ ms) rs R w) (suc n) ≡ executes_if M b (m_plain (wrd d)) d (at F pc ms rs (resume (pc + 1) F ∷ R) w) n → Fine F rs (m_plain (wrd d) ∷ ms) w →
-          Live Y (l_phrase (then (exec_eff q) p t) ∷ L1) (state vs (V w)) → Follows Y last R base (at F pc (m_plain (wrd d) ∷ ms) rs R w) (suc n) (left Y (l_phrase (then (exec_eff q) p t) ∷ L1) (state vs (V w)) (suc n))
+          Live Y (l_phrase (then (execute_effect q) p t) ∷ L1) (state vs (V w)) → Follows Y last R base (at F pc (m_plain (wrd d) ∷ ms) rs R w) (suc n) (left Y (l_phrase (then (execute_effect q) p t) ∷ L1) (state vs (V w)) (suc n))
       by true d ms vs acted steps ok lv =
           let s = at F pc (m_plain (wrd d) ∷ ms) rs R w in
-          g_executed f F tpl words actions last (exec_eff q) p t K pc go R base ms rs vs L1 w n (omega (arith, le)) h d ok acted lv s (suc n) (fetch Y s (suc n) (ExecuteEffect q false) e ∙ steps)
+          g_executed f F tpl words actions last (execute_effect q) p t K pc go R base ms rs vs L1 w n (omega (arith, le)) h d ok acted lv s (suc n) (fetch Y s (suc n) (ExecuteEffect q false) e ∙ steps)
       by false d ms vs acted steps ok lv = unfit (m_plain (wrd d)) ms vs acted steps
 
-      one : (ms : List MValue) (vs : List Value) → vs ≡ values_view T ms → Fine F rs ms w → Live Y (l_phrase (then (exec_eff q) p t) ∷ L1) (state vs (V w)) →
-          Follows Y last R base (at F pc ms rs R w) (suc n) (left Y (l_phrase (then (exec_eff q) p t) ∷ L1) (state vs (V w)) (suc n))
-      one [] vs is ok lv = wrong_here Y (exec_eff q) p t L1 (state vs (V w)) (rw is refl) lv
+      one : (ms : List MValue) (vs : List Value) → vs ≡ values_view T ms → Fine F rs ms w → Live Y (l_phrase (then (execute_effect q) p t) ∷ L1) (state vs (V w)) →
+          Follows Y last R base (at F pc ms rs R w) (suc n) (left Y (l_phrase (then (execute_effect q) p t) ∷ L1) (state vs (V w)) (suc n))
+      one [] vs is ok lv = wrong_here Y (execute_effect q) p t L1 (state vs (V w)) (rw is refl) lv
       one (m_fun c ∷ ms) vs is ok lv = unfit (m_fun c) ms vs (rw is refl) refl
       one (m_plain (int z) ∷ ms) vs is ok lv = unfit (m_plain (int z)) ms vs (rw is refl) refl
       one (m_plain yes ∷ ms) vs is ok lv = unfit (m_plain yes) ms vs (rw is refl) refl

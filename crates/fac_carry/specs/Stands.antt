@@ -7,7 +7,7 @@ use Rattle.fac_lang.specs.declared.program.Program.{Program}
 use Rattle.fac_lang.specs.declared.program.WordDef.{WordDef}
 use Rattle.fac_lang.specs.declared.program.Sort.{Sort}
 use Rattle.fac_lang.specs.declared.program.Sort.TheVariants.{Prim as prim_sort, Core as core_sort, Body as body, Itself as itself, Class as class, Isa as isa, Generic as generic, Method as method}
-use Rattle.fac_lang.specs.Phrases.{int, yes, no, str, wrd, Phrase, end, then, Item, lit, lit_arr, quot, word, bind, fry, call_eff, exec_eff, next_after, held, Value, Callable}
+use Rattle.fac_lang.specs.Phrases.{int, yes, no, str, wrd, Phrase, end, then, Item, lit, lit_arr, quot, word, bind, fry, call_effect, execute_effect, next_after, held, Value, Callable}
 use Rattle.fac_lang.specs.Substitution.{put_local, put_holes}
 use Rattle.fac_lang.specs.World.{State}
 use Rattle.fac_lang.specs.Classes.{has_kind, pick, next}
@@ -70,8 +70,8 @@ module _ (P : Program) (M : Image) where
     l_call : (w : ℕ) → sort_of P w ≡ Some (core_sort c_call) → Calling tail (word w) (Call tail)
     l_if : (w : ℕ) → sort_of P w ≡ Some (core_sort c_if) → Calling tail (word w) (If tail)
     l_execute : (w : ℕ) → sort_of P w ≡ Some (core_sort c_execute) → Calling tail (word w) (Execute tail)
-    l_call_effect : (h : Height) → Calling tail (call_eff h) (CallEffect h tail)
-    l_execute_effect : (h : Height) → Calling tail (exec_eff h) (ExecuteEffect h tail)
+    l_call_effect : (h : Height) → Calling tail (call_effect h) (CallEffect h tail)
+    l_execute_effect : (h : Height) → Calling tail (execute_effect h) (ExecuteEffect h tail)
     l_generic :
         (w n : ℕ) (r : GenericRow) → sort_of P w ≡ Some generic → slice_get M.generics n ≡ Some r → r.word ≡ w → ((k : ℕ) → SameMethod (method_for M.sets k r.methods) (pick P w k)) → Calling tail (word w) (Generic n tail)
     l_next :

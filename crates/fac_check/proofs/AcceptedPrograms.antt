@@ -3,7 +3,7 @@ use Rattle.std.proofs.Common.{◌≡◌, ◌+◌, ℕ, zero, suc, List, [], ◌�
 use Rattle.std.specs.Prelude.{nat_eq, nat_lt, not, ◌&&◌, ◌||◌, slice_get, is_some, codes}
 use Rattle.std.specs.List.{list_all}
 use Rattle.std.proofs.lemmas.Bool.{eqb-true, eq-eqb, leb-true, le-leb}
-use Rattle.fac_lang.specs.Phrases.{Phrase, end, then, Item, lit, lit_arr, quot, word, bind, local, fry, hole, call_eff, exec_eff, next_method, made, next_after, held, known, Value, Callable}
+use Rattle.fac_lang.specs.Phrases.{Phrase, end, then, Item, lit, lit_arr, quot, word, bind, local, fry, hole, call_effect, execute_effect, next_method, made, next_after, held, known, Value, Callable}
 use Rattle.fac_lang.specs.World.{World, State, array}
 use Rattle.fac_lang.specs.declared.program.Lit.{Lit}
 use Rattle.fac_base.specs.Signatures.{Signature, signature}
@@ -73,8 +73,8 @@ module _ (P : Program) where
     unmarked_item (bind y) h k = tt
     unmarked_item (local y) h k = tt
     unmarked_item (hole n) h k = tt
-    unmarked_item (call_eff e) h k = tt
-    unmarked_item (exec_eff e) h k = tt
+    unmarked_item (call_effect e) h k = tt
+    unmarked_item (execute_effect e) h k = tt
     unmarked_item next_method h k = tt
     unmarked_item (made n) h k = tt
     unmarked_item (next_after m) h k = tt
@@ -95,8 +95,8 @@ module _ (P : Program) where
     unmarked_method_item m (bind y) h = tt
     unmarked_method_item m (local y) h = tt
     unmarked_method_item m (hole n) h = tt
-    unmarked_method_item m (call_eff e) h = tt
-    unmarked_method_item m (exec_eff e) h = tt
+    unmarked_method_item m (call_effect e) h = tt
+    unmarked_method_item m (execute_effect e) h = tt
     unmarked_method_item m next_method h = tt
     unmarked_method_item m (made n) h = tt
     unmarked_method_item m (next_after n) h = tt

@@ -11,7 +11,7 @@ use Rattle.fac_lang.specs.declared.program.ClassDef.{ClassDef}
 use Rattle.fac_lang.specs.declared.program.Sort.TheVariants.{Body as body, Past as past, Method as method, Generic as generic}
 use Rattle.fac_base.specs.Signatures.{Signature, signature, Inputs, no_inputs, value, quoted, never, leaves}
 use Rattle.fac_lang.specs.PrimitiveWords.{x}
-use Rattle.fac_lang.specs.Phrases.{int, wrd, Phrase, end, then, Item, lit, lit_arr, quot, bind, local, fry, hole, call_eff, next_method, held, known, Value, plain, Callable, of_phrase, cur, both, Mark, any, lit_mark}
+use Rattle.fac_lang.specs.Phrases.{int, wrd, Phrase, end, then, Item, lit, lit_arr, quot, bind, local, fry, hole, call_effect, next_method, held, known, Value, plain, Callable, of_phrase, cur, both, Mark, any, lit_mark}
 use Rattle.fac_lang.specs.Primitives.{prim_numbered}
 use Rattle.fac_lang.proofs.DemoPrelude.{word_of, shared_words, built_in_classes}
 use Rattle.fac_lang.proofs.DemoWords.{phrase, number, quotation, fried, itself, tested-call, tested-execute, own, t as yes, drop, dup, swap, over, pick, rot, -rot, nip, dupd, swapd, 2drop, 2dup, 3drop, 3dup, 2over, 2nip, choose, + as plus, /i, <, nth, curry, compose, throw, call, dip, if, execute, boa, cond, sq, times, own_number}
@@ -350,7 +350,7 @@ unfolding prim_numbered mark_eq
 tested_leaves_unknown = refl
 
 -- 1 call( -- * ) +: nothing is walked behind it
-pub tested_never_returns : verdict_of [] (number 1 ∷ call_eff (record { ins = 0; outs = None }) ∷ plus ∷ []) ≡ None
+pub tested_never_returns : verdict_of [] (number 1 ∷ call_effect (record { ins = 0; outs = None }) ∷ plus ∷ []) ≡ None
 unfolding prim_numbered mark_eq
 tested_never_returns = refl
 

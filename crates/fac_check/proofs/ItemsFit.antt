@@ -3,7 +3,7 @@ use Rattle.std.proofs.Common.{subst, ◌≡◌, ◌+◌, ℕ, zero, suc, ◌≤�
 use Rattle.std.specs.Prelude.{nat_eq, nat_lt, nat_le, not, ◌&&◌, slice_get}
 use mathlib.Core.Logic.{inl, inr}
 use Rattle.fac_base.specs.declared.height.Height.{Height}
-use Rattle.fac_lang.specs.Phrases.{Literal, Plain, no, wrd, arr, tup, Phrase, Item, lit, lit_arr, quot, word, bind, local, fry, hole, call_eff, exec_eff, next_method, made, next_after, held, known, Value, plain, fun, Callable, of_phrase, cur, both, Mark, any, lit_mark, cur_mark, com_mark, wrd_mark, par_mark}
+use Rattle.fac_lang.specs.Phrases.{Literal, Plain, no, wrd, arr, tup, Phrase, Item, lit, lit_arr, quot, word, bind, local, fry, hole, call_effect, execute_effect, next_method, made, next_after, held, known, Value, plain, fun, Callable, of_phrase, cur, both, Mark, any, lit_mark, cur_mark, com_mark, wrd_mark, par_mark}
 use Rattle.fac_lang.specs.World.{State, World, Error, push, pile}
 use Rattle.fac_lang.specs.declared.error_name.ErrorName.{ErrorName}
 use Rattle.fac_lang.specs.declared.error_name.ErrorName.TheVariants.{NoMethod, NoNextMethod, WrongValues}
@@ -327,11 +327,11 @@ module _ (P : Program) (C : Context) where
         tested true q = popped_over h.ins taken o b ms st.stack u (runs c st []) e.0 (λ r rest x y. (refl, λ n le. ends_map (Leaves P o r) (StackState P C (left_on o b rest)) (run_callable run c st n) (λ st' l. leaves_stack o b rest r st' l y) (k c q r st n le x e.1)))
         tested false q = fails_does h.ins taken o b ms u _ st
 
-    call_eff_does : (h : Height) (o : Option ℕ) → ((c : Callable) → FF h c ≡ true → Keeps h.ins o c) → (b : Option Row) (ms : List Mark) (st : State Value) → OnState P C b ms st → D (by_height (suc h.ins) o b ms) (taking1 st.stack st.world (λ v st'. tested_call P fits (callable_height P) h v st'))
-    call_eff_does h None k b [] st e = tt
-    call_eff_does h (Some o) k b [] st e = tt
-    call_eff_does h None k b (m ∷ ms) st e = rw e.0.2 (tested_does h None e.0.0 k (m ∷ []) b ms (Underflow (suc h.ins) (length (m ∷ ms))) (record { stack = e.0.1; world = st.world }) (e.0.4, e.1))
-    call_eff_does h (Some o) k b (m ∷ ms) st e = rw e.0.2 (tested_does h (Some o) e.0.0 k (m ∷ []) b ms (Underflow (suc h.ins) (length (m ∷ ms))) (record { stack = e.0.1; world = st.world }) (e.0.4, e.1))
+    call_effect_does : (h : Height) (o : Option ℕ) → ((c : Callable) → FF h c ≡ true → Keeps h.ins o c) → (b : Option Row) (ms : List Mark) (st : State Value) → OnState P C b ms st → D (by_height (suc h.ins) o b ms) (taking1 st.stack st.world (λ v st'. tested_call P fits (callable_height P) h v st'))
+    call_effect_does h None k b [] st e = tt
+    call_effect_does h (Some o) k b [] st e = tt
+    call_effect_does h None k b (m ∷ ms) st e = rw e.0.2 (tested_does h None e.0.0 k (m ∷ []) b ms (Underflow (suc h.ins) (length (m ∷ ms))) (record { stack = e.0.1; world = st.world }) (e.0.4, e.1))
+    call_effect_does h (Some o) k b (m ∷ ms) st e = rw e.0.2 (tested_does h (Some o) e.0.0 k (m ∷ []) b ms (Underflow (suc h.ins) (length (m ∷ ms))) (record { stack = e.0.1; world = st.world }) (e.0.4, e.1))
 
     -- what takes i values by a declared height
     by_numbers : (i : ℕ) (o : Option ℕ) (b : Option Row) (ms : List Mark) (a : Act) → D (elim (popped i [] ms) [ Some q ↦ gives (left_on o b q.1) | None ↦ breaks (Underflow i (length ms)) ]) a → D (by_height i o b ms) a
@@ -362,9 +362,9 @@ module _ (P : Program) (C : Context) where
         tested false q = fails_does h.ins taken h.outs b ms u _ st
     found_does h (plain p) k taken b ms u st e = fails_does h.ins taken h.outs b ms u _ st
 
-    exec_eff_does : (h : Height) → ((w : ℕ) → word_fits P fits h w ≡ true → Keeps h.ins h.outs (of_phrase (one_item (word w)))) → (b : Option Row) (ms : List Mark) (st : State Value) → OnState P C b ms st → D (by_height (suc h.ins) h.outs b ms) (taking1 st.stack st.world (λ v st'. tested_execute P fits (callable_height P) h v st'))
-    exec_eff_does h k b [] st e = none_there h.ins h.outs b (taking1 st.stack st.world (λ v st'. tested_execute P fits (callable_height P) h v st'))
-    exec_eff_does h k b (m ∷ ms) st e =
+    execute_effect_does : (h : Height) → ((w : ℕ) → word_fits P fits h w ≡ true → Keeps h.ins h.outs (of_phrase (one_item (word w)))) → (b : Option Row) (ms : List Mark) (st : State Value) → OnState P C b ms st → D (by_height (suc h.ins) h.outs b ms) (taking1 st.stack st.world (λ v st'. tested_execute P fits (callable_height P) h v st'))
+    execute_effect_does h k b [] st e = none_there h.ins h.outs b (taking1 st.stack st.world (λ v st'. tested_execute P fits (callable_height P) h v st'))
+    execute_effect_does h k b (m ∷ ms) st e =
         rw e.0.2 (by_numbers (suc h.ins) h.outs b (m ∷ ms) (tested_execute P fits (callable_height P) h e.0.0 (record { stack = e.0.1; world = st.world })) (found_does h e.0.0 k (m ∷ []) b ms (Underflow (suc h.ins) (length (m ∷ ms))) (record { stack = e.0.1; world = st.world }) (e.0.4, e.1)))
 
     -- the numbers of a word's effect
@@ -504,8 +504,8 @@ module _ (P : Program) (C : Context) where
       item_does at (local x) j h b ms st e = tt
       item_does at (fry t n) j h b ms st e = rw h.1 (fry_does at t h.0 n h.2 b ms st e)
       item_does at (hole k) j h b ms st e = tt
-      item_does at (call_eff k) j h b ms st e = rw h (call_eff_does k k.outs (facts.heights k) b ms st e)
-      item_does at (exec_eff k) j h b ms st e = rw h (exec_eff_does k (facts.executed k) b ms st e)
+      item_does at (call_effect k) j h b ms st e = rw h (call_effect_does k k.outs (facts.heights k) b ms st e)
+      item_does at (execute_effect k) j h b ms st e = rw h (execute_effect_does k (facts.executed k) b ms st e)
       item_does at next_method j h b ms st e = tt
       item_does at (made k) j h b ms st e = tt
       item_does at (next_after m) j h b ms st e = rw h (next_does m (sort_of P m) refl b ms st e)

@@ -1,7 +1,7 @@
 -- Each quotation in a phrase of a program has a number below that of its templates.
 use Rattle.std.proofs.Common.{◌≡◌, ◌<◌, ◌≤◌, ℕ, zero, suc, ◌+◌, List, [], ◌∷◌, ◌++◌, length, true, Option, Some, None, refl, sym, ap, ◌∙◌, arith}
 use Rattle.std.specs.Prelude.{nat_lt, slice_get}
-use Rattle.fac_lang.specs.Phrases.{Literal, Phrase, end, then, Item, lit, lit_arr, quot, word, bind, local, fry, hole, call_eff, exec_eff, next_method, made, next_after, held, known}
+use Rattle.fac_lang.specs.Phrases.{Literal, Phrase, end, then, Item, lit, lit_arr, quot, word, bind, local, fry, hole, call_effect, execute_effect, next_method, made, next_after, held, known}
 use Rattle.fac_lang.specs.Substitution.{of_method}
 use Rattle.fac_lang.specs.declared.phrase.Template.{Template}
 use Rattle.fac_lang.specs.declared.program.Program.{Program}
@@ -43,8 +43,8 @@ module _ (n : ℕ) where
       item_of_words cells at (bind x) l = tt
       item_of_words cells at (local x) l = tt
       item_of_words cells at (hole k) l = tt
-      item_of_words cells at (call_eff f) l = tt
-      item_of_words cells at (exec_eff f) l = tt
+      item_of_words cells at (call_effect f) l = tt
+      item_of_words cells at (execute_effect f) l = tt
       item_of_words cells at next_method l = tt
       item_of_words cells at (made k) l = tt
       item_of_words cells at (next_after m) l = tt

@@ -2,7 +2,7 @@
 use Rattle.std.proofs.Common.{◌≡◌, ℕ, zero, suc, List, [], ◌∷◌, map, Bool, true, false, Option, Some, None, refl}
 use Rattle.std.specs.Prelude.{slice_get}
 use Rattle.fac_base.specs.declared.height.Height.{Height}
-use Rattle.fac_lang.specs.Phrases.{int, yes, no, str, iota, wrd, arr, tup, Phrase, end, then, Item, lit, lit_arr, quot, word, bind, local, fry, hole, call_eff, exec_eff, next_method, made, next_after, held, known, Value, plain, fun, Callable, of_phrase, cur, both}
+use Rattle.fac_lang.specs.Phrases.{int, yes, no, str, iota, wrd, arr, tup, Phrase, end, then, Item, lit, lit_arr, quot, word, bind, local, fry, hole, call_effect, execute_effect, next_method, made, next_after, held, known, Value, plain, fun, Callable, of_phrase, cur, both}
 use Rattle.fac_lang.specs.World.{World, State, push, push_each}
 use Rattle.fac_lang.specs.declared.error_name.ErrorName.{ErrorName}
 use Rattle.fac_lang.specs.declared.error_name.ErrorName.TheVariants.{NoMethod, NoNextMethod}
@@ -181,8 +181,8 @@ module _ (ls : List ℕ) where
       act_stays (local x) st e = tt
       act_stays (fry t n) st e = taking_stays n [] st.stack st.world (λ vs st'. goes (push (fun (of_phrase (put_holes (map held vs) t))) st')) e (λ vs st' e'. e')
       act_stays (hole k) st e = tt
-      act_stays (call_eff h) st e = taking1_stays st.stack st.world (tested_call P fits callable_height h) e (tested_call_stays h)
-      act_stays (exec_eff h) st e = taking1_stays st.stack st.world (tested_execute P fits callable_height h) e (tested_execute_stays h)
+      act_stays (call_effect h) st e = taking1_stays st.stack st.world (tested_call P fits callable_height h) e (tested_call_stays h)
+      act_stays (execute_effect h) st e = taking1_stays st.stack st.world (tested_execute P fits callable_height h) e (tested_execute_stays h)
       act_stays next_method st e = tt
       act_stays (made k) st e = tt
       act_stays (next_after m) st e =

@@ -6,7 +6,7 @@ use Rattle.std.proofs.lemmas.Bool.{le-leb, leb-true}
 use Rattle.fac_graph.specs.Paths.{one_of}
 use Rattle.fac_abs.proofs.EqualMarks.{and_first, and_second}
 use Rattle.fac_abs.proofs.SeenLemmas.{is_below}
-use Rattle.fac_lang.specs.Phrases.{Plain, int, yes, no, str, iota, wrd, arr, tup, Literal, Phrase, end, then, Item, lit, lit_arr, quot, word, bind, local, fry, hole, call_eff, exec_eff, next_method, made, next_after, held, known}
+use Rattle.fac_lang.specs.Phrases.{Plain, int, yes, no, str, iota, wrd, arr, tup, Literal, Phrase, end, then, Item, lit, lit_arr, quot, word, bind, local, fry, hole, call_effect, execute_effect, next_method, made, next_after, held, known}
 use Rattle.fac_base.specs.declared.place.Place.{Place}
 use Rattle.fac_lang.specs.declared.phrase.Template.{Template}
 use Rattle.fac_lang.specs.declared.program.Program.{Program}
@@ -111,8 +111,8 @@ named_item P cells at (word w) j n h e =
 named_item P cells at (lit p) j n h e = lit_named P p n (sym (ap named_word h) ∙ e)
 named_item P cells at (quot t) j n h e = clash n (sym (ap named_word h.1) ∙ e)
 named_item P cells at (lit_arr a) j n h e = clash n (sym (ap named_word h) ∙ e)
-named_item P cells at (call_eff f) j n h e = clash n (sym (ap named_word h) ∙ e)
-named_item P cells at (exec_eff f) j n h e = clash n (sym (ap named_word h) ∙ e)
+named_item P cells at (call_effect f) j n h e = clash n (sym (ap named_word h) ∙ e)
+named_item P cells at (execute_effect f) j n h e = clash n (sym (ap named_word h) ∙ e)
 named_item P cells at next_method j n h e = clash n (sym (ap named_word h) ∙ e)
 named_item P cells at (next_after m) j n h e = clash n (sym (ap named_word h) ∙ e)
 named_item P cells at (bind x) j n h e = clash n (sym (ap named_word h) ∙ e)
@@ -129,8 +129,8 @@ unnamed_item P cells at (word w) j h e m = clash w (sym (sym (ap named_word h) �
 unnamed_item P cells at (lit p) j h e m = lit_unnamed P p (sym (ap named_word h) ∙ e)
 unnamed_item P cells at (quot t) j h e m = clash h.0 (sym (sym (ap made_template h.1) ∙ m))
 unnamed_item P cells at (lit_arr a) j h e m = refl
-unnamed_item P cells at (call_eff f) j h e m = refl
-unnamed_item P cells at (exec_eff f) j h e m = refl
+unnamed_item P cells at (call_effect f) j h e m = refl
+unnamed_item P cells at (execute_effect f) j h e m = refl
 unnamed_item P cells at next_method j h e m = refl
 unnamed_item P cells at (next_after k) j h e m = refl
 unnamed_item P cells at (bind x) j h e m = refl
@@ -156,8 +156,8 @@ made_item P cells at (fry t n) j k h e =
 made_item P cells at (lit p) j k h e = clash k (sym (ap made_template h) ∙ e)
 made_item P cells at (word w) j k h e = clash k (sym (ap made_template h) ∙ e)
 made_item P cells at (lit_arr a) j k h e = clash k (sym (ap made_template h) ∙ e)
-made_item P cells at (call_eff f) j k h e = clash k (sym (ap made_template h) ∙ e)
-made_item P cells at (exec_eff f) j k h e = clash k (sym (ap made_template h) ∙ e)
+made_item P cells at (call_effect f) j k h e = clash k (sym (ap made_template h) ∙ e)
+made_item P cells at (execute_effect f) j k h e = clash k (sym (ap made_template h) ∙ e)
 made_item P cells at next_method j k h e = clash k (sym (ap made_template h) ∙ e)
 made_item P cells at (next_after m) j k h e = clash k (sym (ap made_template h) ∙ e)
 made_item P cells at (bind x) j k h e = clash k (sym (ap made_template h) ∙ e)
@@ -173,8 +173,8 @@ names_alone (word w) n e = refl
 names_alone (lit p) n e = refl
 names_alone (quot t) n e = refl
 names_alone (lit_arr a) n e = refl
-names_alone (call_eff f) n e = refl
-names_alone (exec_eff f) n e = refl
+names_alone (call_effect f) n e = refl
+names_alone (execute_effect f) n e = refl
 names_alone next_method n e = refl
 names_alone (next_after m) n e = refl
 names_alone (bind x) n e = refl

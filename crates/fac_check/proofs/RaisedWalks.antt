@@ -7,7 +7,7 @@ use Rattle.fac_lang.specs.declared.program.Program.{Program}
 use Rattle.fac_lang.specs.declared.program.WordDef.{WordDef}
 use Rattle.fac_lang.specs.declared.program.Sort.{Sort}
 use Rattle.fac_lang.specs.declared.program.Sort.TheVariants.{Prim as prim, Core as core, Body as body, Past as past, Itself as itself, Class as class, Method as method}
-use Rattle.fac_lang.specs.Phrases.{Plain, wrd, Literal, Phrase, end, then, Item, lit, lit_arr, quot, word, bind, local, fry, hole, call_eff, exec_eff, next_method, made, next_after, held, known, Mark, any, lit_mark, cur_mark, com_mark, wrd_mark, par_mark}
+use Rattle.fac_lang.specs.Phrases.{Plain, wrd, Literal, Phrase, end, then, Item, lit, lit_arr, quot, word, bind, local, fry, hole, call_effect, execute_effect, next_method, made, next_after, held, known, Mark, any, lit_mark, cur_mark, com_mark, wrd_mark, par_mark}
 use Rattle.fac_base.specs.Signatures.{Signature, Inputs, no_inputs, value, quoted, Leaving, never, leaves as leaving}
 use Rattle.fac_base.specs.Effects.{inputs_count, effect_height}
 use Rattle.fac_lang.specs.Procedures.{Procedure, leaves, curries, composes, picked}
@@ -497,8 +497,8 @@ doing_raised P at (bind x) b (r_mark h) = d_names h
 doing_raised P at (local x) b h = d_breaks
 doing_raised P at (fry t n) b h = made_raised h b n _
 doing_raised P at (hole k) b h = d_breaks
-doing_raised P at (call_eff k) b h = height_raised h b (suc k.ins) k.outs
-doing_raised P at (exec_eff k) b h = height_raised h b (suc k.ins) k.outs
+doing_raised P at (call_effect k) b h = height_raised h b (suc k.ins) k.outs
+doing_raised P at (execute_effect k) b h = height_raised h b (suc k.ins) k.outs
 doing_raised P at next_method b h = d_breaks
 doing_raised P at (made k) b h = d_breaks
 doing_raised P at (next_after m) b h = next_raised P h b (sort_of P m)

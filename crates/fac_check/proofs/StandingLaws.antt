@@ -1,7 +1,7 @@
 -- Phrases that stand for each other go on doing so where items that stand for each other are put in both.
 use Rattle.std.proofs.Common.{◌≡◌, ℕ, zero, suc, List, [], ◌∷◌, Bool, true, false, refl, sym}
 use Rattle.std.specs.Prelude.{slice_get, nat_eq}
-use Rattle.fac_lang.specs.Phrases.{Phrase, end, then, Item, lit, lit_arr, quot, word, bind, local, fry, hole, call_eff, exec_eff, next_method, made, next_after, held, known, Value, fun, Callable, of_phrase, cur, both, Mark, any, lit_mark, cur_mark, com_mark, wrd_mark, par_mark}
+use Rattle.fac_lang.specs.Phrases.{Phrase, end, then, Item, lit, lit_arr, quot, word, bind, local, fry, hole, call_effect, execute_effect, next_method, made, next_after, held, known, Value, fun, Callable, of_phrase, cur, both, Mark, any, lit_mark, cur_mark, com_mark, wrd_mark, par_mark}
 use Rattle.fac_lang.specs.Substitution.{binds_local, put_local, put_local_item, put_holes, put_holes_item, item_or_hole}
 use Rattle.fac_check.specs.CallableEffects.{forgotten, forgotten_item}
 use Rattle.fac_check.proofs.ValuesOfMarks.{Stands, StandsPhrase, StandsItem, Unmeant}
@@ -29,8 +29,8 @@ unmeant_binds x (bind y) h = absurd h
 unmeant_binds x (local y) h = absurd h
 unmeant_binds x (fry t n) h = absurd h
 unmeant_binds x (hole k) h = absurd h
-unmeant_binds x (call_eff e) h = absurd h
-unmeant_binds x (exec_eff e) h = absurd h
+unmeant_binds x (call_effect e) h = absurd h
+unmeant_binds x (execute_effect e) h = absurd h
 unmeant_binds x next_method h = absurd h
 unmeant_binds x (next_after m) h = absurd h
 unmeant_binds x (held v) h = absurd h
@@ -46,8 +46,8 @@ unmeant_put x i (bind y) h = absurd h
 unmeant_put x i (local y) h = absurd h
 unmeant_put x i (fry t n) h = absurd h
 unmeant_put x i (hole k) h = absurd h
-unmeant_put x i (call_eff e) h = absurd h
-unmeant_put x i (exec_eff e) h = absurd h
+unmeant_put x i (call_effect e) h = absurd h
+unmeant_put x i (execute_effect e) h = absurd h
 unmeant_put x i next_method h = absurd h
 unmeant_put x i (next_after m) h = absurd h
 unmeant_put x i (held v) h = absurd h
@@ -63,8 +63,8 @@ unmeant_holes is (bind y) h = absurd h
 unmeant_holes is (local y) h = absurd h
 unmeant_holes is (fry t n) h = absurd h
 unmeant_holes is (hole k) h = absurd h
-unmeant_holes is (call_eff e) h = absurd h
-unmeant_holes is (exec_eff e) h = absurd h
+unmeant_holes is (call_effect e) h = absurd h
+unmeant_holes is (execute_effect e) h = absurd h
 unmeant_holes is next_method h = absurd h
 unmeant_holes is (next_after m) h = absurd h
 unmeant_holes is (held v) h = absurd h
@@ -98,8 +98,8 @@ module _ (inputs : ℕ → Callable → Type 0) where
   binds_same x (local y) j e = rw e refl
   binds_same x (fry t n) j e = rw e.1 refl
   binds_same x (hole k) j e = rw e refl
-  binds_same x (call_eff h) j e = rw e refl
-  binds_same x (exec_eff h) j e = rw e refl
+  binds_same x (call_effect h) j e = rw e refl
+  binds_same x (execute_effect h) j e = rw e refl
   binds_same x next_method j e = rw e refl
   binds_same x (made k) j e = unmeant_binds x j e
   binds_same x (next_after m) j e = rw e refl
@@ -129,8 +129,8 @@ module _ (inputs : ℕ → Callable → Type 0) where
     put_item x i j h (local y) l e = rw e (put_one (nat_eq x y) i j y h)
     put_item x i j h (fry t n) l e = rw e.1 (put_local x j e.0, refl, put_phrase x i j h t e.0 e.2)
     put_item x i j h (hole k) l e = rw e refl
-    put_item x i j h (call_eff k) l e = rw e refl
-    put_item x i j h (exec_eff k) l e = rw e refl
+    put_item x i j h (call_effect k) l e = rw e refl
+    put_item x i j h (execute_effect k) l e = rw e refl
     put_item x i j h next_method l e = rw e refl
     put_item x i j h (made k) l e = unmeant_put x j l e
     put_item x i j h (next_after m) l e = rw e refl
@@ -161,8 +161,8 @@ module _ (inputs : ℕ → Callable → Type 0) where
     holes_item is js h (local y) l e = rw e refl
     holes_item is js h (fry t n) l e = rw e.1 (e.0, refl, e.2)
     holes_item is js h (hole k) l e = rw e (hole_filled is js h k k)
-    holes_item is js h (call_eff k) l e = rw e refl
-    holes_item is js h (exec_eff k) l e = rw e refl
+    holes_item is js h (call_effect k) l e = rw e refl
+    holes_item is js h (execute_effect k) l e = rw e refl
     holes_item is js h next_method l e = rw e refl
     holes_item is js h (made k) l e = unmeant_holes js l e
     holes_item is js h (next_after m) l e = rw e refl
@@ -184,8 +184,8 @@ module _ (inputs : ℕ → Callable → Type 0) where
     self_item (local y) u = refl
     self_item (fry t n) u = (t, refl, self_phrase t u)
     self_item (hole k) u = refl
-    self_item (call_eff h) u = refl
-    self_item (exec_eff h) u = refl
+    self_item (call_effect h) u = refl
+    self_item (execute_effect h) u = refl
     self_item next_method u = refl
     self_item (made k) u = tt
     self_item (next_after m) u = refl
@@ -207,8 +207,8 @@ module _ (inputs : ℕ → Callable → Type 0) where
     forgotten_item_stands (local y) = refl
     forgotten_item_stands (fry t n) = (t, refl, forgotten_stands t)
     forgotten_item_stands (hole k) = refl
-    forgotten_item_stands (call_eff h) = refl
-    forgotten_item_stands (exec_eff h) = refl
+    forgotten_item_stands (call_effect h) = refl
+    forgotten_item_stands (execute_effect h) = refl
     forgotten_item_stands next_method = refl
     forgotten_item_stands (made k) = tt
     forgotten_item_stands (next_after m) = refl

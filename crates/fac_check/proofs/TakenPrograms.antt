@@ -10,7 +10,7 @@ use Rattle.fac_lang.specs.declared.program.Program.{Program}
 use Rattle.fac_lang.specs.declared.program.WordDef.{WordDef}
 use Rattle.fac_lang.specs.declared.program.Sort.{Sort}
 use Rattle.fac_lang.specs.declared.program.Sort.TheVariants.{Prim as prim, Body as body, Past as past, Method as method}
-use Rattle.fac_lang.specs.Phrases.{int, yes, no, str, iota, wrd, arr, tup, Literal, Phrase, end, then, Item, lit, lit_arr, quot, word, bind, local, fry, hole, call_eff, exec_eff, next_method, made, next_after, held, known}
+use Rattle.fac_lang.specs.Phrases.{int, yes, no, str, iota, wrd, arr, tup, Literal, Phrase, end, then, Item, lit, lit_arr, quot, word, bind, local, fry, hole, call_effect, execute_effect, next_method, made, next_after, held, known}
 use Rattle.fac_lang.specs.PhraseView.{what_item, items_phrase}
 use Rattle.fac_base.specs.Signatures.{Signature, signature, Inputs, no_inputs, value, quoted}
 use Rattle.fac_base.specs.Effects.{effect_height, inputs_count}
@@ -64,8 +64,8 @@ module _ (P : Program) (count : ℕ) (numbered : (cells : List Cell) (at : Liter
   taken_item cells at (hole k) j l c h = rw c.1 refl
   taken_item cells at (word w) j l c h = rw c (below_is w P.top h)
   taken_item cells at (lit_arr a) j l c h = rw c refl
-  taken_item cells at (call_eff f) j l c h = rw c refl
-  taken_item cells at (exec_eff f) j l c h = rw c refl
+  taken_item cells at (call_effect f) j l c h = rw c refl
+  taken_item cells at (execute_effect f) j l c h = rw c refl
   taken_item cells at next_method j l c h = rw c refl
   taken_item cells at (next_after m) j l c h = rw c refl
   taken_item cells at _ j l c h = absurd h
@@ -175,8 +175,8 @@ module _ (C : Program) (templates : List Template) (taken : takes_all C template
   named_below (local x) w h e = absurd cc
   named_below (fry t n) w h e = absurd cc
   named_below (hole k) w h e = absurd cc
-  named_below (call_eff g) w h e = absurd cc
-  named_below (exec_eff g) w h e = absurd cc
+  named_below (call_effect g) w h e = absurd cc
+  named_below (execute_effect g) w h e = absurd cc
   named_below next_method w h e = absurd cc
   named_below (made k) w h e = absurd cc
   named_below (next_after m) w h e = absurd cc
@@ -196,8 +196,8 @@ module _ (C : Program) (templates : List Template) (taken : takes_all C template
   made_below (local x) k h e = absurd cc
   made_below (fry t n) k h e = absurd cc
   made_below (hole n) k h e = absurd cc
-  made_below (call_eff g) k h e = absurd cc
-  made_below (exec_eff g) k h e = absurd cc
+  made_below (call_effect g) k h e = absurd cc
+  made_below (execute_effect g) k h e = absurd cc
   made_below next_method k h e = absurd cc
   made_below (next_after m) k h e = absurd cc
   made_below (held v) k h e = absurd cc
@@ -235,8 +235,8 @@ makes_below top count from (then i p t) h =
     item_below (local x) l = refl
     item_below (fry t n) l = refl
     item_below (hole n) l = refl
-    item_below (call_eff g) l = refl
-    item_below (exec_eff g) l = refl
+    item_below (call_effect g) l = refl
+    item_below (execute_effect g) l = refl
     item_below next_method l = refl
     item_below (next_after m) l = refl
     item_below (held v) l = refl

@@ -8,7 +8,7 @@ use Rattle.fac_lang.specs.declared.phrase.Template.{Template}
 use Rattle.fac_lang.specs.declared.program.Program.{Program}
 use Rattle.fac_lang.proofs.SourcePrograms.{source_of_whole}
 use Rattle.fac_lang.specs.Whole.{IsWhole}
-use Rattle.fac_lang.specs.Phrases.{Literal, Phrase, end, then, Item, lit, lit_arr, quot, word, bind, local, fry, hole, call_eff, exec_eff, next_method, made, next_after, held, known, Value, Mark, any}
+use Rattle.fac_lang.specs.Phrases.{Literal, Phrase, end, then, Item, lit, lit_arr, quot, word, bind, local, fry, hole, call_effect, execute_effect, next_method, made, next_after, held, known, Value, Mark, any}
 use Rattle.fac_locals.specs.declared.cell.Cell.{Cell}
 use Rattle.fac_locals.specs.declared.cell.Cell.TheVariants.{Local, Hole}
 use Rattle.fac_locals.specs.Cells.{binds_cell, cell_number, inner_cells, inner_phrase}
@@ -63,8 +63,8 @@ module _ (P : Program) where
     item_forgotten f g (local x) r h = h (Local x)
     item_forgotten f g (fry t n) r h = ap (λ (u : Phrase). fry u n) (filled_forgotten (put_in_fry f) (put_in_fry g) t r (in_fry_forgotten f g h))
     item_forgotten f g (hole k) r h = h (Hole k)
-    item_forgotten f g (call_eff e) r h = refl
-    item_forgotten f g (exec_eff e) r h = refl
+    item_forgotten f g (call_effect e) r h = refl
+    item_forgotten f g (execute_effect e) r h = refl
     item_forgotten f g next_method r h = refl
     item_forgotten f g (next_after m) r h = refl
     item_forgotten f g (made k) r h = absurd r

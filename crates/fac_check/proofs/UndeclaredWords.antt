@@ -5,7 +5,7 @@ use Rattle.std.proofs.lemmas.Bool.{or_left, or_right, or_cases, false_from_ne_tr
 use Rattle.fac_graph.specs.Paths.{one_of, IsOneOf, list_or_none, successors, LeadsTo, by_edge, and_edge, AreLeadingBack, leads_within}
 use Rattle.fac_graph.proofs.NumberLists.{same_number, in_either, in_one}
 use Rattle.fac_graph.proofs.PathLemmas.{any_is, leads_soon, same_truth}
-use Rattle.fac_lang.specs.Phrases.{Plain, int, yes, no, str, iota, wrd, arr, tup, Phrase, end, then, Item, lit, lit_arr, quot, word, bind, local, fry, hole, call_eff, exec_eff, next_method, made, next_after, held, known}
+use Rattle.fac_lang.specs.Phrases.{Plain, int, yes, no, str, iota, wrd, arr, tup, Phrase, end, then, Item, lit, lit_arr, quot, word, bind, local, fry, hole, call_effect, execute_effect, next_method, made, next_after, held, known}
 use Rattle.fac_lang.specs.declared.phrase.Template.{Template}
 use Rattle.fac_lang.specs.declared.program.Program.{Program}
 use Rattle.fac_lang.specs.declared.program.WordDef.{WordDef}
@@ -134,8 +134,8 @@ module _ (P : Program) where
     item_inline (bind x) v e = absurd cc
     item_inline (local x) v e = absurd cc
     item_inline (hole k) v e = absurd cc
-    item_inline (call_eff h) v e = absurd cc
-    item_inline (exec_eff h) v e = absurd cc
+    item_inline (call_effect h) v e = absurd cc
+    item_inline (execute_effect h) v e = absurd cc
     item_inline next_method v e = absurd cc
     item_inline (made k) v e = absurd cc
     item_inline (next_after m) v e = absurd cc

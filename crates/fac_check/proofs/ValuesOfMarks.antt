@@ -1,7 +1,7 @@
 -- Which values a mark stands for, which running phrases a phrase of the walk, and which lists an abstract stack.
 use Rattle.std.specs.Prelude.{ℕ, ◌≡◌, List, [], ◌∷◌, Option}
 use Rattle.fac_base.specs.declared.place.Place.{Place}
-use Rattle.fac_lang.specs.Phrases.{wrd, Phrase, end, then, Item, lit, lit_arr, quot, word, bind, local, fry, hole, call_eff, exec_eff, next_method, made, next_after, held, known, Value, plain, fun, Callable, of_phrase, cur, both, Mark, any, lit_mark, cur_mark, com_mark, wrd_mark, par_mark}
+use Rattle.fac_lang.specs.Phrases.{wrd, Phrase, end, then, Item, lit, lit_arr, quot, word, bind, local, fry, hole, call_effect, execute_effect, next_method, made, next_after, held, known, Value, plain, fun, Callable, of_phrase, cur, both, Mark, any, lit_mark, cur_mark, com_mark, wrd_mark, par_mark}
 use Rattle.fac_lang.specs.World.{State}
 use Rattle.fac_lang.specs.Eval.{Result, Done, Failed, Spent, Stuck}
 use Rattle.fac_abs.specs.RowVariables.{Row}
@@ -40,8 +40,8 @@ module _ (inputs : ℕ → Callable → Type 0) where
     StandsItem (bind y) j = j ≡ bind y
     StandsItem (local y) j = j ≡ local y
     StandsItem (hole k) j = j ≡ hole k
-    StandsItem (call_eff h) j = j ≡ call_eff h
-    StandsItem (exec_eff h) j = j ≡ exec_eff h
+    StandsItem (call_effect h) j = j ≡ call_effect h
+    StandsItem (execute_effect h) j = j ≡ execute_effect h
     StandsItem next_method j = j ≡ next_method
     StandsItem (next_after m) j = j ≡ next_after m
     StandsItem (held v) j = j ≡ held v

@@ -4,7 +4,7 @@ use Rattle.fac_base.specs.declared.limits.TheConstants.{MOST_TRIED_INPUTS}
 use Rattle.fac_base.specs.declared.height.Height.{Height}
 use Rattle.fac_lang.specs.declared.program.Program.{Program}
 use Rattle.fac_base.specs.HeightArithmetic.{most_values, curried_height, composed_height}
-use Rattle.fac_lang.specs.Phrases.{Phrase, end, then, Item, lit, lit_arr, quot, word, bind, local, fry, hole, call_eff, exec_eff, next_method, made, next_after, held, known, any, Callable, of_phrase, cur, both}
+use Rattle.fac_lang.specs.Phrases.{Phrase, end, then, Item, lit, lit_arr, quot, word, bind, local, fry, hole, call_effect, execute_effect, next_method, made, next_after, held, known, any, Callable, of_phrase, cur, both}
 use Rattle.fac_abs.specs.Marks.{dead, on, unknowns}
 use Rattle.fac_check.specs.Flow.{found, refused, walked}
 
@@ -23,8 +23,8 @@ abbrev mutual
   forgotten_item (local y) = local y
   forgotten_item (fry t n) = fry (forgotten t) n
   forgotten_item (hole k) = hole k
-  forgotten_item (call_eff h) = call_eff h
-  forgotten_item (exec_eff h) = exec_eff h
+  forgotten_item (call_effect h) = call_effect h
+  forgotten_item (execute_effect h) = execute_effect h
   forgotten_item (made k) = made k
   forgotten_item next_method = next_method
   forgotten_item (next_after m) = next_after m

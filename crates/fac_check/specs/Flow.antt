@@ -2,7 +2,7 @@
 use Rattle.std.specs.Prelude.{ℕ, zero, suc, List, [], ◌∷◌, map, length, Bool, true, false, ◌&&◌, not, nat_eq, nat_lt, Option, Some, None, slice_get}
 use Rattle.fac_base.specs.declared.limits.TheConstants.{MOST_APPLICATIONS, MOST_ITEMS}
 use Rattle.fac_base.specs.declared.place.Place.{Place}
-use Rattle.fac_lang.specs.Phrases.{Literal, Plain, wrd, Phrase, end, then, Item, lit, lit_arr, quot, word, bind, local, fry, hole, call_eff, exec_eff, next_method, made, next_after, held, known, Mark, any, lit_mark, cur_mark, com_mark, wrd_mark, par_mark}
+use Rattle.fac_lang.specs.Phrases.{Literal, Plain, wrd, Phrase, end, then, Item, lit, lit_arr, quot, word, bind, local, fry, hole, call_effect, execute_effect, next_method, made, next_after, held, known, Mark, any, lit_mark, cur_mark, com_mark, wrd_mark, par_mark}
 use Rattle.fac_base.specs.Signatures.{Signature, Inputs, no_inputs, value, quoted}
 use Rattle.fac_base.specs.Effects.{inputs_count, effect_height}
 use Rattle.fac_lang.specs.Procedures.{Procedure, leaves, curries, composes, or_else, picked}
@@ -342,8 +342,8 @@ module _ (P : Program) where
     doing at (local x) b ms = breaks NotKnown
     doing at (fry t n) b ms = needing n ms (λ taken rest. gives (on b (limited (lit_mark at (put_holes (map known taken) t)) ∷ rest)))
     doing at (hole k) b ms = breaks NotKnown
-    doing at (call_eff h) b ms = by_height (suc h.ins) h.outs b ms
-    doing at (exec_eff h) b ms = by_height (suc h.ins) h.outs b ms
+    doing at (call_effect h) b ms = by_height (suc h.ins) h.outs b ms
+    doing at (execute_effect h) b ms = by_height (suc h.ins) h.outs b ms
     doing at next_method b ms = breaks MethodEffect
     doing at (made k) b ms = breaks NotKnown
     doing at (next_after m) b ms = next_doing (sort_of P m) b ms

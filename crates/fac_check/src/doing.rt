@@ -803,8 +803,8 @@ pub fn item_doing(
         What::Arr(number) => array(subject, marks, stack, *number),
         What::NextMethod => Ok(Doing::Breaks(Rule::MethodEffect)),
         What::NextAfter(method) => next_after(subject.closed, marks, stack, *method),
-        What::CallEff(height) => effect_call(marks, stack, *height),
-        What::ExecEff(height) => effect_call(marks, stack, *height),
+        What::CallEffect(height) => effect_call(marks, stack, *height),
+        What::ExecuteEffect(height) => effect_call(marks, stack, *height),
         What::Bind(_) | What::Quot(_) | What::Choices(_) | What::Fry(_, _) | What::Hole(_) =>
             unreachable!(),
     }

@@ -14,11 +14,11 @@ wrap_is_sign : spelling_of wrap_text ≡ spelled.Wraps
 unfolding spelling_of has_integer_form word_spelling sign_spelling kind_begun reserved_spelling
 wrap_is_sign = refl
 
-call_is_sign : spelling_of (codes "call(") ≡ spelled.Calls Callable
+call_is_sign : spelling_of (codes "call(") ≡ spelled.EffectCall Callable
 unfolding spelling_of has_integer_form word_spelling sign_spelling kind_begun reserved_spelling
 call_is_sign = refl
 
-execute_is_sign : spelling_of (codes "execute(") ≡ spelled.Calls Word
+execute_is_sign : spelling_of (codes "execute(") ≡ spelled.EffectCall Word
 unfolding spelling_of has_integer_form word_spelling sign_spelling kind_begun reserved_spelling
 execute_is_sign = refl
 

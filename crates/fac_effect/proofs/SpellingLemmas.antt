@@ -13,7 +13,7 @@ use Rattle.fac_source.specs.declared.tree.Callee.TheVariants.{Callable, Word}
 use Rattle.fac_source.specs.declared.tree.Key.TheVariants.{Arrow}
 use Rattle.fac_source.specs.declared.tree.Literal.TheVariants.{Integer, Text, True, False}
 use Rattle.fac_effect.specs.declared.spelling.Spelling.{Spelling}
-use Rattle.fac_effect.specs.declared.spelling.Spelling.TheVariants.{Begins, Fixed, Semi, Opens, Closes, Dashes, OpensBracket, ClosesBracket, OpensLocals, Bar, Binds, Hole, CalledHole, Inline, Recursive, NextMethod, Wraps, Calls, Literal, Name, Other}
+use Rattle.fac_effect.specs.declared.spelling.Spelling.TheVariants.{Begins, Fixed, Semi, Opens, Closes, Dashes, OpensBracket, ClosesBracket, OpensLocals, Bar, Binds, Hole, CalledHole, Inline, Recursive, NextMethod, Wraps, EffectCall, Literal, Name, Other}
 use Rattle.fac_base.specs.Numbers.{signed_in, integer_in, in_range}
 use Rattle.fac_source.specs.declared.tree.FormKind.{FormKind}
 use Rattle.fac_source.specs.declared.form_table.TheConstants.{FORMS}
@@ -81,8 +81,8 @@ sign_is Inline h = refl
 sign_is Recursive h = refl
 sign_is NextMethod h = refl
 sign_is Wraps h = refl
-sign_is (Calls Callable) h = refl
-sign_is (Calls Word) h = refl
+sign_is (EffectCall Callable) h = refl
+sign_is (EffectCall Word) h = refl
 sign_is (Literal (Integer z)) h = absurd h
 sign_is (Literal Text) h = absurd h
 sign_is Name h = absurd h

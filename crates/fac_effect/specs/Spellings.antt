@@ -18,7 +18,7 @@ use Rattle.fac_source.specs.declared.tree.Literal.TheVariants.{Integer, Text, Tr
 use Rattle.fac_source.specs.FormRows.{head_of, kind_begun}
 use Rattle.fac_effect.specs.declared.reserved.TheConstants.{RESERVED}
 use Rattle.fac_effect.specs.declared.spelling.Spelling.{Spelling}
-use Rattle.fac_effect.specs.declared.spelling.Spelling.TheVariants.{Begins, Fixed, Semi, Opens, Closes, OpensBracket, ClosesBracket, OpensLocals, Bar, Binds, Hole, CalledHole, Inline, Recursive, NextMethod, Wraps, Calls, Literal, Name, Other, Dashes}
+use Rattle.fac_effect.specs.declared.spelling.Spelling.TheVariants.{Begins, Fixed, Semi, Opens, Closes, OpensBracket, ClosesBracket, OpensLocals, Bar, Binds, Hole, CalledHole, Inline, Recursive, NextMethod, Wraps, EffectCall, Literal, Name, Other, Dashes}
 
 -- a plain token at a place
 abbrev pub plain_token : Place → List ℕ → Token
@@ -78,7 +78,7 @@ sign_text Inline = codes "inline"
 sign_text Recursive = codes "recursive"
 sign_text NextMethod = codes "call-next-method"
 sign_text Wraps = wrap_text
-sign_text (Calls callee) = call_text callee
+sign_text (EffectCall callee) = call_text callee
 sign_text _ = []
 
 -- the first of these tokens that is of this text

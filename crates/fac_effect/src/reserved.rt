@@ -37,7 +37,7 @@ pub static RESERVED: [&[(&str, Spelling)]; 17] = [
         ("[let", Spelling::Other),
     ],
     &[
-        ("call(", Spelling::Calls(Callee::Callable)),
+        ("call(", Spelling::EffectCall(Callee::Callable)),
         ("MEMO:", Spelling::Other), ("HOOK:", Spelling::Other), ("MATH:", Spelling::Other), ("CHAR:", Spelling::Other),
     ],
     &[
@@ -49,7 +49,7 @@ pub static RESERVED: [&[(&str, Spelling)]; 17] = [
         ("SYNTAX:", Spelling::Other), ("MACRO::", Spelling::Other), ("RENAME:", Spelling::Other),
     ],
     &[
-        ("execute(", Spelling::Calls(Callee::Word)),
+        ("execute(", Spelling::EffectCall(Callee::Word)),
         ("foldable", Spelling::Other), ("SYMBOLS:", Spelling::Other), ("EXCLUDE:", Spelling::Other),
     ],
     &[

@@ -48,7 +48,7 @@ pub enum Spelling {
     /// `\`
     Wraps,
     /// `call(` or `execute(`, behind which the rest of an effect stands.
-    Calls(Callee),
+    EffectCall(Callee),
     /// A literal: `t`, `f`, a token in one of the integer forms, in range, or a string of at most 1,000,000 characters.
     Literal(Literal<i128>),
     /// A plain token that is in no integer form and isn't reserved.

@@ -7,7 +7,7 @@ use Rattle.fac_lang.specs.declared.program.Program.{Program}
 use Rattle.fac_lang.specs.declared.program.WordDef.{WordDef}
 use Rattle.fac_lang.specs.declared.program.Sort.{Sort}
 use Rattle.fac_lang.specs.declared.program.Sort.TheVariants.{Prim as prim, Core as core, Body as body, Past as past, Itself as itself, Class as class, Isa as isa, Getter as getter, Setter as setter, Putter as putter, Generic as generic, Method as method}
-use Rattle.fac_lang.specs.Phrases.{int, yes, no, str, wrd, Literal, Phrase, end, then, Item, lit, lit_arr, quot, word, bind, local, fry, hole, call_eff, exec_eff, next_method, made, next_after}
+use Rattle.fac_lang.specs.Phrases.{int, yes, no, str, wrd, Literal, Phrase, end, then, Item, lit, lit_arr, quot, word, bind, local, fry, hole, call_effect, execute_effect, next_method, made, next_after}
 use Rattle.fac_lang.specs.Meaning.{sort_of}
 use Rattle.fac_locals.specs.declared.cell.Cell.{Cell}
 use Rattle.fac_locals.specs.declared.cell.Cell.TheVariants.{Local, Hole}
@@ -53,8 +53,8 @@ module _ (P : Program) where
     c_bind : {cells : List Cell} {at : Literal} {p : Place} {t c : Phrase} (x : ℕ) → Closing (cells ++ Local x ∷ []) (behind at (bind x)) t c → Closing cells at (then (bind x) p t) (then (bind (length cells)) p c)
     c_local : {cells : List Cell} {at : Literal} {p : Place} {t c : Phrase} (x k : ℕ) → cell_number cells (Local x) ≡ Some k → Closing cells (behind at (local x)) t c → Closing cells at (then (local x) p t) (then (local k) p c)
     c_hole : {cells : List Cell} {at : Literal} {p : Place} {t c : Phrase} (h k : ℕ) → cell_number cells (Hole h) ≡ Some k → Closing cells (behind at (hole h)) t c → Closing cells at (then (hole h) p t) (then (local k) p c)
-    c_call_effect : {cells : List Cell} {at : Literal} {p : Place} {t c : Phrase} (k : Height) → Closing cells (behind at (call_eff k)) t c → Closing cells at (then (call_eff k) p t) (then (call_eff k) p c)
-    c_execute_effect : {cells : List Cell} {at : Literal} {p : Place} {t c : Phrase} (k : Height) → Closing cells (behind at (exec_eff k)) t c → Closing cells at (then (exec_eff k) p t) (then (exec_eff k) p c)
+    c_call_effect : {cells : List Cell} {at : Literal} {p : Place} {t c : Phrase} (k : Height) → Closing cells (behind at (call_effect k)) t c → Closing cells at (then (call_effect k) p t) (then (call_effect k) p c)
+    c_execute_effect : {cells : List Cell} {at : Literal} {p : Place} {t c : Phrase} (k : Height) → Closing cells (behind at (execute_effect k)) t c → Closing cells at (then (execute_effect k) p t) (then (execute_effect k) p c)
     c_outside : {cells : List Cell} {at : Literal} {p : Place} {t c : Phrase} → Closing cells (behind at next_method) t c → Closing cells at (then next_method p t) (then next_method p c)
     c_next : {cells : List Cell} {at : Literal} {p : Place} {t c : Phrase} (m : ℕ) → IsMethod (sort_of P m) → Closing cells (behind at (next_after m)) t c → Closing cells at (then (next_after m) p t) (then (next_after m) p c)
 
@@ -72,8 +72,8 @@ module _ (P : Program) where
   closing cells at (then (bind x) p t) c h r = rw (h.2, h.3) (c_bind x (closing (cells ++ Local x ∷ []) (behind at (bind x)) t h.1 h.4 r.1))
   closing cells at (then (local x) p t) c h r = rw (h.2, h.3.1) (c_local x h.3.0 h.3.2 (closing cells (behind at (local x)) t h.1 h.4 r.1))
   closing cells at (then (hole k) p t) c h r = rw (h.2, h.3.1) (c_hole k h.3.0 h.3.2 (closing cells (behind at (hole k)) t h.1 h.4 r.1))
-  closing cells at (then (call_eff k) p t) c h r = rw (h.2, h.3) (c_call_effect k (closing cells (behind at (call_eff k)) t h.1 h.4 r.1))
-  closing cells at (then (exec_eff k) p t) c h r = rw (h.2, h.3) (c_execute_effect k (closing cells (behind at (exec_eff k)) t h.1 h.4 r.1))
+  closing cells at (then (call_effect k) p t) c h r = rw (h.2, h.3) (c_call_effect k (closing cells (behind at (call_effect k)) t h.1 h.4 r.1))
+  closing cells at (then (execute_effect k) p t) c h r = rw (h.2, h.3) (c_execute_effect k (closing cells (behind at (execute_effect k)) t h.1 h.4 r.1))
   closing cells at (then next_method p t) c h r = rw (h.2, h.3) (c_outside (closing cells (behind at next_method) t h.1 h.4 r.1))
   closing cells at (then (next_after m) p t) c h r = rw (h.2, h.3) (c_next m r.0 (closing cells (behind at (next_after m)) t h.1 h.4 r.1))
   closing cells at (then (made k) p t) c h r = absurd h.3

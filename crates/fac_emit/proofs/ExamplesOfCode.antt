@@ -16,7 +16,7 @@ use Rattle.fac_lang.specs.declared.program.WordDef.{WordDef}
 use Rattle.fac_lang.specs.declared.program.Sort.{Sort}
 use Rattle.fac_lang.specs.declared.core_table.CoreWord.TheVariants.{Call as w_call, Dip as w_dip, Execute as w_execute, Boa as w_boa, Cond as w_cond}
 use Rattle.fac_lang.specs.declared.program.Sort.TheVariants.{Prim as prim, Core as core, Body as body, Itself as itself, Class as class, Isa as isa, Getter as getter, Generic as generic, Method as method}
-use Rattle.fac_lang.specs.Phrases.{int, str, wrd, Phrase, end, then, Item, lit, lit_arr, quot, word, bind, local, fry, hole, call_eff, exec_eff, next_method, held}
+use Rattle.fac_lang.specs.Phrases.{int, str, wrd, Phrase, end, then, Item, lit, lit_arr, quot, word, bind, local, fry, hole, call_effect, execute_effect, next_method, held}
 use Rattle.fac_lang.specs.Substitution.{put_holes}
 use Rattle.fac_lang.specs.Primitives.{built_count, prim_numbered, prim_fn}
 use Rattle.fac_code.specs.Code.{has_built_code}
@@ -351,7 +351,7 @@ declared ins s = record (named s) { effect = signature None (taking ins) (leaves
 abbrev tested_source : List WordDef
 tested_source =
     declared 2 (prim 26) ∷ named (core w_execute) ∷ declared 1 (body (items (number 1 ∷ word 0 ∷ []))) ∷ named
-    (body (items (number 3 ∷ quot (items (number 1 ∷ word 0 ∷ [])) ∷ call_eff (from 1 1) ∷ lit (wrd 2) ∷ exec_eff (from 1 1) ∷ number 4 ∷ lit (wrd 0) ∷ exec_eff (from 2 1) ∷ lit (wrd 2) ∷ word 1 ∷ []))) ∷ []
+    (body (items (number 3 ∷ quot (items (number 1 ∷ word 0 ∷ [])) ∷ call_effect (from 1 1) ∷ lit (wrd 2) ∷ execute_effect (from 1 1) ∷ number 4 ∷ lit (wrd 0) ∷ execute_effect (from 2 1) ∷ lit (wrd 2) ∷ word 1 ∷ []))) ∷ []
 
 abbrev tested : Closed
 tested = closed_from tested_source 3

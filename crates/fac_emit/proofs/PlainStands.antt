@@ -8,7 +8,7 @@ use Rattle.fac_lang.specs.declared.program.Program.{Program}
 use Rattle.fac_lang.specs.declared.program.WordDef.{WordDef}
 use Rattle.fac_lang.specs.declared.program.Sort.{Sort}
 use Rattle.fac_lang.specs.declared.program.Sort.TheVariants.{Prim as prim_sort, Core as core_sort, Body as body, Itself as itself, Class as class, Isa as isa, Getter as getter, Setter as setter, Putter as putter, Generic as generic, Method as method}
-use Rattle.fac_lang.specs.Phrases.{int, yes, no, str, wrd, Literal, Phrase, Item, lit, lit_arr, quot, word, bind, fry, call_eff, exec_eff, next_method, next_after, held, Value}
+use Rattle.fac_lang.specs.Phrases.{int, yes, no, str, wrd, Literal, Phrase, Item, lit, lit_arr, quot, word, bind, fry, call_effect, execute_effect, next_method, next_after, held, Value}
 use Rattle.fac_lang.specs.Substitution.{put_local, put_holes}
 use Rattle.fac_lang.proofs.SourcePrograms.{IsSourceProgram, IsSourceSort}
 use Rattle.fac_lang.specs.Whole.{IsWhole}
@@ -215,8 +215,8 @@ module _ (P : Program) (C : Closed) (heights : List (Option Height)) (M : Image)
   plain_does F next_method h r n = t_stuck Boa (λ fits callable_height st. refl)
   plain_does F (next_after m) h r n = next_does F m r
   plain_does F (lit _) h r n = absurd r
-  plain_does F (call_eff k) h r n = t_calling (l_call_effect k)
-  plain_does F (exec_eff k) h r n = t_calling (l_execute_effect k)
+  plain_does F (call_effect k) h r n = t_calling (l_call_effect k)
+  plain_does F (execute_effect k) h r n = t_calling (l_execute_effect k)
   plain_does F _ h r n = absurd h
 
   local_does : (F : List MValue) (k : ℕ) (i : Item) → slice_get (helds T F) k ≡ Some i → Translates P M T F i (Local k)

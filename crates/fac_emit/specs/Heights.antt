@@ -7,7 +7,7 @@ use Rattle.fac_lang.specs.declared.program.Program.{Program}
 use Rattle.fac_lang.specs.declared.program.WordDef.{WordDef}
 use Rattle.fac_lang.specs.declared.program.Sort.{Sort}
 use Rattle.fac_lang.specs.declared.program.Sort.TheVariants.{Body as body, Method as method}
-use Rattle.fac_lang.specs.Phrases.{Phrase, end, then, Item, call_eff, held, Value, Callable, of_phrase, cur, both}
+use Rattle.fac_lang.specs.Phrases.{Phrase, end, then, Item, call_effect, held, Value, Callable, of_phrase, cur, both}
 use Rattle.fac_lang.specs.WordHeights.{word_height}
 use Rattle.fac_base.specs.HeightArithmetic.{curried_height, composed_height}
 use Rattle.fac_lang.specs.Meaning.{is_past}
@@ -21,7 +21,7 @@ tested_height P w d = elim (nat_eq w P.top || is_past (Some d.sort)) [ true ↦ 
 
 -- an item that asks for the effect of a callable: `call( )`, which tests it
 abbrev pub asks : Item → Bool
-asks (call_eff h) = true
+asks (call_effect h) = true
 asks _ = false
 
 -- whether one stands in a phrase

@@ -10,7 +10,7 @@ use Rattle.fac_lang.specs.declared.program.Sort.{Sort}
 use Rattle.fac_lang.specs.declared.core_table.CoreWord.{CoreWord}
 use Rattle.fac_lang.specs.declared.core_table.CoreWord.TheVariants.{Call as c_call, Dip as c_dip, If as c_if, Execute as c_execute, Boa as c_boa, Cond as c_cond}
 use Rattle.fac_lang.specs.declared.program.Sort.TheVariants.{Prim as prim_sort, Core as core_sort, Body as body, Itself as itself, Class as class, Isa as isa, Getter as getter, Setter as setter, Putter as putter, Generic as generic, Method as method}
-use Rattle.fac_lang.specs.Phrases.{int, yes, no, str, wrd, Phrase, end, then, Item, lit, lit_arr, word, bind, local, call_eff, exec_eff, made, next_after}
+use Rattle.fac_lang.specs.Phrases.{int, yes, no, str, wrd, Phrase, end, then, Item, lit, lit_arr, word, bind, local, call_effect, execute_effect, made, next_after}
 use Rattle.fac_locals.specs.declared.closing.Closed.{Closed}
 use Rattle.fac_code.specs.declared.image.Elem.{Elem}
 use Rattle.fac_code.specs.declared.image.Elem.TheVariants as elem
@@ -95,8 +95,8 @@ module _ (C : Closed) where
   item_instr (made q) = made_instr q (slice_get C.templates q)
   item_instr (bind x) = Bind
   item_instr (local x) = Local x
-  item_instr (call_eff h) = CallEffect h false
-  item_instr (exec_eff h) = ExecuteEffect h false
+  item_instr (call_effect h) = CallEffect h false
+  item_instr (execute_effect h) = ExecuteEffect h false
   item_instr (next_after m) = Next m false
   item_instr _ = stuck_instr
 

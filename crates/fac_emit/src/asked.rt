@@ -12,7 +12,7 @@ fn item_asks(what: &What) -> bool
     ensures { result ≡ asks (what_item what.now) }
 {
     match what {
-        What::CallEff(_) => true,
+        What::CallEffect(_) => true,
         _ => false,
     }
 }

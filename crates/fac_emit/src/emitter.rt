@@ -97,11 +97,11 @@ fn instr_of(emission: &Emission<'_>, what: &What) -> Instr
         What::Made(number) => instr_of_made(emission.templates(), *number),
         What::Bind(_) => Instr::Bind,
         What::Local(cell) => Instr::Local(*cell),
-        What::CallEff(height) => Instr::CallEffect {
+        What::CallEffect(height) => Instr::CallEffect {
             height: *height,
             tail: false,
         },
-        What::ExecEff(height) => Instr::ExecuteEffect {
+        What::ExecuteEffect(height) => Instr::ExecuteEffect {
             height: *height,
             tail: false,
         },

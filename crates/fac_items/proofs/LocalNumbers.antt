@@ -10,7 +10,7 @@ use Rattle.fac_lang.specs.RunningLaws.{append}
 use Rattle.fac_lang.specs.Whole.{each_inner, each_item, holes_within, holes_within_item, is_small, locals_bound, locals_bound_in, tests_small}
 use Rattle.fac_lang.specs.declared.program.Lit.{Lit}
 use Rattle.fac_vocab.specs.Scopes.{Scope}
-use Rattle.fac_items.specs.Written.{Tok, n_lit, n_array, n_quot, n_ref, n_name, n_fry, n_call, n_execute, n_bind, n_hole, n_next, n_full, n_part, Nodes, nothing, more}
+use Rattle.fac_items.specs.Written.{Tok, n_lit, n_array, n_quot, n_ref, n_name, n_fry, n_call_effect, n_execute_effect, n_bind, n_hole, n_next, n_full, n_part, Nodes, nothing, more}
 use Rattle.fac_items.specs.Items.{elements_of, local_of, phrase_of, word_of}
 use Rattle.fac_items.proofs.PlainNodes.{ArePlain}
 
@@ -158,8 +158,8 @@ holes_fit s locals fry (more (n_name t p) ns) arrays holes h =
 holes_fit s locals fry (more (n_bind t twice p) ns) arrays holes h = let r = holes_fit s (t.text ∷ locals) fry ns arrays holes h.1 in record { grown = r.grown; within = r.within }
 holes_fit s locals fry (more (n_lit l p) ns) arrays holes h = let r = holes_fit s locals fry ns arrays holes h.1 in record { grown = r.grown; within = r.within }
 holes_fit s locals fry (more (n_ref t p) ns) arrays holes h = let r = holes_fit s locals fry ns arrays holes h.1 in record { grown = r.grown; within = r.within }
-holes_fit s locals fry (more (n_call e p) ns) arrays holes h = let r = holes_fit s locals fry ns arrays holes h.1 in record { grown = r.grown; within = r.within }
-holes_fit s locals fry (more (n_execute e p) ns) arrays holes h = let r = holes_fit s locals fry ns arrays holes h.1 in record { grown = r.grown; within = r.within }
+holes_fit s locals fry (more (n_call_effect e p) ns) arrays holes h = let r = holes_fit s locals fry ns arrays holes h.1 in record { grown = r.grown; within = r.within }
+holes_fit s locals fry (more (n_execute_effect e p) ns) arrays holes h = let r = holes_fit s locals fry ns arrays holes h.1 in record { grown = r.grown; within = r.within }
 holes_fit s locals fry (more (n_next p) ns) arrays holes h = let r = holes_fit s locals fry ns arrays holes h.1 in record { grown = r.grown; within = r.within }
 holes_fit s locals fry (more (n_full v x p) ns) arrays holes h = let r = holes_fit s locals fry ns arrays holes h.1 in record { grown = r.grown; within = r.within }
 holes_fit s locals fry (more (n_hole p) ns) arrays holes h =
@@ -209,9 +209,9 @@ phrase_tested s locals fry (more (n_lit l p) ns) arrays holes h = phrase_tested 
 phrase_tested s locals fry (more (n_ref t p) ns) arrays holes h = phrase_tested s locals fry ns arrays holes h.1
 phrase_tested s locals fry (more (n_name t p) ns) arrays holes h =
     name_tested s t (local_of locals t.text) (phrase_of s locals ns arrays holes).phrase (phrase_tested s locals fry ns arrays holes h.1)
-phrase_tested s locals fry (more (n_call e p) ns) arrays holes h =
+phrase_tested s locals fry (more (n_call_effect e p) ns) arrays holes h =
     both_are (is_small e && true) (is_tested (phrase_of s locals ns arrays holes).phrase) (both_are (is_small e) true h.0 refl) (phrase_tested s locals fry ns arrays holes h.1)
-phrase_tested s locals fry (more (n_execute e p) ns) arrays holes h =
+phrase_tested s locals fry (more (n_execute_effect e p) ns) arrays holes h =
     both_are (is_small e && true) (is_tested (phrase_of s locals ns arrays holes).phrase) (both_are (is_small e) true h.0 refl) (phrase_tested s locals fry ns arrays holes h.1)
 phrase_tested s locals fry (more (n_next p) ns) arrays holes h = phrase_tested s locals fry ns arrays holes h.1
 phrase_tested s locals fry (more (n_full v x p) ns) arrays holes h = phrase_tested s locals fry ns arrays holes h.1

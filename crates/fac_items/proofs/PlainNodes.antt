@@ -4,7 +4,7 @@ use Rattle.std.specs.Prelude.{ℕ, if◌then◌else◌}
 use Rattle.fac_lang.specs.Whole.{is_small}
 use Rattle.fac_base.specs.declared.place.Place.{Place}
 use Rattle.fac_source.specs.Toks.{is_among, texts_of}
-use Rattle.fac_items.specs.Written.{Tok, Node, n_lit, n_array, n_quot, n_ref, n_name, n_locals, n_fry, n_call, n_execute, n_bind, n_hole, n_at, n_next, n_full, n_part, Nodes, nothing, more}
+use Rattle.fac_items.specs.Written.{Tok, Node, n_lit, n_array, n_quot, n_ref, n_name, n_locals, n_fry, n_call_effect, n_execute_effect, n_bind, n_hole, n_at, n_next, n_full, n_part, Nodes, nothing, more}
 use Rattle.fac_items.specs.Readings.{are_pairs, before, behind_first, bindings, cond_first, joined, read_elements, read_items, read_pairs}
 use Rattle.fac_items.proofs.RawNodes.{AreRaw, AreRawElements, IsPlainLiteral, IsRawElement, raw_more}
 use Rattle.fac_items.proofs.ReadingLemmas.{with_pairs}
@@ -19,8 +19,8 @@ abbrev mutual
   IsPlain fry (n_lit l p) = IsPlainLiteral l
   IsPlain fry (n_ref t p) = Unit {0}
   IsPlain fry (n_name t p) = Unit {0}
-  IsPlain fry (n_call h p) = is_small h ≡ true
-  IsPlain fry (n_execute h p) = is_small h ≡ true
+  IsPlain fry (n_call_effect h p) = is_small h ≡ true
+  IsPlain fry (n_execute_effect h p) = is_small h ≡ true
   IsPlain fry (n_next p) = Unit {0}
   IsPlain fry (n_bind t twice p) = Unit {0}
   IsPlain fry (n_full vocab name p) = Unit {0}
@@ -65,8 +65,8 @@ mutual
   reads_plain c locals fry (more (n_lit l p) ns) h = (h.0, reads_plain c locals fry ns h.1)
   reads_plain c locals fry (more (n_ref t p) ns) h = (tt, reads_plain c locals fry ns h.1)
   reads_plain c locals fry (more (n_name t p) ns) h = (tt, reads_plain c locals fry ns h.1)
-  reads_plain c locals fry (more (n_call e p) ns) h = (h.0, reads_plain c locals fry ns h.1)
-  reads_plain c locals fry (more (n_execute e p) ns) h = (h.0, reads_plain c locals fry ns h.1)
+  reads_plain c locals fry (more (n_call_effect e p) ns) h = (h.0, reads_plain c locals fry ns h.1)
+  reads_plain c locals fry (more (n_execute_effect e p) ns) h = (h.0, reads_plain c locals fry ns h.1)
   reads_plain c locals fry (more (n_next p) ns) h = (tt, reads_plain c locals fry ns h.1)
   reads_plain c locals fry (more (n_bind t twice p) ns) h = (tt, reads_plain c (t.text ∷ locals) fry ns h.1)
   reads_plain c locals fry (more (n_hole p) ns) h = (h.0, reads_plain c locals fry ns h.1)

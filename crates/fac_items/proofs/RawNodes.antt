@@ -18,7 +18,7 @@ use Rattle.fac_source.specs.declared.tree.Term.{Term}
 use Rattle.fac_source.specs.declared.tree.Term.TheVariants as term
 use Rattle.fac_effect.specs.Spellings.{token_text}
 use Rattle.fac_source.specs.Toks.{is_among}
-use Rattle.fac_items.specs.Written.{Tok, Node, n_lit, n_array, n_quot, n_ref, n_name, n_locals, n_fry, n_call, n_execute, n_bind, n_hole, n_at, n_next, Nodes, nothing, more}
+use Rattle.fac_items.specs.Written.{Tok, Node, n_lit, n_array, n_quot, n_ref, n_name, n_locals, n_fry, n_call_effect, n_execute_effect, n_bind, n_hole, n_at, n_next, Nodes, nothing, more}
 use Rattle.fac_items.specs.Readings.{bindings}
 use Rattle.fac_items.specs.FromElements.{AreClosing, IsElement as MayBeElement, IsInFry, IsItem, MayStand, bracketed, literal_value, nested, node, opened, rests, tested_call, tok}
 
@@ -39,8 +39,8 @@ abbrev mutual
   IsRaw fry (n_lit l p) = IsPlainLiteral l
   IsRaw fry (n_ref t p) = Unit {0}
   IsRaw fry (n_name t p) = Unit {0}
-  IsRaw fry (n_call h p) = is_small h ≡ true
-  IsRaw fry (n_execute h p) = is_small h ≡ true
+  IsRaw fry (n_call_effect h p) = is_small h ≡ true
+  IsRaw fry (n_execute_effect h p) = is_small h ≡ true
   IsRaw fry (n_next p) = Unit {0}
   IsRaw fry (n_bind t twice p) = Unit {0}
   IsRaw fry (n_hole p) = fry ≡ true
@@ -188,8 +188,8 @@ raw_more fry nothing h = tt
 raw_more fry (more (n_lit l p) ns) h = (h.0, raw_more fry ns h.1)
 raw_more fry (more (n_ref t p) ns) h = (tt, raw_more fry ns h.1)
 raw_more fry (more (n_name t p) ns) h = (tt, raw_more fry ns h.1)
-raw_more fry (more (n_call e p) ns) h = (h.0, raw_more fry ns h.1)
-raw_more fry (more (n_execute e p) ns) h = (h.0, raw_more fry ns h.1)
+raw_more fry (more (n_call_effect e p) ns) h = (h.0, raw_more fry ns h.1)
+raw_more fry (more (n_execute_effect e p) ns) h = (h.0, raw_more fry ns h.1)
 raw_more fry (more (n_next p) ns) h = (tt, raw_more fry ns h.1)
 raw_more fry (more (n_bind t twice p) ns) h = (tt, raw_more fry ns h.1)
 raw_more fry (more (n_hole p) ns) h = absurd (cc)

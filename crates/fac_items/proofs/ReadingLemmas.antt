@@ -3,7 +3,7 @@ use Rattle.std.proofs.Common.{◌≡◌, List, [], ◌∷◌, ◌++◌, Option, 
 use Rattle.std.specs.Prelude.{ℕ, is_some, not, ◌&&◌, if◌then◌else◌}
 use Rattle.fac_base.specs.declared.place.Place.{Place}
 use Rattle.fac_source.specs.Toks.{is_among, texts_of}
-use Rattle.fac_items.specs.Written.{Tok, n_lit, n_array, n_quot, n_ref, n_name, n_locals, n_fry, n_call, n_execute, n_bind, n_hole, n_at, n_next, Nodes, nothing, more}
+use Rattle.fac_items.specs.Written.{Tok, n_lit, n_array, n_quot, n_ref, n_name, n_locals, n_fry, n_call_effect, n_execute_effect, n_bind, n_hole, n_at, n_next, Nodes, nothing, more}
 use Rattle.fac_items.specs.Readings.{are_pairs, behind_first, bindings, cond_first, joined, read_elements, read_items, read_pairs}
 use Rattle.fac_items.specs.Items.{local_of}
 use Rattle.fac_items.specs.inner.Behind.{cond_name}
@@ -49,8 +49,8 @@ cond_behind c locals fry (more (n_name t p) ns) h = ap (λ (b : Bool). if not b 
 cond_behind c locals fry (more (n_array es q) ns) h = first_array c locals es q (read_items c locals ns) (are_pairs es) (cond_first c locals (read_items c locals ns)) refl
 cond_behind c locals fry (more (n_lit l p) ns) h = refl
 cond_behind c locals fry (more (n_ref t p) ns) h = refl
-cond_behind c locals fry (more (n_call e p) ns) h = refl
-cond_behind c locals fry (more (n_execute e p) ns) h = refl
+cond_behind c locals fry (more (n_call_effect e p) ns) h = refl
+cond_behind c locals fry (more (n_execute_effect e p) ns) h = refl
 cond_behind c locals fry (more (n_next p) ns) h = refl
 cond_behind c locals fry (more (n_bind t twice p) ns) h = refl
 cond_behind c locals fry (more (n_hole p) ns) h = refl

@@ -2,7 +2,7 @@
 use Rattle.std.proofs.Common.{◌≡◌, ℕ, suc, List, [], ◌∷◌, ◌++◌, length, fold, Option, Some, None, Bool, true, false, refl, ap, sym, ◌∙◌, subst, append_assoc, append-nil}
 use Rattle.std.specs.Prelude.{is_some, if◌then◌else◌}
 use Rattle.std.proofs.lemmas.List.Sums.{fold-append}
-use Rattle.fac_lang.specs.Phrases.{wrd, Phrase, end, then as placed, Item, lit, lit_arr, quot, word, bind, local, fry as fry_item, hole, call_eff, exec_eff, next_method}
+use Rattle.fac_lang.specs.Phrases.{wrd, Phrase, end, then as placed, Item, lit, lit_arr, quot, word, bind, local, fry as fry_item, hole, call_effect, execute_effect, next_method}
 use Rattle.fac_lang.specs.RunningLaws.{append}
 use Rattle.fac_base.specs.declared.place.Place.{Place}
 use Rattle.fac_lang.specs.declared.program.Lit.{Lit}
@@ -18,7 +18,7 @@ use Rattle.fac_items.specs.declared.added.Added.TheVariants as add
 use Rattle.fac_items.specs.declared.nest.At.{At}
 use Rattle.fac_items.specs.declared.nest.At.TheVariants.{Inside, Cases}
 use Rattle.fac_items.specs.declared.nest.Spot.TheVariants.{Between, BeforeSecond, BehindSecond, BehindLast}
-use Rattle.fac_items.specs.Written.{Tok, Node, n_lit, n_array, n_quot, n_ref, n_name, n_locals, n_fry, n_call, n_execute, n_bind, n_hole, n_at, n_next, Nodes, nothing, more}
+use Rattle.fac_items.specs.Written.{Tok, Node, n_lit, n_array, n_quot, n_ref, n_name, n_locals, n_fry, n_call_effect, n_execute_effect, n_bind, n_hole, n_at, n_next, Nodes, nothing, more}
 use Rattle.fac_items.specs.Readings.{are_pairs, behind_first, bindings, bound, joined, read_elements, read_items, read_pairs}
 use Rattle.fac_items.specs.Items.{Made, behind_phrase, elements_of, is_cond, item_faults, item_of, items_faults, literal, local_of, phrase_of, search_fault, word_of}
 use Rattle.fac_items.specs.inner.Bits.{Bit, closes, leaf, opens}
@@ -346,10 +346,10 @@ mutual
   items_taken s fry (more (n_ref x p) ns) h =
       let both = items_taken s fry ns h.1 in
       record { here = λ outer t locals holes arrays first. item_before s (lit (wrd (word_of s x))) p ns both.here outer t locals holes arrays first (search_fault s x); behind = both.here }
-  items_taken s fry (more (n_call e p) ns) h =
-      let both = items_taken s fry ns h.1 in record { here = λ outer t locals holes arrays first. item_before s (call_eff e) p ns both.here outer t locals holes arrays first []; behind = both.here }
-  items_taken s fry (more (n_execute e p) ns) h =
-      let both = items_taken s fry ns h.1 in record { here = λ outer t locals holes arrays first. item_before s (exec_eff e) p ns both.here outer t locals holes arrays first []; behind = both.here }
+  items_taken s fry (more (n_call_effect e p) ns) h =
+      let both = items_taken s fry ns h.1 in record { here = λ outer t locals holes arrays first. item_before s (call_effect e) p ns both.here outer t locals holes arrays first []; behind = both.here }
+  items_taken s fry (more (n_execute_effect e p) ns) h =
+      let both = items_taken s fry ns h.1 in record { here = λ outer t locals holes arrays first. item_before s (execute_effect e) p ns both.here outer t locals holes arrays first []; behind = both.here }
   items_taken s fry (more (n_next p) ns) h =
       let both = items_taken s fry ns h.1 in record { here = λ outer t locals holes arrays first. item_before s next_method p ns both.here outer t locals holes arrays first []; behind = both.here }
   items_taken s fry (more (n_bind x twice p) ns) h = let both = items_taken s fry ns h.1 in record { here = bound_before_items s x twice p ns both.here; behind = both.here }

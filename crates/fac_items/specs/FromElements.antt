@@ -16,15 +16,15 @@ use Rattle.fac_source.specs.declared.tree.Literal.TheVariants.{Integer, Text, Tr
 use Rattle.fac_source.specs.declared.tree.Term.{Term}
 use Rattle.fac_source.specs.declared.tree.Term.TheVariants as term
 use Rattle.fac_effect.specs.Spellings.{token_text}
-use Rattle.fac_items.specs.Written.{Tok, Node, n_lit, n_array, n_ref, n_name, n_next, n_quot, n_fry, n_locals, n_call, n_execute, n_bind, n_hole, n_at, Nodes, nothing, more}
+use Rattle.fac_items.specs.Written.{Tok, Node, n_lit, n_array, n_ref, n_name, n_next, n_quot, n_fry, n_locals, n_call_effect, n_execute_effect, n_bind, n_hole, n_at, Nodes, nothing, more}
 
 abbrev pub tok : Token → Tok
 tok t = record { text = token_text t.kind; place = t.place }
 
 -- `call( )` or `execute( )`
 abbrev pub tested_call : Callee → Height → Place → Node
-tested_call Callable h place = n_call h place
-tested_call Word h place = n_execute h place
+tested_call Callable h place = n_call_effect h place
+tested_call Word h place = n_execute_effect h place
 
 -- the value of a literal, by the content of its token
 abbrev pub literal_value : List ℕ → Literal ℤ → Plain

@@ -5,7 +5,7 @@ use Rattle.fac_lang.specs.CoreWords.{WrittenCore, built_core_words}
 use Rattle.fac_lang.specs.PrimitiveWords.{PrimitiveWord}
 use Rattle.fac_lang.specs.Primitives.{built_primitive_words}
 use Rattle.fac_lang.specs.RunningLaws.{append}
-use Rattle.fac_lang.specs.Phrases.{Phrase, end, then as placed, Item, lit, lit_arr, quot, word, bind, local, fry, hole, call_eff, exec_eff, next_method, Plain, int, yes, str, wrd}
+use Rattle.fac_lang.specs.Phrases.{Phrase, end, then as placed, Item, lit, lit_arr, quot, word, bind, local, fry, hole, call_effect, execute_effect, next_method, Plain, int, yes, str, wrd}
 use Rattle.fac_lang.specs.Whole.{joined as all_of}
 use Rattle.fac_base.specs.declared.place.Place.{Place}
 use Rattle.fac_lang.specs.declared.program.Lit.{Lit}
@@ -13,7 +13,7 @@ use Rattle.fac_lang.specs.declared.program.Lit.TheVariants.{Int as l_int, True a
 use Rattle.fac_base.specs.declared.name.Name.{Name as FullName}
 use Rattle.fac_source.specs.declared.refusal.NameFault.{NameFault}
 use Rattle.fac_source.specs.declared.refusal.NameKind.TheVariants.{Unknown, Ambiguous, Twice}
-use Rattle.fac_items.specs.Written.{Tok, Node, n_lit, n_array, n_quot, n_ref, n_name, n_fry, n_call, n_execute, n_bind, n_hole, n_next, n_full, n_part, Nodes, nothing, more}
+use Rattle.fac_items.specs.Written.{Tok, Node, n_lit, n_array, n_quot, n_ref, n_name, n_fry, n_call_effect, n_execute_effect, n_bind, n_hole, n_next, n_full, n_part, Nodes, nothing, more}
 use Rattle.fac_source.specs.declared.tok.Ref.{Ref}
 use Rattle.fac_source.specs.Refusals.{fault, fault_if}
 use Rattle.fac_source.specs.Toks.{is_among, number}
@@ -123,8 +123,8 @@ abbrev mutual
   item_of s locals (n_ref t p) arrays holes = one (lit (wrd (word_of s t))) p arrays holes
   item_of s locals (n_name t p) arrays holes = one (elim (local_of locals t.text) [ Some x ↦ local x | None ↦ word (word_of s t) ]) p arrays holes
   item_of s locals (n_fry ns p) arrays holes = in_fry p holes (phrase_of s locals ns arrays 0)
-  item_of s locals (n_call h p) arrays holes = one (call_eff h) p arrays holes
-  item_of s locals (n_execute h p) arrays holes = one (exec_eff h) p arrays holes
+  item_of s locals (n_call_effect h p) arrays holes = one (call_effect h) p arrays holes
+  item_of s locals (n_execute_effect h p) arrays holes = one (execute_effect h) p arrays holes
   item_of s locals (n_bind t twice p) arrays holes = one (bind (length locals)) p arrays holes
   item_of s locals (n_hole p) arrays holes = one (hole holes) p arrays (suc holes)
   item_of s locals (n_next p) arrays holes = one next_method p arrays holes

@@ -20,8 +20,8 @@ mutual
     -- `[| inputs | items ]`
     n_locals : List Tok → Nodes → Place → Node
     n_fry : Nodes → Place → Node
-    n_call : Height → Place → Node
-    n_execute : Height → Place → Node
+    n_call_effect : Height → Place → Node
+    n_execute_effect : Height → Place → Node
     -- `:> n`, and whether it is a local input that repeats one of its list
     n_bind : Tok → Bool → Place → Node
     n_hole : Place → Node

@@ -214,8 +214,8 @@ fn take_call(
     ensures { (s : Scope) → OnOk result (nest.new ≡ leaf_inside s (tested_call callee height place) nest.old) }
 {
     match callee {
-        Callee::Callable => add(nest, What::CallEff(height), place),
-        Callee::Word => add(nest, What::ExecEff(height), place),
+        Callee::Callable => add(nest, What::CallEffect(height), place),
+        Callee::Word => add(nest, What::ExecuteEffect(height), place),
     }
 }
 

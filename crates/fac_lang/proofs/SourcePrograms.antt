@@ -9,7 +9,7 @@ use Rattle.fac_lang.specs.CoreWords.{core_word}
 use Rattle.fac_lang.specs.declared.core_table.CoreWord.{CoreWord}
 use Rattle.fac_lang.specs.declared.core_table.CoreWord.TheVariants.{Call, Dip, If, Execute, Boa, Cond}
 use Rattle.fac_lang.specs.Meaning.{sort_of, is_past}
-use Rattle.fac_lang.specs.Phrases.{int, yes, no, str, iota, wrd, arr, tup, Phrase, end, then, Item, lit, lit_arr, quot, word, bind, local, fry, hole, call_eff, exec_eff, next_method}
+use Rattle.fac_lang.specs.Phrases.{int, yes, no, str, iota, wrd, arr, tup, Phrase, end, then, Item, lit, lit_arr, quot, word, bind, local, fry, hole, call_effect, execute_effect, next_method}
 use Rattle.fac_lang.specs.PrimitiveWords.{PrimitiveWord, written_effect}
 use Rattle.fac_lang.specs.Primitives.{Primitive, prim_numbered, primitive_word, built_primitives, built_count, is_built_primitive}
 use Rattle.fac_base.specs.Signatures.{Signature, signature, no_inputs, leaves}
@@ -42,8 +42,8 @@ abbrev mutual
   IsSourceItem bound (local x) = Unit {0}
   IsSourceItem bound (fry t n) = IsSourcePhrase bound t
   IsSourceItem bound (hole k) = Unit {0}
-  IsSourceItem bound (call_eff h) = Unit {0}
-  IsSourceItem bound (exec_eff h) = Unit {0}
+  IsSourceItem bound (call_effect h) = Unit {0}
+  IsSourceItem bound (execute_effect h) = Unit {0}
   IsSourceItem bound _ = ⊥
 
 -- an element of a literal array, likewise
@@ -280,8 +280,8 @@ module _ (P : Program) (whole : IsWhole P) where
     item_from (local x) h k = tt
     item_from (fry t n) h k = phrase_from t h k
     item_from (hole n) h k = tt
-    item_from (call_eff e) h k = tt
-    item_from (exec_eff e) h k = tt
+    item_from (call_effect e) h k = tt
+    item_from (execute_effect e) h k = tt
     item_from i h k = not_true h
 
   elements_from : (ls : List Lit) → list_all (literal_fits P) ls ≡ true → list_all (literal_spares P) ls ≡ true → list_all (each_item (item_fits P)) (quotations ls) ≡ true → list_all (each_item (item_spares P)) (quotations ls) ≡ true → AreSourceElements P.top ls

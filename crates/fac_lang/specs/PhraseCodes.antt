@@ -4,7 +4,7 @@ use Rattle.std.specs.Prelude.{ℕ, ◌+◌, ℤ, pos, List, [], ◌∷◌, drop,
 use Rattle.std.proofs.Common.{refl, ◌∙◌, ap}
 use Rattle.std.specs.Coded.{Coded, code_by, coded×, coded_ℕ, coded_ℤ, coded_list}
 use Rattle.fac_base.specs.declared.height.Height.{Height}
-use Rattle.fac_lang.specs.Phrases.{Plain, int, yes, no, str, iota, wrd, arr, tup, Phrase, end, then, Item, lit, lit_arr, quot, word, bind, local, fry, hole, call_eff, exec_eff, next_method, made, next_after, held, Value, plain, fun, Callable, of_phrase, cur, both, known, Mark, any, lit_mark, cur_mark, com_mark, wrd_mark, par_mark}
+use Rattle.fac_lang.specs.Phrases.{Plain, int, yes, no, str, iota, wrd, arr, tup, Phrase, end, then, Item, lit, lit_arr, quot, word, bind, local, fry, hole, call_effect, execute_effect, next_method, made, next_after, held, Value, plain, fun, Callable, of_phrase, cur, both, known, Mark, any, lit_mark, cur_mark, com_mark, wrd_mark, par_mark}
 
 -- a kind of token, an integer and a list of numbers
 abbrev pub Token : Type 0
@@ -46,8 +46,8 @@ abbrev mutual
   item_tokens (fry t n) rest = phrase_tokens t (tok 3 (n ∷ []) ∷ rest)
   item_tokens (held v) rest = value_tokens v (tok 4 [] ∷ rest)
   item_tokens (known m) rest = mark_tokens m (tok 19 [] ∷ rest)
-  item_tokens (call_eff h) rest = tok 5 (height_list h.ins h.outs) ∷ rest
-  item_tokens (exec_eff h) rest = tok 6 (height_list h.ins h.outs) ∷ rest
+  item_tokens (call_effect h) rest = tok 5 (height_list h.ins h.outs) ∷ rest
+  item_tokens (execute_effect h) rest = tok 6 (height_list h.ins h.outs) ∷ rest
   item_tokens next_method rest = tok 7 [] ∷ rest
   item_tokens (lit_arr n) rest = tok 8 (n ∷ []) ∷ rest
   item_tokens (word n) rest = tok 9 (n ∷ []) ∷ rest
@@ -93,8 +93,8 @@ plain_read k z ns =
 
 abbrev pub leaf_read : ℕ → ℤ → List ℕ → Item
 leaf_read k z ns =
-    choose (nat_eq k 5) (call_eff (listed_height ns)) (
-    choose (nat_eq k 6) (exec_eff (listed_height ns)) (
+    choose (nat_eq k 5) (call_effect (listed_height ns)) (
+    choose (nat_eq k 6) (execute_effect (listed_height ns)) (
     choose (nat_eq k 7) next_method (
     choose (nat_eq k 8) (lit_arr (slice_index ns 0)) (
     choose (nat_eq k 9) (word (slice_index ns 0)) (
@@ -239,8 +239,8 @@ mutual
   item_back (fry t n) rest s = phrase_back t (tok 3 (n ∷ []) ∷ rest) s
   item_back (held v) rest s = value_back v (tok 4 [] ∷ rest) s
   item_back (known m) rest s = mark_back m (tok 19 [] ∷ rest) s
-  item_back (call_eff h) rest s = ap (λ k. read rest (more_item (call_eff k) s)) (height_read h.ins h.outs)
-  item_back (exec_eff h) rest s = ap (λ k. read rest (more_item (exec_eff k) s)) (height_read h.ins h.outs)
+  item_back (call_effect h) rest s = ap (λ k. read rest (more_item (call_effect k) s)) (height_read h.ins h.outs)
+  item_back (execute_effect h) rest s = ap (λ k. read rest (more_item (execute_effect k) s)) (height_read h.ins h.outs)
   item_back next_method rest s = refl
   item_back (lit_arr n) rest s = refl
   item_back (word n) rest s = refl

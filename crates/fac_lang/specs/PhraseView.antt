@@ -4,8 +4,8 @@ use Rattle.fac_lang.specs.declared.phrase.Choices.{Choices as ChoicesRead}
 use Rattle.fac_base.specs.declared.place.Place.{Place}
 use Rattle.fac_lang.specs.declared.phrase.Item.{Item as PlacedItem}
 use Rattle.fac_lang.specs.declared.phrase.What.{What}
-use Rattle.fac_lang.specs.declared.phrase.What.TheVariants.{Int, True, False, Str, Arr, Wref, Quot, Choices, Word, Bind, Local, Fry, Hole, CallEff, ExecEff, NextMethod, NextAfter, Made}
-use Rattle.fac_lang.specs.Phrases.{int, yes, no, str, wrd, Phrase, end, then, append, Item, lit, lit_arr, quot, word, bind, local, fry, hole, call_eff, exec_eff, next_method, made, next_after}
+use Rattle.fac_lang.specs.declared.phrase.What.TheVariants.{Int, True, False, Str, Arr, Wref, Quot, Choices, Word, Bind, Local, Fry, Hole, CallEffect, ExecuteEffect, NextMethod, NextAfter, Made}
+use Rattle.fac_lang.specs.Phrases.{int, yes, no, str, wrd, Phrase, end, then, append, Item, lit, lit_arr, quot, word, bind, local, fry, hole, call_effect, execute_effect, next_method, made, next_after}
 
 -- What stands behind a phrase where these are the choices inside it, an outer one first: a quotation of the next one with what stands behind that, and the word that chooses.
 abbrev pub choices_behind : ℕ → Place → List Phrase → Phrase
@@ -34,8 +34,8 @@ what_item (Bind n) = bind n
 what_item (Local n) = local n
 what_item (Fry p n) = fry p n
 what_item (Hole n) = hole n
-what_item (CallEff h) = call_eff h
-what_item (ExecEff h) = exec_eff h
+what_item (CallEffect h) = call_effect h
+what_item (ExecuteEffect h) = execute_effect h
 what_item NextMethod = next_method
 what_item (NextAfter n) = next_after n
 what_item (Made n) = made n

@@ -3,7 +3,7 @@ use Rattle.std.proofs.Common.{◌≡◌, ◌<◌, ◌≤◌, ◌⊎◌, inl, inr
 use Rattle.std.specs.Prelude.{map, slice_get, nat_eq, nat_lt}
 use Rattle.std.specs.List.{list_all}
 use Rattle.std.proofs.lemmas.Bool.{cases_lt, cases_eq, eqb-true, ltb-true, and_parts}
-use Rattle.fac_lang.specs.Phrases.{Phrase, end, then, Item, lit, lit_arr, quot, word, bind, local, fry, hole, call_eff, exec_eff, next_method}
+use Rattle.fac_lang.specs.Phrases.{Phrase, end, then, Item, lit, lit_arr, quot, word, bind, local, fry, hole, call_effect, execute_effect, next_method}
 use Rattle.fac_base.specs.declared.place.Place.{Place}
 use Rattle.fac_lang.specs.declared.phrase.Template.{Template}
 use Rattle.fac_lang.specs.declared.program.Lit.{Lit}
@@ -128,8 +128,8 @@ module _ (counts : List ℕ) (bound : ℕ) where
       item_names_noted n p (lit q) h = refl
       item_names_noted n p (word w) h = refl
       item_names_noted n p next_method h = refl
-      item_names_noted n p (call_eff g) h = refl
-      item_names_noted n p (exec_eff g) h = refl
+      item_names_noted n p (call_effect g) h = refl
+      item_names_noted n p (execute_effect g) h = refl
       item_names_noted n p _ h = absurd h
 
     -- what is noted is below the bound
@@ -149,8 +149,8 @@ module _ (counts : List ℕ) (bound : ℕ) where
       item_noted_below n p (lit q) h b x e = absurd e
       item_noted_below n p (word w) h b x e = absurd e
       item_noted_below n p next_method h b x e = absurd e
-      item_noted_below n p (call_eff g) h b x e = absurd e
-      item_noted_below n p (exec_eff g) h b x e = absurd e
+      item_noted_below n p (call_effect g) h b x e = absurd e
+      item_noted_below n p (execute_effect g) h b x e = absurd e
       item_noted_below n p _ h b x e = absurd h
 
   pub words_noted_below : (w n : ℕ) (ds : List WordDef) → AreClosable bound ds → (b : ℕ) (x : ArrayStart) → IsEntry b x (words_starts counts w n ds) → b < bound

@@ -3,7 +3,7 @@ use Rattle.std.proofs.Common.{◌≡◌, ◌<◌, ◌≤◌, ◌⊎◌, inl, inr
 use Rattle.std.specs.Prelude.{map, slice_get}
 use Rattle.std.proofs.lemmas.Bool.{cases_eq, cases_lt}
 use Rattle.std.proofs.lemmas.Option.{get_or_from_slice_get, slice_get_within}
-use Rattle.fac_lang.specs.Phrases.{Literal, Phrase, end, then, Item, lit, lit_arr, quot, word, bind, local, fry, hole, call_eff, exec_eff, next_method}
+use Rattle.fac_lang.specs.Phrases.{Literal, Phrase, end, then, Item, lit, lit_arr, quot, word, bind, local, fry, hole, call_effect, execute_effect, next_method}
 use Rattle.fac_lang.specs.Meaning.{nowhere, array_method}
 use Rattle.fac_base.specs.declared.place.Place.{Place}
 use Rattle.fac_lang.specs.declared.phrase.Template.{Template}
@@ -108,8 +108,8 @@ module _ (P : Program) (counts : List ℕ) (X : ℕ → Literal → Place → Li
       item_closes n cells before after at p (word w) h u e is = refl
       item_closes n cells before after at p (lit_arr a) h u e is = refl
       item_closes n cells before after at p next_method h u e is = next_closes cells at m
-      item_closes n cells before after at p (call_eff g) h u e is = refl
-      item_closes n cells before after at p (exec_eff g) h u e is = refl
+      item_closes n cells before after at p (call_effect g) h u e is = refl
+      item_closes n cells before after at p (execute_effect g) h u e is = refl
       item_closes n cells before after at p _ h u e is = absurd h
 
     -- the template of a quotation or fry

@@ -5,7 +5,7 @@ use Rattle.std.proofs.lemmas.Bool.{eqb-true, eq-eqb}
 use Rattle.std.proofs.lemmas.List.Folds.{list_any-append}
 use Rattle.std.proofs.lemmas.Grind.{common_steps}
 use Rattle.fac_base.specs.declared.place.Place.{Place}
-use Rattle.fac_lang.specs.Phrases.{Literal, Phrase, end, then, Item, lit, lit_arr, quot, word, bind, local, fry, hole, call_eff, exec_eff, next_method, made, next_after, held, known}
+use Rattle.fac_lang.specs.Phrases.{Literal, Phrase, end, then, Item, lit, lit_arr, quot, word, bind, local, fry, hole, call_effect, execute_effect, next_method, made, next_after, held, known}
 use Rattle.fac_lang.specs.Substitution.{binds_local, put_local, put_local_item, put_holes, put_holes_item, item_or_hole}
 use Rattle.fac_locals.specs.declared.cell.Cell.{Cell}
 use Rattle.fac_locals.specs.declared.cell.Cell.TheVariants.{Local, Hole}
@@ -61,8 +61,8 @@ mutual
   item_same f g (lit_arr a) h = refl
   item_same f g (word w) h = refl
   item_same f g (bind x) h = refl
-  item_same f g (call_eff e) h = refl
-  item_same f g (exec_eff e) h = refl
+  item_same f g (call_effect e) h = refl
+  item_same f g (execute_effect e) h = refl
   item_same f g next_method h = refl
   item_same f g (made k) h = refl
   item_same f g (next_after m) h = refl
@@ -97,8 +97,8 @@ mutual
   item_own (lit_arr a) = refl
   item_own (word w) = refl
   item_own (bind x) = refl
-  item_own (call_eff e) = refl
-  item_own (exec_eff e) = refl
+  item_own (call_effect e) = refl
+  item_own (execute_effect e) = refl
   item_own next_method = refl
   item_own (made k) = refl
   item_own (next_after m) = refl
@@ -187,8 +187,8 @@ binds_filled x f (lit p) h = refl
 binds_filled x f (lit_arr a) h = refl
 binds_filled x f (word w) h = refl
 binds_filled x f (bind y) h = refl
-binds_filled x f (call_eff e) h = refl
-binds_filled x f (exec_eff e) h = refl
+binds_filled x f (call_effect e) h = refl
+binds_filled x f (execute_effect e) h = refl
 binds_filled x f next_method h = refl
 binds_filled x f (made k) h = refl
 binds_filled x f (next_after m) h = refl
@@ -236,8 +236,8 @@ mutual
   put_item x v f (lit_arr a) h = refl
   put_item x v f (word w) h = refl
   put_item x v f (bind y) h = refl
-  put_item x v f (call_eff e) h = refl
-  put_item x v f (exec_eff e) h = refl
+  put_item x v f (call_effect e) h = refl
+  put_item x v f (execute_effect e) h = refl
   put_item x v f next_method h = refl
   put_item x v f (made k) h = refl
   put_item x v f (next_after m) h = refl
@@ -280,8 +280,8 @@ mutual
   holes_item js f (lit_arr a) h = refl
   holes_item js f (word w) h = refl
   holes_item js f (bind y) h = refl
-  holes_item js f (call_eff e) h = refl
-  holes_item js f (exec_eff e) h = refl
+  holes_item js f (call_effect e) h = refl
+  holes_item js f (execute_effect e) h = refl
   holes_item js f next_method h = refl
   holes_item js f (made k) h = refl
   holes_item js f (next_after m) h = refl
@@ -312,8 +312,8 @@ mutual
   inside_filled f (lit_arr a) h = refl
   inside_filled f (word w) h = refl
   inside_filled f (bind y) h = refl
-  inside_filled f (call_eff e) h = refl
-  inside_filled f (exec_eff e) h = refl
+  inside_filled f (call_effect e) h = refl
+  inside_filled f (execute_effect e) h = refl
   inside_filled f next_method h = refl
   inside_filled f (made k) h = refl
   inside_filled f (next_after m) h = refl
@@ -351,8 +351,8 @@ module _ (arrays : ℕ → Place → List Place) where
     places_at_filled p f (lit_arr a) h = refl
     places_at_filled p f (word w) h = refl
     places_at_filled p f (bind y) h = refl
-    places_at_filled p f (call_eff e) h = refl
-    places_at_filled p f (exec_eff e) h = refl
+    places_at_filled p f (call_effect e) h = refl
+    places_at_filled p f (execute_effect e) h = refl
     places_at_filled p f next_method h = refl
     places_at_filled p f (made k) h = refl
     places_at_filled p f (next_after m) h = refl

@@ -5,7 +5,7 @@ use Rattle.std.specs.List.{list_all}
 use Rattle.std.proofs.lemmas.List.{get_or_append_left, get_or_at}
 use Rattle.std.proofs.lemmas.List.Folds.{list_all-append}
 use Rattle.std.proofs.lemmas.Bool.{ltb-true, and_parts}
-use Rattle.fac_lang.specs.Phrases.{int, yes, no, str, wrd, Phrase, end, then, Item, lit, lit_arr, quot, word, bind, local, fry, hole, call_eff, exec_eff, next_method}
+use Rattle.fac_lang.specs.Phrases.{int, yes, no, str, wrd, Phrase, end, then, Item, lit, lit_arr, quot, word, bind, local, fry, hole, call_effect, execute_effect, next_method}
 use Rattle.fac_lang.specs.Substitution.{of_method, of_method_item}
 use Rattle.fac_lang.specs.Meaning.{nowhere, of_method_if, array_method}
 use Rattle.fac_base.specs.declared.place.Place.{Place}
@@ -62,8 +62,8 @@ abbrev mutual
   IsClosableItem a (fry t n) = IsClosable a t
   IsClosableItem a (hole k) = Unit {0}
   IsClosableItem a next_method = Unit {0}
-  IsClosableItem a (call_eff g) = Unit {0}
-  IsClosableItem a (exec_eff g) = Unit {0}
+  IsClosableItem a (call_effect g) = Unit {0}
+  IsClosableItem a (execute_effect g) = Unit {0}
   IsClosableItem a _ = ⊥
 
 -- the same phrase in a method, or in none
@@ -96,8 +96,8 @@ mutual
   item_in_none a (fry t n) h = ap (λ (u : Phrase). fry u n) (in_none a t h)
   item_in_none a (hole k) h = refl
   item_in_none a next_method h = refl
-  item_in_none a (call_eff g) h = refl
-  item_in_none a (exec_eff g) h = refl
+  item_in_none a (call_effect g) h = refl
+  item_in_none a (execute_effect g) h = refl
   item_in_none a _ h = absurd h
 
 mutual
@@ -115,8 +115,8 @@ mutual
   item_in_some a m (fry t n) h = ap (λ (u : Phrase). fry u n) (in_some a m t h)
   item_in_some a m (hole k) h = refl
   item_in_some a m next_method h = refl
-  item_in_some a m (call_eff g) h = refl
-  item_in_some a m (exec_eff g) h = refl
+  item_in_some a m (call_effect g) h = refl
+  item_in_some a m (execute_effect g) h = refl
   item_in_some a m _ h = absurd h
 
 -- the phrase of word w as it stands in this word
@@ -148,8 +148,8 @@ mutual
   closable_item_more a n (fry t k) le h = closable_more a n t le h
   closable_item_more a n (hole k) le h = tt
   closable_item_more a n next_method le h = tt
-  closable_item_more a n (call_eff g) le h = tt
-  closable_item_more a n (exec_eff g) le h = tt
+  closable_item_more a n (call_effect g) le h = tt
+  closable_item_more a n (execute_effect g) le h = tt
   closable_item_more a n _ le h = absurd h
 
 -- a phrase whose items fit
@@ -170,8 +170,8 @@ mutual
   fitting_item P bound (fry t n) h e = fitting_closable P bound t h (and_parts true (each_item (item_fits P) t) e).1
   fitting_item P bound (hole k) h e = tt
   fitting_item P bound next_method h e = tt
-  fitting_item P bound (call_eff g) h e = tt
-  fitting_item P bound (exec_eff g) h e = tt
+  fitting_item P bound (call_effect g) h e = tt
+  fitting_item P bound (execute_effect g) h e = tt
   fitting_item P bound _ h e = absurd h
 
 words_closable : (P : Program) (bound : ℕ) (ds : List WordDef) → HaveBuiltPhrases bound ds → list_all (each_item (item_fits P)) (word_phrases ds) ≡ true → AreClosable (length P.arrays) ds
@@ -206,8 +206,8 @@ mutual
   naming_item bound a (fry t n) h e = naming_closable bound a t h e
   naming_item bound a (hole k) h e = tt
   naming_item bound a next_method h e = tt
-  naming_item bound a (call_eff g) h e = tt
-  naming_item bound a (exec_eff g) h e = tt
+  naming_item bound a (call_effect g) h e = tt
+  naming_item bound a (execute_effect g) h e = tt
   naming_item bound a _ h e = absurd h
 
 elements_closable : (bound a : ℕ) (p : Place) (ls : List Lit) → AreSourceElements bound ls → list_all (λ (b : ℕ). nat_lt b a) (arrays_in ls) ≡ true → IsClosable a (plain_phrase p ls)
@@ -269,8 +269,8 @@ mutual
   item_behind_same cs ds a e n (fry t k) h = behind_same cs ds a e (suc n) t h
   item_behind_same cs ds a e n (hole k) h = refl
   item_behind_same cs ds a e n next_method h = refl
-  item_behind_same cs ds a e n (call_eff g) h = refl
-  item_behind_same cs ds a e n (exec_eff g) h = refl
+  item_behind_same cs ds a e n (call_effect g) h = refl
+  item_behind_same cs ds a e n (execute_effect g) h = refl
   item_behind_same cs ds a e n _ h = absurd h
 
 one_longer : {A : Type 0} (xs : List A) (x : A) (n : ℕ) → length xs ≡ n → length (xs ++ x ∷ []) ≡ suc n

@@ -2,7 +2,7 @@
 use Rattle.std.proofs.Common.{◌≡◌, ℕ, suc, List, [], ◌∷◌, ◌++◌, Bool, true, false, ◌&&◌, ◌||◌, not, map, refl, sym, ap, ap₂, ◌∙◌}
 use Rattle.std.specs.List.{list_any}
 use Rattle.std.proofs.lemmas.List.{map-append}
-use Rattle.fac_lang.specs.Phrases.{Phrase, end, then, Item, lit, lit_arr, quot, word, bind, local, fry, hole, call_eff, exec_eff, next_method, made, next_after, held, known}
+use Rattle.fac_lang.specs.Phrases.{Phrase, end, then, Item, lit, lit_arr, quot, word, bind, local, fry, hole, call_effect, execute_effect, next_method, made, next_after, held, known}
 use Rattle.fac_lang.specs.Substitution.{of_method, of_method_item}
 use Rattle.fac_locals.specs.declared.cell.Cell.{Cell}
 use Rattle.fac_locals.specs.declared.cell.Cell.TheVariants.{Local, Hole}
@@ -20,8 +20,8 @@ binds_of_method m (Local x) (bind y) = refl
 binds_of_method m (Local x) (local y) = refl
 binds_of_method m (Local x) (fry t n) = refl
 binds_of_method m (Local x) (hole k) = refl
-binds_of_method m (Local x) (call_eff h) = refl
-binds_of_method m (Local x) (exec_eff h) = refl
+binds_of_method m (Local x) (call_effect h) = refl
+binds_of_method m (Local x) (execute_effect h) = refl
 binds_of_method m (Local x) next_method = refl
 binds_of_method m (Local x) (made k) = refl
 binds_of_method m (Local x) (next_after n) = refl
@@ -43,8 +43,8 @@ mutual
   item_asks_of_method m c (bind y) = refl
   item_asks_of_method m c (local y) = refl
   item_asks_of_method m c (hole k) = refl
-  item_asks_of_method m c (call_eff h) = refl
-  item_asks_of_method m c (exec_eff h) = refl
+  item_asks_of_method m c (call_effect h) = refl
+  item_asks_of_method m c (execute_effect h) = refl
   item_asks_of_method m c next_method = refl
   item_asks_of_method m c (made k) = refl
   item_asks_of_method m c (next_after n) = refl
@@ -83,8 +83,8 @@ behind_of_method m cs (bind y) = refl
 behind_of_method m cs (local y) = refl
 behind_of_method m cs (fry t n) = refl
 behind_of_method m cs (hole k) = refl
-behind_of_method m cs (call_eff h) = refl
-behind_of_method m cs (exec_eff h) = refl
+behind_of_method m cs (call_effect h) = refl
+behind_of_method m cs (execute_effect h) = refl
 behind_of_method m cs next_method = refl
 behind_of_method m cs (made k) = refl
 behind_of_method m cs (next_after n) = refl
@@ -107,8 +107,8 @@ mutual
   quotations_of_method_item m (bind y) = refl
   quotations_of_method_item m (local y) = refl
   quotations_of_method_item m (hole k) = refl
-  quotations_of_method_item m (call_eff h) = refl
-  quotations_of_method_item m (exec_eff h) = refl
+  quotations_of_method_item m (call_effect h) = refl
+  quotations_of_method_item m (execute_effect h) = refl
   quotations_of_method_item m next_method = refl
   quotations_of_method_item m (made k) = refl
   quotations_of_method_item m (next_after n) = refl

@@ -7,7 +7,7 @@ use Rattle.fac_lang.specs.declared.program.WordDef.{WordDef}
 use Rattle.fac_lang.specs.declared.program.Sort.{Sort}
 use Rattle.fac_lang.specs.declared.program.Sort.TheVariants.{Prim as prim, Core as core, Body as body, Past as past, Itself as itself, Class as class, Isa as isa, Getter as getter, Setter as setter, Putter as putter, Generic as generic, Method as method}
 use Rattle.fac_lang.specs.Meaning.{nowhere}
-use Rattle.fac_lang.specs.Phrases.{Literal, Phrase, end, then, Item, lit, lit_arr, quot, word, bind, local, fry, hole, call_eff, exec_eff, next_method, made, next_after, held, known}
+use Rattle.fac_lang.specs.Phrases.{Literal, Phrase, end, then, Item, lit, lit_arr, quot, word, bind, local, fry, hole, call_effect, execute_effect, next_method, made, next_after, held, known}
 use Rattle.fac_lang.specs.Substitution.{binds_local, of_method}
 use Rattle.std.proofs.lemmas.Grind.{common_steps}
 use Rattle.fac_locals.specs.declared.cell.Cell.{Cell}
@@ -46,8 +46,8 @@ module _ (n : ℕ) where
       item_in_words cells at (bind x) l = tt
       item_in_words cells at (local x) l = tt
       item_in_words cells at (hole k) l = tt
-      item_in_words cells at (call_eff e) l = tt
-      item_in_words cells at (exec_eff e) l = tt
+      item_in_words cells at (call_effect e) l = tt
+      item_in_words cells at (execute_effect e) l = tt
       item_in_words cells at next_method l = tt
       item_in_words cells at (made k) l = tt
       item_in_words cells at (next_after m) l = tt
@@ -193,8 +193,8 @@ module _ (P C : Program) (templates : List Template) (closes : Closes P C templa
   item_opens cells at (lit p) j is l free c h n = subst (λ (y : Item). OpensItem P templates is at y (lit p)) (sym c) (o_plain (lit p) tt)
   item_opens cells at (lit_arr a) j is l free c h n = subst (λ (y : Item). OpensItem P templates is at y (lit_arr a)) (sym c) (o_plain (lit_arr a) tt)
   item_opens cells at (word w) j is l free c h n = subst (λ (y : Item). OpensItem P templates is at y (word w)) (sym c) (o_plain (word w) tt)
-  item_opens cells at (call_eff e) j is l free c h n = subst (λ (y : Item). OpensItem P templates is at y (call_eff e)) (sym c) (o_plain (call_eff e) tt)
-  item_opens cells at (exec_eff e) j is l free c h n = subst (λ (y : Item). OpensItem P templates is at y (exec_eff e)) (sym c) (o_plain (exec_eff e) tt)
+  item_opens cells at (call_effect e) j is l free c h n = subst (λ (y : Item). OpensItem P templates is at y (call_effect e)) (sym c) (o_plain (call_effect e) tt)
+  item_opens cells at (execute_effect e) j is l free c h n = subst (λ (y : Item). OpensItem P templates is at y (execute_effect e)) (sym c) (o_plain (execute_effect e) tt)
   item_opens cells at next_method j is l free c h n = subst (λ (y : Item). OpensItem P templates is at y next_method) (sym c) (o_plain next_method tt)
   item_opens cells at (next_after m) j is l free c h n = subst (λ (y : Item). OpensItem P templates is at y (next_after m)) (sym c) (o_plain (next_after m) tt)
   item_opens cells at (made k) j is l free c h n = absurd c

@@ -2,7 +2,7 @@
 use Rattle.std.proofs.Common.{◌≡◌, ◌<◌, ℕ, zero, suc, ◌+◌, List, [], ◌∷◌, ◌++◌, length, get_or, Option, Some, None, refl, sym, ap, ◌∙◌, append_assoc, length-append, arith}
 use Rattle.std.specs.Prelude.{map, slice_get}
 use Rattle.std.proofs.lemmas.List.{append-nil, map-append}
-use Rattle.fac_lang.specs.Phrases.{Literal, Phrase, end, then, Item, lit, lit_arr, quot, word, bind, local, fry, hole, call_eff, exec_eff, next_method, made, next_after, held, known}
+use Rattle.fac_lang.specs.Phrases.{Literal, Phrase, end, then, Item, lit, lit_arr, quot, word, bind, local, fry, hole, call_effect, execute_effect, next_method, made, next_after, held, known}
 use Rattle.fac_lang.specs.Substitution.{of_method}
 use Rattle.fac_lang.specs.Meaning.{nowhere}
 use Rattle.fac_base.specs.declared.place.Place.{Place}
@@ -77,8 +77,8 @@ module _ (X : ℕ → Literal → Place → List Placed) (Y : ℕ → Literal �
     quoted_at cells at p (bind x) = refl
     quoted_at cells at p (local x) = refl
     quoted_at cells at p (hole k) = refl
-    quoted_at cells at p (call_eff f) = refl
-    quoted_at cells at p (exec_eff f) = refl
+    quoted_at cells at p (call_effect f) = refl
+    quoted_at cells at p (execute_effect f) = refl
     quoted_at cells at p next_method = refl
     quoted_at cells at p (made k) = refl
     quoted_at cells at p (next_after m) = refl
@@ -122,8 +122,8 @@ module _ (X : ℕ → Literal → Place → List Placed) (Y : ℕ → Place → 
     place_at_item cells at p (bind x) = refl
     place_at_item cells at p (local x) = refl
     place_at_item cells at p (hole k) = refl
-    place_at_item cells at p (call_eff f) = refl
-    place_at_item cells at p (exec_eff f) = refl
+    place_at_item cells at p (call_effect f) = refl
+    place_at_item cells at p (execute_effect f) = refl
     place_at_item cells at p next_method = refl
     place_at_item cells at p (made k) = refl
     place_at_item cells at p (next_after m) = refl
@@ -191,8 +191,8 @@ module _ (X : ℕ → Literal → Place → List Placed) (counts : List ℕ) (bo
     item_counted m n ls cells at p (lit_arr a) h e = more ls (X a at p) n (get_or counts a 0) e (count a at p h)
     item_counted None n ls cells at p next_method h e = no_more ls n e
     item_counted (Some m) n ls cells at p next_method h e = no_more ls n e
-    item_counted m n ls cells at p (call_eff g) h e = no_more ls n e
-    item_counted m n ls cells at p (exec_eff g) h e = no_more ls n e
+    item_counted m n ls cells at p (call_effect g) h e = no_more ls n e
+    item_counted m n ls cells at p (execute_effect g) h e = no_more ls n e
     item_counted m n ls cells at p _ h e = absurd h
 
   pub words_counted : (n w : ℕ) (ls : List Placed) (ds : List WordDef) → AreClosable bound ds → length ls ≡ n → length (ls ++ placed_words X w ds) ≡ words_behind counts n ds
@@ -219,8 +219,8 @@ module _ (X Y : ℕ → Literal → Place → List Placed) (bound : ℕ) (same :
     item_same m cells at p (lit_arr a) h = same a at p h
     item_same None cells at p next_method h = refl
     item_same (Some m) cells at p next_method h = refl
-    item_same m cells at p (call_eff g) h = refl
-    item_same m cells at p (exec_eff g) h = refl
+    item_same m cells at p (call_effect g) h = refl
+    item_same m cells at p (execute_effect g) h = refl
     item_same m cells at p _ h = absurd h
 
 -- what a list has below its length

@@ -2,7 +2,7 @@
 use Rattle.std.proofs.Common.{◌≡◌, ◌<◌, ◌≤◌, ◌⊎◌, inl, inr, ℕ, zero, suc, ◌+◌, List, [], ◌∷◌, ◌++◌, length, Option, Some, None, refl, sym, ap, ◌∙◌, subst, arith}
 use Rattle.std.proofs.lemmas.Bool.{cases_lt}
 use Rattle.std.specs.Prelude.{slice_get}
-use Rattle.fac_lang.specs.Phrases.{Literal, Phrase, end, then, Item, lit, lit_arr, quot, word, bind, local, fry, hole, call_eff, exec_eff, next_method, made, next_after, held, known}
+use Rattle.fac_lang.specs.Phrases.{Literal, Phrase, end, then, Item, lit, lit_arr, quot, word, bind, local, fry, hole, call_effect, execute_effect, next_method, made, next_after, held, known}
 use Rattle.fac_lang.specs.Substitution.{of_method}
 use Rattle.fac_lang.specs.Meaning.{nowhere}
 use Rattle.fac_lang.specs.declared.program.Program.{Program}
@@ -125,8 +125,8 @@ module _ (arrays : ℕ → Literal → List Quoted) (array_between : (a : ℕ) (
     item_between cells at (bind x) = none_at at (bind x)
     item_between cells at (local x) = none_at at (local x)
     item_between cells at (hole k) = none_at at (hole k)
-    item_between cells at (call_eff f) = none_at at (call_eff f)
-    item_between cells at (exec_eff f) = none_at at (exec_eff f)
+    item_between cells at (call_effect f) = none_at at (call_effect f)
+    item_between cells at (execute_effect f) = none_at at (execute_effect f)
     item_between cells at next_method = none_at at next_method
     item_between cells at (made k) = none_at at (made k)
     item_between cells at (next_after m) = none_at at (next_after m)

@@ -9,7 +9,7 @@ use Rattle.fac_lang.specs.declared.program.Lit.{Lit}
 use Rattle.fac_lang.specs.declared.program.Lit.TheVariants.{Int as l_int, True as l_yes, False as l_no, Str as l_str, Arr as l_arr, Wref as l_word, Quot as l_quot, Made as l_made}
 use Rattle.fac_lang.specs.declared.program.Sort.{Sort}
 use Rattle.fac_lang.specs.declared.program.Sort.TheVariants.{Body as body, Past as past, Method as method}
-use Rattle.fac_lang.specs.Phrases.{int, yes, no, str, wrd, Literal, Phrase, end, then, Item, lit, lit_arr, quot, word, bind, local, fry, hole, call_eff, exec_eff, next_method, next_after}
+use Rattle.fac_lang.specs.Phrases.{int, yes, no, str, wrd, Literal, Phrase, end, then, Item, lit, lit_arr, quot, word, bind, local, fry, hole, call_effect, execute_effect, next_method, next_after}
 use Rattle.fac_lang.specs.Substitution.{of_method, of_method_item}
 use Rattle.fac_lang.proofs.SourcePrograms.{IsSourceProgram, IsSourcePhrase, IsSourceItem, IsSourceSort, AreSourceWords, AreSourceElements, AreSourceArrays}
 use Rattle.fac_lang.specs.Meaning.{sort_of, of_method_if, method_naming, array_naming, array_method, phrase_names, nowhere}
@@ -45,8 +45,8 @@ module _ (P : Program) where
     IsRunItem (word w) = w < P.top
     IsRunItem next_method = Unit {0}
     IsRunItem (next_after m) = IsMethod (sort_of P m)
-    IsRunItem (call_eff g) = Unit {0}
-    IsRunItem (exec_eff g) = Unit {0}
+    IsRunItem (call_effect g) = Unit {0}
+    IsRunItem (execute_effect g) = Unit {0}
     IsRunItem _ = ⊥
 
   -- a phrase with the items that a source can have
@@ -69,8 +69,8 @@ module _ (P : Program) where
     built_item_runs (hole k) h = tt
     built_item_runs (word w) h = ltb-true w P.top h
     built_item_runs next_method h = tt
-    built_item_runs (call_eff g) h = tt
-    built_item_runs (exec_eff g) h = tt
+    built_item_runs (call_effect g) h = tt
+    built_item_runs (execute_effect g) h = tt
     built_item_runs _ h = absurd h
 
   -- in a method
@@ -94,8 +94,8 @@ module _ (P : Program) where
       method_item_runs (hole k) h = tt
       method_item_runs (word w) h = ltb-true w P.top h
       method_item_runs next_method h = is
-      method_item_runs (call_eff g) h = tt
-      method_item_runs (exec_eff g) h = tt
+      method_item_runs (call_effect g) h = tt
+      method_item_runs (execute_effect g) h = tt
       method_item_runs _ h = absurd h
 
   -- what word w runs, where it is of this sort

@@ -5,7 +5,7 @@ use Rattle.fac_lang.specs.Phrases.{Phrase, end, then, Item, quot, fry}
 use Rattle.fac_base.specs.declared.place.Place.{Place}
 use Rattle.fac_lang.specs.declared.phrase.Item.{Item as PlacedItem}
 use Rattle.fac_lang.specs.declared.phrase.What.{What}
-use Rattle.fac_lang.specs.declared.phrase.What.TheVariants.{Int, True, False, Str, Arr, Wref, Quot, Choices, Word, Bind, Local as LocalValue, Fry, Hole as HoleValue, CallEff, ExecEff, NextMethod, NextAfter, Made}
+use Rattle.fac_lang.specs.declared.phrase.What.TheVariants.{Int, True, False, Str, Arr, Wref, Quot, Choices, Word, Bind, Local as LocalValue, Fry, Hole as HoleValue, CallEffect, ExecuteEffect, NextMethod, NextAfter, Made}
 use Rattle.fac_lang.specs.declared.phrase.Template.{Template}
 use Rattle.fac_lang.specs.declared.program.Lit.{Lit}
 use Rattle.fac_lang.specs.declared.program.Lit.TheVariants.{Int as l_int, True as l_yes, False as l_no, Str as l_str, Arr as l_arr, Wref as l_word, Quot as l_quot, Made as l_made}
@@ -67,8 +67,8 @@ module _ (counts : List ℕ) (m : Option ℕ) where
   what_closed cells n (LocalValue x) = cell_closed (LocalValue x) (cell_number cells (Local x))
   what_closed cells n (Fry t k) = refl
   what_closed cells n (HoleValue k) = cell_closed (HoleValue k) (cell_number cells (Hole k))
-  what_closed cells n (CallEff h) = refl
-  what_closed cells n (ExecEff h) = refl
+  what_closed cells n (CallEffect h) = refl
+  what_closed cells n (ExecuteEffect h) = refl
   what_closed cells n NextMethod = next_closed m
   what_closed cells n (NextAfter k) = refl
   what_closed cells n (Made k) = refl

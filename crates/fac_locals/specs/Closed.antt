@@ -1,6 +1,6 @@
 -- When a closed program stands for a program: each quotation or fry in a phrase or in a literal array is made by the template of its literal, and a template's phrase is closed likewise. A local and a hole are cells of the frame. A next method keeps the method that it is next after.
 use Rattle.std.specs.Prelude.{◌≡◌, ℕ, suc, Option, Some, List, [], ◌∷◌, length, map}
-use Rattle.fac_lang.specs.Phrases.{Literal, Phrase, end, then, Item, lit, lit_arr, quot, word, bind, local, fry, hole, call_eff, exec_eff, next_method, made, next_after, held, known}
+use Rattle.fac_lang.specs.Phrases.{Literal, Phrase, end, then, Item, lit, lit_arr, quot, word, bind, local, fry, hole, call_effect, execute_effect, next_method, made, next_after, held, known}
 use Rattle.fac_lang.specs.Substitution.{of_method}
 use Rattle.fac_lang.specs.Meaning.{of_method_if, array_method}
 use Rattle.fac_lang.specs.declared.program.Lit.{Lit}
@@ -30,8 +30,8 @@ module _ (P : Program) where
   ClosesItem cells at (lit p) j = j ≡ lit p
   ClosesItem cells at (lit_arr a) j = j ≡ lit_arr a
   ClosesItem cells at (word w) j = j ≡ word w
-  ClosesItem cells at (call_eff h) j = j ≡ call_eff h
-  ClosesItem cells at (exec_eff h) j = j ≡ exec_eff h
+  ClosesItem cells at (call_effect h) j = j ≡ call_effect h
+  ClosesItem cells at (execute_effect h) j = j ≡ execute_effect h
   ClosesItem cells at next_method j = j ≡ next_method
   ClosesItem cells at (next_after m) j = j ≡ next_after m
   ClosesItem cells at (made k) j = ⊥

@@ -1,6 +1,6 @@
 -- Items put in a phrase for what the cells of its frame hold, and how a phrase of a closed program stands for such a phrase.
 use Rattle.std.specs.Prelude.{◌≡◌, ℕ, List, [], ◌∷◌, ◌++◌, length, true, false, Option, Some, None, slice_get}
-use Rattle.fac_lang.specs.Phrases.{Literal, Phrase, end, then, Item, lit, lit_arr, quot, word, bind, local, fry, hole, call_eff, exec_eff, next_method, made, next_after, held, known}
+use Rattle.fac_lang.specs.Phrases.{Literal, Phrase, end, then, Item, lit, lit_arr, quot, word, bind, local, fry, hole, call_effect, execute_effect, next_method, made, next_after, held, known}
 use Rattle.fac_lang.specs.Substitution.{put_local, put_holes}
 use Rattle.fac_base.specs.declared.place.Place.{Place}
 use Rattle.fac_lang.specs.declared.phrase.Template.{Template}
@@ -47,8 +47,8 @@ abbrev mutual
   filled_item put (local x) = put (Local x)
   filled_item put (fry t n) = fry (filled_by (put_in_fry put) t) n
   filled_item put (hole k) = put (Hole k)
-  filled_item put (call_eff h) = call_eff h
-  filled_item put (exec_eff h) = exec_eff h
+  filled_item put (call_effect h) = call_effect h
+  filled_item put (execute_effect h) = execute_effect h
   filled_item put next_method = next_method
   filled_item put (made k) = made k
   filled_item put (next_after m) = next_after m
@@ -88,8 +88,8 @@ module _ (P : Program) where
   IsPlain (lit p) = Unit {0}
   IsPlain (lit_arr a) = Unit {0}
   IsPlain (word w) = Unit {0}
-  IsPlain (call_eff h) = Unit {0}
-  IsPlain (exec_eff h) = Unit {0}
+  IsPlain (call_effect h) = Unit {0}
+  IsPlain (execute_effect h) = Unit {0}
   IsPlain next_method = Unit {0}
   IsPlain (next_after m) = Unit {0}
   IsPlain _ = ⊥

@@ -8,7 +8,7 @@ use Rattle.fac_lang.specs.RunningLaws.{append}
 use Rattle.fac_lang.specs.declared.program.Lit.{Lit}
 use Rattle.fac_source.specs.Toks.{number}
 use Rattle.fac_vocab.specs.Scopes.{Scope, word_held}
-use Rattle.fac_items.specs.Written.{Tok, n_lit, n_ref, n_name, n_call, n_execute, n_next, n_full, n_bind, n_hole, n_fry, n_part, n_quot, n_array, Nodes, nothing, more}
+use Rattle.fac_items.specs.Written.{Tok, n_lit, n_ref, n_name, n_call_effect, n_execute_effect, n_next, n_full, n_bind, n_hole, n_fry, n_part, n_quot, n_array, Nodes, nothing, more}
 use Rattle.fac_items.specs.Items.{elements_of, local_of, phrase_of, word_of}
 use Rattle.fac_items.proofs.PlainNodes.{AreElements, ArePlain}
 use Rattle.fac_names.proofs.BuiltScopes.{ScopeBelow, WordBelow, word_below_held, word_of_below}
@@ -50,8 +50,8 @@ mutual
   phrase_built n bound s locals fry (more (n_name t p) ns) arrays holes some few h plain k =
       let rest = phrase_built n bound s locals fry ns arrays holes some few h plain.1 k in ((name_built n bound s t (local_of locals t.text) some few h, rest.0), rest.1)
   phrase_built n bound s locals fry (more (n_ref t p) ns) arrays holes some few h plain k = let rest = phrase_built n bound s locals fry ns arrays holes some few h plain.1 k in ((found_below n bound s t some few h, rest.0), rest.1)
-  phrase_built n bound s locals fry (more (n_call e p) ns) arrays holes some few h plain k = let rest = phrase_built n bound s locals fry ns arrays holes some few h plain.1 k in ((tt, rest.0), rest.1)
-  phrase_built n bound s locals fry (more (n_execute e p) ns) arrays holes some few h plain k = let rest = phrase_built n bound s locals fry ns arrays holes some few h plain.1 k in ((tt, rest.0), rest.1)
+  phrase_built n bound s locals fry (more (n_call_effect e p) ns) arrays holes some few h plain k = let rest = phrase_built n bound s locals fry ns arrays holes some few h plain.1 k in ((tt, rest.0), rest.1)
+  phrase_built n bound s locals fry (more (n_execute_effect e p) ns) arrays holes some few h plain k = let rest = phrase_built n bound s locals fry ns arrays holes some few h plain.1 k in ((tt, rest.0), rest.1)
   phrase_built n bound s locals fry (more (n_next p) ns) arrays holes some few h plain k = let rest = phrase_built n bound s locals fry ns arrays holes some few h plain.1 k in ((tt, rest.0), rest.1)
   phrase_built n bound s locals fry (more (n_full v x p) ns) arrays holes some few h plain k = let rest = phrase_built n bound s locals fry ns arrays holes some few h plain.1 k in ((held_below n bound s v x some few h, rest.0), rest.1)
   phrase_built n bound s locals fry (more (n_bind t twice p) ns) arrays holes some few h plain k = let rest = phrase_built n bound s (t.text ∷ locals) fry ns arrays holes some few h plain.1 k in ((tt, rest.0), rest.1)

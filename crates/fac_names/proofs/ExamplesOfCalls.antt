@@ -1,7 +1,7 @@
 -- Sources with words as values and calls with a declared effect, and what they resolve to.
 use Rattle.std.specs.Prelude.{ℕ, suc, List, [], ◌∷◌, Option, Some, None, false, codes}
 use Rattle.std.proofs.Common.{◌≡◌, refl}
-use Rattle.fac_lang.specs.Phrases.{end, wrd, lit, lit_arr, quot, word, bind, local, fry, hole, call_eff, exec_eff}
+use Rattle.fac_lang.specs.Phrases.{end, wrd, lit, lit_arr, quot, word, bind, local, fry, hole, call_effect, execute_effect}
 use Rattle.fac_lang.specs.Primitives.{built_primitive_words}
 use Rattle.fac_base.specs.Signatures.{signature, no_inputs, value, leaves}
 use Rattle.fac_base.specs.declared.height.Height.{Height}
@@ -14,7 +14,7 @@ use Rattle.fac_source.specs.declared.tree.Element.TheVariants as element
 use Rattle.fac_source.specs.declared.tree.Term.TheVariants as term
 use Rattle.fac_vocab.specs.Scopes.{found}
 use Rattle.fac_source.specs.declared.refusal.NameKind.TheVariants.{Unknown, Ambiguous}
-use Rattle.fac_items.specs.Written.{Node, n_ref, n_call, n_execute, n_fry, n_hole, f_constant, f_defer, f_generic, f_in, f_locals, f_method, f_single, f_symbol, f_using}
+use Rattle.fac_items.specs.Written.{Node, n_ref, n_call_effect, n_execute_effect, n_fry, n_hole, f_constant, f_defer, f_generic, f_in, f_locals, f_method, f_single, f_symbol, f_using}
 use Rattle.fac_items.specs.FromElements.{nested}
 use Rattle.fac_endings.specs.Words.{no_effect}
 use Rattle.fac_names.specs.KnownWords.{known_classes, known_words}
@@ -75,21 +75,21 @@ no_reading = refl
 -- Calls with a declared effect.
 
 -- call( x y -- z ) execute( -- * ) [ execute( -- ) ] '[ _ call( x -- ) ]
-declared_effects : resolves ((run (n_call (height 2 (Some 1)) (at 1) ∷ n_execute (height 0 None) (at 7) ∷ quotation (n_execute (height 0 (Some 0)) (at 12) ∷ []) 11 ∷ n_fry (nodes (n_hole (at 17) ∷ n_call (height 1 (Some 0)) (at 18) ∷ [])) (at 16) ∷ []) ∷ []) ∷ []) ≡
-    yes (top (items ((call_eff (height 2 (Some 1)), 1) ∷ (exec_eff (height 0 None), 7) ∷ (quot (items ((exec_eff (height 0 (Some 0)), 12) ∷ [])), 11) ∷ (fry (items ((hole 0, 17) ∷ (call_eff (height 1 (Some 0)), 18) ∷ [])) 1, 16) ∷ [])) ∷ [])
+declared_effects : resolves ((run (n_call_effect (height 2 (Some 1)) (at 1) ∷ n_execute_effect (height 0 None) (at 7) ∷ quotation (n_execute_effect (height 0 (Some 0)) (at 12) ∷ []) 11 ∷ n_fry (nodes (n_hole (at 17) ∷ n_call_effect (height 1 (Some 0)) (at 18) ∷ [])) (at 16) ∷ []) ∷ []) ∷ []) ≡
+    yes (top (items ((call_effect (height 2 (Some 1)), 1) ∷ (execute_effect (height 0 None), 7) ∷ (quot (items ((execute_effect (height 0 (Some 0)), 12) ∷ [])), 11) ∷ (fry (items ((hole 0, 17) ∷ (call_effect (height 1 (Some 0)), 18) ∷ [])) 1, 16) ∷ [])) ∷ [])
 unfolding known_words built_primitive_words found
 declared_effects = refl
 
 -- USING: combinators ; { { [ call( -- ? ) ] [ ] } [ execute( -- ) ] } cond
-called_in_cases : resolves ((f_using (tk (codes "combinators") 2 ∷ []) ∷ run (array (array (quotation (n_call (height 0 (Some 1)) (at 7) ∷ []) 6 ∷ quotation [] 12 ∷ []) 5 ∷ quotation (n_execute (height 0 (Some 0)) (at 16) ∷ []) 15 ∷ []) 4 ∷ named (codes "cond") 21 ∷ []) ∷ []) ∷ []) ≡
-    yes (top (items ((quot (items ((call_eff (height 0 (Some 1)), 7) ∷ [])), 6) ∷ (word (known (codes "kernel") (codes "call")), 21) ∷ (quot end, 12) ∷ (quot (items ((exec_eff (height 0 (Some 0)), 16) ∷ [])), 21) ∷ (word (known (codes "kernel") (codes "if")), 21) ∷ [])) ∷ [])
+called_in_cases : resolves ((f_using (tk (codes "combinators") 2 ∷ []) ∷ run (array (array (quotation (n_call_effect (height 0 (Some 1)) (at 7) ∷ []) 6 ∷ quotation [] 12 ∷ []) 5 ∷ quotation (n_execute_effect (height 0 (Some 0)) (at 16) ∷ []) 15 ∷ []) 4 ∷ named (codes "cond") 21 ∷ []) ∷ []) ∷ []) ≡
+    yes (top (items ((quot (items ((call_effect (height 0 (Some 1)), 7) ∷ [])), 6) ∷ (word (known (codes "kernel") (codes "call")), 21) ∷ (quot end, 12) ∷ (quot (items ((execute_effect (height 0 (Some 0)), 16) ∷ [])), 21) ∷ (word (known (codes "kernel") (codes "if")), 21) ∷ [])) ∷ [])
 unfolding known_words built_primitive_words found
 called_in_cases = refl
 
 -- USING: math ; GENERIC: g ( x -- ) M: integer g \ g execute( x -- ) ;
-called_in_a_method : resolves ((f_using (tk (codes "math") 2 ∷ []) ∷ f_generic (tk (codes "g") 5) (signature None (value (codes "x") no_inputs) (leaves None [])) ∷ f_method (tk (codes "integer") 11) (tk (codes "g") 12) (nodes (reference (codes "g") 13 ∷ n_execute (height 1 (Some 0)) (at 15) ∷ [])) ∷ []) ∷ []) ≡
+called_in_a_method : resolves ((f_using (tk (codes "math") 2 ∷ []) ∷ f_generic (tk (codes "g") 5) (signature None (value (codes "x") no_inputs) (leaves None [])) ∷ f_method (tk (codes "integer") 11) (tk (codes "g") 12) (nodes (reference (codes "g") 13 ∷ n_execute_effect (height 1 (Some 0)) (at 15) ∷ [])) ∷ []) ∷ []) ≡
     yes (word_def (codes "scratchpad") (codes "g") generic (signature None (value (codes "x") no_inputs) (leaves None [])) false false (at 5)
-    ∷ word_def [] (codes "g") (method 0 (own 0) (items ((lit (wrd (own 0)), 13) ∷ (exec_eff (height 1 (Some 0)), 15) ∷ []))) (signature None (value (codes "x") no_inputs) (leaves None [])) false false (at 12)
+    ∷ word_def [] (codes "g") (method 0 (own 0) (items ((lit (wrd (own 0)), 13) ∷ (execute_effect (height 1 (Some 0)), 15) ∷ []))) (signature None (value (codes "x") no_inputs) (leaves None [])) false false (at 12)
     ∷ top end
     ∷ [])
 unfolding known_words built_primitive_words found
@@ -102,5 +102,5 @@ spelled text t = record { place = at t; kind = plain_text text }
 
 -- \ dup call( x -- ) execute( -- )
 calls_as_nodes : nested (element.Item (term.Wrapped (at 1) (spelled (codes "dup") 2)) ∷ element.Item (term.EffectCall Callable (at 3) (spelled (codes "x") 4 ∷ spelled (codes "--") 5 ∷ spelled (codes ")") 6 ∷ []) (height 1 (Some 0))) ∷ element.Item (term.EffectCall Word (at 7) (spelled (codes "--") 8 ∷ spelled (codes ")") 9 ∷ []) (height 0 (Some 0))) ∷ []) ≡
-    nodes (reference (codes "dup") 1 ∷ n_call (height 1 (Some 0)) (at 3) ∷ n_execute (height 0 (Some 0)) (at 7) ∷ [])
+    nodes (reference (codes "dup") 1 ∷ n_call_effect (height 1 (Some 0)) (at 3) ∷ n_execute_effect (height 0 (Some 0)) (at 7) ∷ [])
 calls_as_nodes = refl

@@ -12,7 +12,7 @@ use Rattle.std.specs.List.{list_any}
 use Rattle.std.specs.Option.{option_map}
 use Rattle.fac_source.specs.declared.refusal.NameFault.{NameFault}
 use Rattle.fac_source.specs.declared.refusal.NameKind.TheVariants.{Unknown, Twice, NoVocab, TooMany}
-use Rattle.fac_items.specs.Written.{Tok, Node, n_lit, n_array, n_quot, n_ref, n_name, n_locals, n_fry, n_call, n_execute, n_bind, n_hole, n_at, n_next, n_full, n_part, Nodes, nothing, f_in, f_use, f_using, f_from, f_qualified, f_private, f_public, f_defer, f_symbol, f_main, f_constant, f_define, f_locals, f_tuple, f_union, f_single, f_maker, f_generic, f_method, f_items, more}
+use Rattle.fac_items.specs.Written.{Tok, Node, n_lit, n_array, n_quot, n_ref, n_name, n_locals, n_fry, n_call_effect, n_execute_effect, n_bind, n_hole, n_at, n_next, n_full, n_part, Nodes, nothing, f_in, f_use, f_using, f_from, f_qualified, f_private, f_public, f_defer, f_symbol, f_main, f_constant, f_define, f_locals, f_tuple, f_union, f_single, f_maker, f_generic, f_method, f_items, more}
 use Rattle.fac_items.specs.Readings.{bound, read_items}
 use Rattle.fac_vocab.specs.declared.entry.Entry.{Entry}
 use Rattle.fac_vocab.specs.declared.brought.Brought.TheVariants.{Named as named, Prefixed as prefixed}
@@ -66,8 +66,8 @@ mutual
   item_longer s locals (n_name t p) arrays holes = same arrays
   item_longer s locals (n_locals ts ns p) arrays holes = same arrays
   item_longer s locals (n_fry ns p) arrays holes = phrase_longer s locals ns arrays 0
-  item_longer s locals (n_call h p) arrays holes = same arrays
-  item_longer s locals (n_execute h p) arrays holes = same arrays
+  item_longer s locals (n_call_effect h p) arrays holes = same arrays
+  item_longer s locals (n_execute_effect h p) arrays holes = same arrays
   item_longer s locals (n_bind t twice p) arrays holes = same arrays
   item_longer s locals (n_hole p) arrays holes = same arrays
   item_longer s locals (n_at p) arrays holes = same arrays
@@ -86,8 +86,8 @@ mutual
   elements_longer s (more (n_ref t p) ns) arrays = elements_longer s ns arrays
   elements_longer s (more (n_locals ts ms p) ns) arrays = elements_longer s ns arrays
   elements_longer s (more (n_fry ms p) ns) arrays = elements_longer s ns arrays
-  elements_longer s (more (n_call h p) ns) arrays = elements_longer s ns arrays
-  elements_longer s (more (n_execute h p) ns) arrays = elements_longer s ns arrays
+  elements_longer s (more (n_call_effect h p) ns) arrays = elements_longer s ns arrays
+  elements_longer s (more (n_execute_effect h p) ns) arrays = elements_longer s ns arrays
   elements_longer s (more (n_bind t twice p) ns) arrays = elements_longer s ns arrays
   elements_longer s (more (n_hole p) ns) arrays = elements_longer s ns arrays
   elements_longer s (more (n_at p) ns) arrays = elements_longer s ns arrays

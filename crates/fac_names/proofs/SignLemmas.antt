@@ -1,7 +1,7 @@
 -- The phrase of items is written as the items are.
 use Rattle.std.proofs.Common.{◌≡◌, ◌+◌, ◌<◌, ℕ, suc, List, [], ◌∷◌, ◌++◌, length, Bool, true, false, Option, Some, None, cond, refl, ap, sym, ◌∙◌, subst, append_assoc, append-nil, arith}
 use Rattle.std.specs.Prelude.{nat_eq}
-use Rattle.fac_lang.specs.Phrases.{lit, int, yes, no, str, wrd, word, call_eff, exec_eff, next_method}
+use Rattle.fac_lang.specs.Phrases.{lit, int, yes, no, str, wrd, word, call_effect, execute_effect, next_method}
 use Rattle.fac_base.specs.declared.height.Height.{Height}
 use Rattle.fac_base.specs.declared.place.Place.{Place}
 use Rattle.fac_lang.specs.declared.program.Lit.{Lit}
@@ -20,7 +20,7 @@ use Rattle.fac_parse.specs.declared.context.Around.TheVariants as stands_in
 use Rattle.fac_parse.specs.Contexts.{closed, closed_in, items_in}
 use Rattle.fac_parse.specs.Trees.{Lead}
 use Rattle.fac_vocab.specs.Scopes.{Scope}
-use Rattle.fac_items.specs.Written.{Node, n_lit, n_ref, n_name, n_call, n_execute, n_next, n_quot, n_array, Nodes, nothing, more}
+use Rattle.fac_items.specs.Written.{Node, n_lit, n_ref, n_name, n_call_effect, n_execute_effect, n_next, n_quot, n_array, Nodes, nothing, more}
 use Rattle.fac_items.specs.FromElements.{Rests, bracketed, nested, node, opened as open_before, rests, tested_call}
 use Rattle.fac_items.specs.Items.{elements_of, literal, phrase_of, word_of}
 use Rattle.fac_names.specs.Laws.{Longer}
@@ -40,8 +40,8 @@ abbrev mutual
   IsWorded (n_lit l p) = IsPlainLiteral l
   IsWorded (n_ref t p) = Unit {0}
   IsWorded (n_name t p) = Unit {0}
-  IsWorded (n_call h p) = Unit {0}
-  IsWorded (n_execute h p) = Unit {0}
+  IsWorded (n_call_effect h p) = Unit {0}
+  IsWorded (n_execute_effect h p) = Unit {0}
   IsWorded (n_next p) = Unit {0}
   IsWorded (n_quot ns p) = AreWorded ns
   IsWorded (n_array ns p) = AreWorded ns
@@ -94,8 +94,8 @@ abbrev mutual
   node_signs s Quotation (n_lit l p) = one (lit l) p ∷ []
   node_signs s Quotation (n_ref t p) = one (lit (wrd (word_of s t))) p ∷ []
   node_signs s Quotation (n_name t p) = one (word (word_of s t)) p ∷ []
-  node_signs s Quotation (n_call h p) = one (call_eff h) p ∷ []
-  node_signs s Quotation (n_execute h p) = one (exec_eff h) p ∷ []
+  node_signs s Quotation (n_call_effect h p) = one (call_effect h) p ∷ []
+  node_signs s Quotation (n_execute_effect h p) = one (execute_effect h) p ∷ []
   node_signs s Quotation (n_next p) = one next_method p ∷ []
   node_signs s Array (n_lit l p) = value (literal l) ∷ []
   node_signs s Array (n_ref t p) = value (literal_is.Wref (word_of s t)) ∷ []
@@ -140,8 +140,8 @@ mutual
   phrase_written s (more (n_lit l p) ns) arrays holes all plain h = ap (λ (xs : List Sign). one (lit l) p ∷ xs) (phrase_written s ns arrays holes all plain.1 h)
   phrase_written s (more (n_ref t p) ns) arrays holes all plain h = ap (λ (xs : List Sign). one (lit (wrd (word_of s t))) p ∷ xs) (phrase_written s ns arrays holes all plain.1 h)
   phrase_written s (more (n_name t p) ns) arrays holes all plain h = ap (λ (xs : List Sign). one (word (word_of s t)) p ∷ xs) (phrase_written s ns arrays holes all plain.1 h)
-  phrase_written s (more (n_call e p) ns) arrays holes all plain h = ap (λ (xs : List Sign). one (call_eff e) p ∷ xs) (phrase_written s ns arrays holes all plain.1 h)
-  phrase_written s (more (n_execute e p) ns) arrays holes all plain h = ap (λ (xs : List Sign). one (exec_eff e) p ∷ xs) (phrase_written s ns arrays holes all plain.1 h)
+  phrase_written s (more (n_call_effect e p) ns) arrays holes all plain h = ap (λ (xs : List Sign). one (call_effect e) p ∷ xs) (phrase_written s ns arrays holes all plain.1 h)
+  phrase_written s (more (n_execute_effect e p) ns) arrays holes all plain h = ap (λ (xs : List Sign). one (execute_effect e) p ∷ xs) (phrase_written s ns arrays holes all plain.1 h)
   phrase_written s (more (n_next p) ns) arrays holes all plain h = ap (λ (xs : List Sign). one next_method p ∷ xs) (phrase_written s ns arrays holes all plain.1 h)
   phrase_written s (more (n_quot ms p) ns) arrays holes all plain h =
       let m = phrase_of s [] ms arrays holes in
@@ -165,8 +165,8 @@ mutual
   elements_written s (more (n_lit l p) ns) arrays all plain h = absurd plain.0
   elements_written s (more (n_ref t p) ns) arrays all plain h = ap (λ (xs : List Sign). value (literal_is.Wref (word_of s t)) ∷ xs) (elements_written s ns arrays all plain.1 h)
   elements_written s (more (n_name t p) ns) arrays all plain h = ap (λ (xs : List Sign). value (literal_is.Wref (word_of s t)) ∷ xs) (elements_written s ns arrays all plain.1 h)
-  elements_written s (more (n_call e p) ns) arrays all plain h = elements_written s ns arrays all plain.1 h
-  elements_written s (more (n_execute e p) ns) arrays all plain h = elements_written s ns arrays all plain.1 h
+  elements_written s (more (n_call_effect e p) ns) arrays all plain h = elements_written s ns arrays all plain.1 h
+  elements_written s (more (n_execute_effect e p) ns) arrays all plain h = elements_written s ns arrays all plain.1 h
   elements_written s (more (n_next p) ns) arrays all plain h = elements_written s ns arrays all plain.1 h
   elements_written s (more (n_quot ms p) ns) arrays all plain h =
       let m = phrase_of s [] ms arrays 0 in

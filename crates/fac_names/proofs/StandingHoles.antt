@@ -9,7 +9,7 @@ use Rattle.fac_lang.specs.Phrases.{int, yes, no, str, Phrase, end, then as place
 use Rattle.fac_lang.specs.RunningLaws.{append}
 use Rattle.fac_lang.specs.declared.program.Lit.{Lit}
 use Rattle.fac_vocab.specs.Scopes.{Scope}
-use Rattle.fac_items.specs.Written.{Tok, n_lit, n_array, n_quot, n_ref, n_name, n_fry, n_call, n_execute, n_bind, n_hole, n_next, n_full, n_part, Nodes, nothing, more}
+use Rattle.fac_items.specs.Written.{Tok, n_lit, n_array, n_quot, n_ref, n_name, n_fry, n_call_effect, n_execute_effect, n_bind, n_hole, n_next, n_full, n_part, Nodes, nothing, more}
 use Rattle.fac_items.specs.Items.{elements_of, local_of, phrase_of, word_of}
 use Rattle.fac_items.proofs.LocalNumbers.{append_closed, is_closed, made_closed}
 use Rattle.fac_items.proofs.PlainNodes.{AreElements, ArePlain}
@@ -183,8 +183,8 @@ mutual
   within_sound s locals fry (more (n_lit l p) ns) arrays holes h k = within_sound s locals fry ns arrays holes h.1 k
   within_sound s locals fry (more (n_name t p) ns) arrays holes h k = within_sound s locals fry ns arrays holes h.1 k
   within_sound s locals fry (more (n_ref t p) ns) arrays holes h k = within_sound s locals fry ns arrays holes h.1 k
-  within_sound s locals fry (more (n_call e p) ns) arrays holes h k = within_sound s locals fry ns arrays holes h.1 k
-  within_sound s locals fry (more (n_execute e p) ns) arrays holes h k = within_sound s locals fry ns arrays holes h.1 k
+  within_sound s locals fry (more (n_call_effect e p) ns) arrays holes h k = within_sound s locals fry ns arrays holes h.1 k
+  within_sound s locals fry (more (n_execute_effect e p) ns) arrays holes h k = within_sound s locals fry ns arrays holes h.1 k
   within_sound s locals fry (more (n_next p) ns) arrays holes h k = within_sound s locals fry ns arrays holes h.1 k
   within_sound s locals fry (more (n_full v x p) ns) arrays holes h k = within_sound s locals fry ns arrays holes h.1 k
   within_sound s locals fry (more (n_bind t twice p) ns) arrays holes h k = within_sound s (t.text ∷ locals) fry ns arrays holes h.1 k

@@ -10,7 +10,7 @@ use Rattle.std.specs.Str.{bytes_eq}
 use Rattle.fac_lang.proofs.SourcePrograms.{IsSourceProgram, IsSourcePhrase, IsSourceSort, AreSourceArrays, AreSourceElements, AreSourceWords, IsTopPhrase}
 use Rattle.fac_lang.specs.Meaning.{sort_of, is_past}
 use Rattle.fac_lang.specs.PrimitiveWords.{PrimitiveWord, plain_inputs, plain_leaving, written_effect}
-use Rattle.fac_lang.specs.Phrases.{Phrase, end, then, Item, lit, int, yes, no, str, wrd, lit_arr, quot, word, bind, local, fry, hole, call_eff, exec_eff, next_method}
+use Rattle.fac_lang.specs.Phrases.{Phrase, end, then, Item, lit, int, yes, no, str, wrd, lit_arr, quot, word, bind, local, fry, hole, call_effect, execute_effect, next_method}
 use Rattle.fac_base.specs.Signatures.{Signature}
 use Rattle.fac_lang.specs.Whole.{IsWhole, all_arrays_named, all_phrases, arrays_in, arrays_named, joined, literal_fits, literal_spares, names_earlier, quotations, times_in, each_item, each_numbered, locals_bound, holes_within, item_fits, item_spares, is_body, tests_small, word_phrases, sort_fits, has_written_effect, has_generic_effect, marks_fit, effect_eq, inputs_eq, leaving_eq, names_eq, name_count, no_two, same_word, same_method, is_class, is_effect, is_generic, effect_of, has_its_holes, shape_fits, slots_of, reaches, same_class_name, each_below, plain_effect}
 use Rattle.fac_base.specs.declared.height.Height.{Height}
@@ -47,8 +47,8 @@ record Passes (bound count : ℕ) (f : Item → Bool) : Type 0 where
   arrays : (a : ℕ) → nat_lt a count ≡ true → f (lit_arr a) ≡ true
   quotations : (t : Phrase) → f (quot t) ≡ true
   words : (w : ℕ) → nat_lt w bound ≡ true → f (word w) ≡ true
-  calls : (h : Height) → f (call_eff h) ≡ true
-  executes : (h : Height) → f (exec_eff h) ≡ true
+  calls : (h : Height) → f (call_effect h) ≡ true
+  executes : (h : Height) → f (execute_effect h) ≡ true
   next : f next_method ≡ true
   binds : (x : ℕ) → f (bind x) ≡ true
   locals : (x : ℕ) → f (local x) ≡ true
@@ -70,8 +70,8 @@ items_pass bound count f p (then (lit_arr a) place t) h k =
 items_pass bound count f p (then (quot u) place t) h k =
     let inside = split_below count (arrays_named u) (arrays_named t) k in three_true (f (quot u)) (each_item f u) (each_item f t) (p.quotations u) (items_pass bound count f p u h.0 inside.0) (items_pass bound count f p t h.1 inside.1)
 items_pass bound count f p (then (word w) place t) h k = three_true (f (word w)) true (each_item f t) (p.words w h.0) refl (items_pass bound count f p t h.1 k)
-items_pass bound count f p (then (call_eff e) place t) h k = three_true (f (call_eff e)) true (each_item f t) (p.calls e) refl (items_pass bound count f p t h.1 k)
-items_pass bound count f p (then (exec_eff e) place t) h k = three_true (f (exec_eff e)) true (each_item f t) (p.executes e) refl (items_pass bound count f p t h.1 k)
+items_pass bound count f p (then (call_effect e) place t) h k = three_true (f (call_effect e)) true (each_item f t) (p.calls e) refl (items_pass bound count f p t h.1 k)
+items_pass bound count f p (then (execute_effect e) place t) h k = three_true (f (execute_effect e)) true (each_item f t) (p.executes e) refl (items_pass bound count f p t h.1 k)
 items_pass bound count f p (then next_method place t) h k = three_true (f next_method) true (each_item f t) p.next refl (items_pass bound count f p t h.1 k)
 items_pass bound count f p (then (bind x) place t) h k = three_true (f (bind x)) true (each_item f t) (p.binds x) refl (items_pass bound count f p t h.1 k)
 items_pass bound count f p (then (local x) place t) h k = three_true (f (local x)) true (each_item f t) (p.locals x) refl (items_pass bound count f p t h.1 k)

@@ -1,6 +1,6 @@
 -- Phrases as they are written: a resolved phrase, printed again, is the elements that it was made of.
 use Rattle.std.specs.Prelude.{◌≡◌, ℕ, suc, nat_eq, List, [], ◌∷◌, ◌++◌, Option, Some, None, if◌then◌else◌}
-use Rattle.fac_lang.specs.Phrases.{Phrase, end, then as placed, Item, lit, lit_arr, wrd, quot, word, call_eff, exec_eff, next_method}
+use Rattle.fac_lang.specs.Phrases.{Phrase, end, then as placed, Item, lit, lit_arr, wrd, quot, word, call_effect, execute_effect, next_method}
 use Rattle.fac_base.specs.declared.height.Height.{Height}
 use Rattle.fac_base.specs.declared.place.Place.{Place}
 use Rattle.fac_lang.specs.declared.program.Lit.{Lit}
@@ -77,8 +77,8 @@ place_in Array place = None
 place_in Fry place = Some place
 
 abbrev pub tested_item : Callee → Height → Item
-tested_item Callable h = call_eff h
-tested_item Word h = exec_eff h
+tested_item Callable h = call_effect h
+tested_item Word h = execute_effect h
 
 -- an item without a bracket, by the word that its name finds; a next method and a call with a declared effect are no values, so an array has none
 abbrev pub term_signs : Scope → Bracket → Term → List Sign

@@ -32,7 +32,7 @@ use Rattle.fac_parse.specs.declared.rows.Marked.{Marked}
 use Rattle.fac_parse.specs.declared.rows.Marked.TheVariants as marked
 use Rattle.fac_effect.specs.declared.spelling.Spelling.{Spelling}
 use Rattle.fac_source.specs.declared.tree.Literal.TheVariants.{True, False}
-use Rattle.fac_effect.specs.declared.spelling.Spelling.TheVariants.{Begins, Fixed, Semi, OpensBracket, ClosesBracket, OpensLocals, Bar, Binds, Hole, CalledHole, Inline, Recursive, NextMethod, Wraps, Calls, Literal, Name}
+use Rattle.fac_effect.specs.declared.spelling.Spelling.TheVariants.{Begins, Fixed, Semi, OpensBracket, ClosesBracket, OpensLocals, Bar, Binds, Hole, CalledHole, Inline, Recursive, NextMethod, Wraps, EffectCall, Literal, Name}
 use Rattle.fac_effect.specs.declared.effect_reader.EffectReader.{EffectReader}
 use Rattle.fac_effect.specs.EffectReading.{Progress, reads as reading, whole, refused, opened, step as token_step, all_pass, go_on, after}
 use Rattle.fac_effect.proofs.EffectLemmas.{whole_is_effect, after_more}
@@ -237,7 +237,7 @@ begin_is : (contexts : List Context) (t : Token) (s : Spelling) → token_spelli
 begin_is contexts t Binds h = binds_is contexts t (bound (uncounted contexts)) refl (sign_token t Binds h tt)
 begin_is contexts t OpensLocals h = opens_is contexts t (opened_locals 0 (uncounted contexts)) refl (sign_token t OpensLocals h tt)
 begin_is contexts t Wraps h = wraps_is contexts t (counted contexts) refl (sign_token t Wraps h tt)
-begin_is contexts t (Calls callee) h = calls_is contexts callee t (uncounted contexts) refl (sign_token t (Calls callee) h tt)
+begin_is contexts t (EffectCall callee) h = calls_is contexts callee t (uncounted contexts) refl (sign_token t (EffectCall callee) h tt)
 begin_is contexts t s h = element_is contexts t s h
 
 bound_is : (contexts : List Context) (sign : Place) (t : Token) (x : Bool) → token_spelling t.kind ≡ Name → is_local t ≡ x → IsGrown contexts (binding sign) t (cond x (grown (element.Item (term.Bind sign t))) stuck)

@@ -30,7 +30,7 @@ use Rattle.fac_parse.specs.declared.rows.Naming.TheVariants as naming
 use Rattle.fac_parse.specs.declared.rows.Marked.{Marked}
 use Rattle.fac_parse.specs.declared.rows.Marked.TheVariants as marked
 use Rattle.fac_effect.specs.declared.spelling.Spelling.{Spelling}
-use Rattle.fac_effect.specs.declared.spelling.Spelling.TheVariants.{Begins, Fixed, Semi, OpensBracket, ClosesBracket, OpensLocals, Bar, Binds, Hole, CalledHole, Inline, Recursive, NextMethod, Wraps, Calls, Literal, Name}
+use Rattle.fac_effect.specs.declared.spelling.Spelling.TheVariants.{Begins, Fixed, Semi, OpensBracket, ClosesBracket, OpensLocals, Bar, Binds, Hole, CalledHole, Inline, Recursive, NextMethod, Wraps, EffectCall, Literal, Name}
 use Rattle.fac_base.specs.declared.height.Height.{Height}
 use Rattle.fac_source.specs.declared.tree.Callee.{Callee}
 use Rattle.fac_base.specs.Effects.{effect_height}
@@ -298,7 +298,7 @@ call_read : (contexts : List Context) (state : Half → State) (put : Element �
 call_read contexts state put takes callee sign ts height next h e =
     let all = rowless_is_whole sign ts h.0 h.1 in
     one (state no_half) (state (calling callee sign [] opened_effect)) (plain_token sign (call_text callee)) ts _
-    (taken contexts state put takes no_half (plain_token sign (call_text callee)) (Calls callee) (sign_is (Calls callee) tt) (refl, refl) ∙ ap (λ (o : Option (List Context)). grown_to state put (half_where o (calling callee sign [] opened_effect))) e)
+    (taken contexts state put takes no_half (plain_token sign (call_text callee)) (EffectCall callee) (sign_is (EffectCall callee) tt) (refl, refl) ∙ ap (λ (o : Option (List Context)). grown_to state put (half_where o (calling callee sign [] opened_effect))) e)
     (declared_read contexts state put takes callee sign [] ts opened_effect all.0 all.1 ∙ ap (λ (x : Height). put (element.Item (term.EffectCall callee sign ts x))) (ap effect_height all.2 ∙ sym h.2))
 
 pub element_read : (contexts : List Context) (state : Half → State) (put : Element → Option State) → Takes contexts state put → (e : Element) (next : List Context) → IsElement e → behind contexts e ≡ Some next → steps (Some (state no_half)) (element_tokens e) ≡ put e
@@ -333,7 +333,7 @@ begins_unmarked (element.Item (term.Name t)) h = unmarked_by (element.Item (term
 begins_unmarked (element.Item (term.Literal t l)) h = unmarked_by (element.Item (term.Literal t l)) t [] (Literal l) refl h refl
 begins_unmarked (element.Item (term.Bind sign t)) h = unmarked_by (element.Item (term.Bind sign t)) (plain_token sign (codes ":>")) (t ∷ []) Binds refl (sign_is Binds tt) refl
 begins_unmarked (element.Item (term.Wrapped sign t)) h = unmarked_by (element.Item (term.Wrapped sign t)) (plain_token sign wrap_text) (t ∷ []) Wraps refl (sign_is Wraps tt) refl
-begins_unmarked (element.Item (term.EffectCall callee sign ts height)) h = unmarked_by (element.Item (term.EffectCall callee sign ts height)) (plain_token sign (call_text callee)) ts (Calls callee) refl (sign_is (Calls callee) tt) refl
+begins_unmarked (element.Item (term.EffectCall callee sign ts height)) h = unmarked_by (element.Item (term.EffectCall callee sign ts height)) (plain_token sign (call_text callee)) ts (EffectCall callee) refl (sign_is (EffectCall callee) tt) refl
 begins_unmarked (element.OpensLocals opens ns bar) h = unmarked_by (element.OpensLocals opens ns bar) (plain_token opens (codes "[|")) (ns ++ plain_token bar (codes "|") ∷ []) OpensLocals refl (sign_is OpensLocals tt) refl
 begins_unmarked (element.Item (term.NextMethod place)) h = unmarked_by (element.Item (term.NextMethod place)) (plain_token place (codes "call-next-method")) [] NextMethod refl (sign_is NextMethod tt) refl
 begins_unmarked (element.Item (term.Hole place)) h = unmarked_by (element.Item (term.Hole place)) (plain_token place (codes "_")) [] Hole refl (sign_is Hole tt) refl

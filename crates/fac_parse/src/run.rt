@@ -170,7 +170,7 @@ impl Run {
                     Growth::Stuck
                 }
             }
-            Spelling::Calls(callee) => {
+            Spelling::EffectCall(callee) => {
                 if self.levels.takes_items() {
                     self.names = List::new(alloc);
                     self.effect = EffectReader::opened(alloc);

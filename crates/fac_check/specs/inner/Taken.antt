@@ -8,7 +8,7 @@ use Rattle.fac_lang.specs.declared.program.Sort.{Sort}
 use Rattle.fac_base.specs.declared.limits.TheConstants.{MOST_EFFECT_NAMES}
 use Rattle.fac_lang.specs.declared.program.Sort.TheVariants.{Prim as prim, Body as body, Past as past, Method as method}
 use Rattle.fac_lang.specs.Primitives.{is_built_primitive}
-use Rattle.fac_lang.specs.Phrases.{int, yes, no, str, wrd, Phrase, end, then, Item, lit, lit_arr, word, bind, local, call_eff, exec_eff, next_method, made, next_after}
+use Rattle.fac_lang.specs.Phrases.{int, yes, no, str, wrd, Phrase, end, then, Item, lit, lit_arr, word, bind, local, call_effect, execute_effect, next_method, made, next_after}
 use Rattle.fac_base.specs.Effects.{effect_height}
 
 -- whether the walk takes an item, where words that phrases may name have numbers below the first number, and templates below the second
@@ -23,8 +23,8 @@ takes_item top count (word w) = nat_lt w top
 takes_item top count (made k) = nat_lt k count
 takes_item top count (bind k) = true
 takes_item top count (local k) = true
-takes_item top count (call_eff h) = true
-takes_item top count (exec_eff h) = true
+takes_item top count (call_effect h) = true
+takes_item top count (execute_effect h) = true
 takes_item top count next_method = true
 takes_item top count (next_after m) = true
 takes_item top count _ = false

@@ -1,7 +1,7 @@
 -- What bits come to, one after another, and the first refusal in them.
 use Rattle.std.specs.Prelude.{ℕ, zero, suc, ◌-◌, List, [], ◌∷◌, ◌++◌, length, drop, fold, map, reverse, Option, Some, None, codes, Bool}
 use Rattle.fac_lang.specs.PhraseView.{items_phrase}
-use Rattle.fac_lang.specs.Phrases.{Plain, wrd, Phrase, end, then, Item, lit, lit_arr, quot, word, bind, local, fry, hole, call_eff, exec_eff, next_method}
+use Rattle.fac_lang.specs.Phrases.{Plain, wrd, Phrase, end, then, Item, lit, lit_arr, quot, word, bind, local, fry, hole, call_effect, execute_effect, next_method}
 use Rattle.fac_lang.specs.RunningLaws.{append}
 use Rattle.fac_base.specs.declared.place.Place.{Place}
 use Rattle.fac_lang.specs.declared.program.Lit.{Lit}
@@ -25,7 +25,7 @@ use Rattle.fac_items.specs.declared.nest.At.{At}
 use Rattle.fac_items.specs.declared.nest.At.TheVariants.{Inside, Cases}
 use Rattle.fac_items.specs.declared.nest.Spot.{Spot}
 use Rattle.fac_items.specs.declared.nest.Spot.TheVariants.{Between, BeforeFirst, BeforeSecond, BehindSecond, BehindLast}
-use Rattle.fac_items.specs.Written.{Tok, Node, n_lit, n_ref, n_name, n_call, n_execute, n_next, n_bind, n_hole, n_at}
+use Rattle.fac_items.specs.Written.{Tok, Node, n_lit, n_ref, n_name, n_call_effect, n_execute_effect, n_next, n_bind, n_hole, n_at}
 use Rattle.fac_items.specs.Items.{is_cond, literal, local_of, search_fault, word_of}
 use Rattle.fac_items.specs.inner.Behind.{all_scanned, none_scanned}
 use Rattle.fac_items.specs.inner.Bits.{Bit, all_bits, leaf, opens, opens_array, opens_locals, closes}
@@ -137,8 +137,8 @@ abbrev pub leaf_inside : Scope → Node → Taken → Taken
 leaf_inside s (n_lit l p) n = record n { content = with_literal l p n.content }
 leaf_inside s (n_name t p) n = name_in s t p n.content n
 leaf_inside s (n_ref t p) n = reference_taken s t p n
-leaf_inside s (n_call h p) n = item_taken (call_eff h) p n
-leaf_inside s (n_execute h p) n = item_taken (exec_eff h) p n
+leaf_inside s (n_call_effect h p) n = item_taken (call_effect h) p n
+leaf_inside s (n_execute_effect h p) n = item_taken (execute_effect h) p n
 leaf_inside s (n_next p) n = item_taken next_method p n
 leaf_inside s (n_bind t twice p) n = bound_taken t twice p n
 leaf_inside s (n_hole p) n = hole_taken p n

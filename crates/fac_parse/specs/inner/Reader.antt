@@ -27,7 +27,7 @@ use Rattle.fac_parse.specs.declared.rows.Naming.TheVariants as naming
 use Rattle.fac_parse.specs.declared.rows.Marked.{Marked}
 use Rattle.fac_parse.specs.declared.rows.Marked.TheVariants as marked
 use Rattle.fac_effect.specs.declared.spelling.Spelling.{Spelling}
-use Rattle.fac_effect.specs.declared.spelling.Spelling.TheVariants.{Begins, Fixed, Semi, OpensBracket, ClosesBracket, Inline, Recursive, NextMethod, OpensLocals, Bar, Binds, Hole, CalledHole, Wraps, Calls, Literal, Name}
+use Rattle.fac_effect.specs.declared.spelling.Spelling.TheVariants.{Begins, Fixed, Semi, OpensBracket, ClosesBracket, Inline, Recursive, NextMethod, OpensLocals, Bar, Binds, Hole, CalledHole, Wraps, EffectCall, Literal, Name}
 use Rattle.fac_parse.specs.declared.rows.Taking.{Taking}
 use Rattle.fac_parse.specs.declared.rows.Taking.TheVariants.{Values, Locals}
 use Rattle.fac_parse.specs.declared.levels.Levels.{Levels}
@@ -198,7 +198,7 @@ is_local t = is_local_name (token_text t.kind)
 -- the first token of an element
 abbrev pub begin_element : List Context → Spelling → Token → Grown
 begin_element contexts Wraps t = half_where (counted contexts) (wrapping t.place)
-begin_element contexts (Calls callee) t = half_where (uncounted contexts) (calling callee t.place [] opened)
+begin_element contexts (EffectCall callee) t = half_where (uncounted contexts) (calling callee t.place [] opened)
 begin_element contexts Binds t = half_where (bound (uncounted contexts)) (binding t.place)
 begin_element contexts OpensLocals t = half_where (opened_locals 0 (uncounted contexts)) (heading t.place [])
 begin_element contexts s t = grown_if (element_of s t)

@@ -1,7 +1,7 @@
 use Rattle.std.proofs.Common.{◌≡◌, inl, inr, ℕ, refl, ap, subst, ◌∙◌}
 use Rattle.std.specs.Prelude.{nat_lt, slice_get}
 use Rattle.fac_base.specs.declared.height.Height.{Height}
-use Rattle.fac_lang.specs.Phrases.{lit, wrd, lit_arr, word, call_eff, exec_eff, next_method, next_after}
+use Rattle.fac_lang.specs.Phrases.{lit, wrd, lit_arr, word, call_effect, execute_effect, next_method, next_after}
 use Rattle.fac_lang.specs.PhraseView.{what_item}
 use Rattle.fac_lang.specs.declared.phrase.What.{What}
 use Rattle.fac_lang.specs.declared.phrase.What.TheVariants.{Int as w_int, True as w_true, False as w_false, Str as w_str}
@@ -89,26 +89,26 @@ returns-in-Int-clause-does c =
 
 -- The arms of `call( )` and `execute( )` have goals of one shape, each with names of its own.
 
-pub returns-in-CallEff-clause-there : goal.returns-in-CallEff-clause-there
-returns-in-CallEff-clause-there c = ok_maps c.effect_call.result (λ r there. doing_of (slice_get c.args.subject.closed.now.program.words) _ r there) c.effect_call.ensures.there
+pub returns-in-CallEffect-clause-there : goal.returns-in-CallEffect-clause-there
+returns-in-CallEffect-clause-there c = ok_maps c.effect_call.result (λ r there. doing_of (slice_get c.args.subject.closed.now.program.words) _ r there) c.effect_call.ensures.there
 
-pub returns-in-CallEff-clause-does : goal.returns-in-CallEff-clause-does
-returns-in-CallEff-clause-does c =
+pub returns-in-CallEffect-clause-does : goal.returns-in-CallEffect-clause-does
+returns-in-CallEffect-clause-does c =
     ok_maps c.effect_call.result (λ r does. λ O at here i stands opens.
-    let height : Height = c.in-CallEff.height in
+    let height : Height = c.in-CallEffect.height in
     let base = base_seen O.naming c.args.step.base in
     let marks = stack_of O.naming c.args.marks.now c.args.step.stack in
     let frame = items_of (frame_of O.naming c.args.marks.now c.args.step.frame) in
-    plain_does O frame (call_eff height) tt base marks _ at here i (does O.naming (slice_get O.program.words) base) (subst (λ (w : What). OpensItem O.program c.args.subject.closed.now.templates frame at (what_item w) i) c.in-CallEff.is opens)) c.effect_call.ensures.does
+    plain_does O frame (call_effect height) tt base marks _ at here i (does O.naming (slice_get O.program.words) base) (subst (λ (w : What). OpensItem O.program c.args.subject.closed.now.templates frame at (what_item w) i) c.in-CallEffect.is opens)) c.effect_call.ensures.does
 
-pub returns-in-ExecEff-clause-there : goal.returns-in-ExecEff-clause-there
-returns-in-ExecEff-clause-there c = ok_maps c.effect_call-in-ExecEff.result (λ r there. doing_of (slice_get c.args.subject.closed.now.program.words) _ r there) c.effect_call-in-ExecEff.ensures.there
+pub returns-in-ExecuteEffect-clause-there : goal.returns-in-ExecuteEffect-clause-there
+returns-in-ExecuteEffect-clause-there c = ok_maps c.effect_call-in-ExecuteEffect.result (λ r there. doing_of (slice_get c.args.subject.closed.now.program.words) _ r there) c.effect_call-in-ExecuteEffect.ensures.there
 
-pub returns-in-ExecEff-clause-does : goal.returns-in-ExecEff-clause-does
-returns-in-ExecEff-clause-does c =
-    ok_maps c.effect_call-in-ExecEff.result (λ r does. λ O at here i stands opens.
-    let height : Height = c.in-ExecEff.height in
+pub returns-in-ExecuteEffect-clause-does : goal.returns-in-ExecuteEffect-clause-does
+returns-in-ExecuteEffect-clause-does c =
+    ok_maps c.effect_call-in-ExecuteEffect.result (λ r does. λ O at here i stands opens.
+    let height : Height = c.in-ExecuteEffect.height in
     let base = base_seen O.naming c.args.step.base in
     let marks = stack_of O.naming c.args.marks.now c.args.step.stack in
     let frame = items_of (frame_of O.naming c.args.marks.now c.args.step.frame) in
-    plain_does O frame (exec_eff height) tt base marks _ at here i (does O.naming (slice_get O.program.words) base) (subst (λ (w : What). OpensItem O.program c.args.subject.closed.now.templates frame at (what_item w) i) c.in-ExecEff.is opens)) c.effect_call-in-ExecEff.ensures.does
+    plain_does O frame (execute_effect height) tt base marks _ at here i (does O.naming (slice_get O.program.words) base) (subst (λ (w : What). OpensItem O.program c.args.subject.closed.now.templates frame at (what_item w) i) c.in-ExecuteEffect.is opens)) c.effect_call-in-ExecuteEffect.ensures.does
