@@ -19,7 +19,7 @@ use Rattle.fac_names.specs.FromFlat.{is_inline, is_recursive, row}
 use Rattle.fac_names.specs.inner.Parts.{IsLocals}
 use Rattle.fac_source.specs.declared.tree.Element.{Element}
 use Rattle.fac_source.specs.declared.tree.FormKind.TheVariants.{DefineLocals}
-use Rattle.fac_source.specs.declared.tree.Mark.{Mark}
+use Rattle.fac_source.specs.declared.tree.DefinitionMark.{DefinitionMark}
 use Rattle.fac_source.specs.declared.tree.Part.{Part}
 use Rattle.fac_source.specs.declared.tree.WrittenEffect.{WrittenEffect}
 use Rattle.fac_names.specs.WrittenInputs.{entry_toks, inputs_of, written_inputs}
@@ -167,7 +167,7 @@ inputs_found tokens effect h =
     ap (λ (ts : List Token). (fold token_taken begun ts).names) (sym h.spelled) ∙ tree_inputs h.tree h.fits ∙ ap (λ (ts : List Token). inputs_of (read_back ts)) h.spelled
 
 -- what is defined is what the row says
-pub locals_row : (parts : List Part) (name : Token) (w : WrittenEffect) (es : List Element) (marks : List Mark) (toks : List Tok) (e : Signature) (i r : Bool) (q : Reading) → IsLocals parts name w es marks → toks ≡ written_inputs w.tokens → e ≡ w.effect → i ≡ is_inline marks → r ≡ is_recursive marks →
+pub locals_row : (parts : List Part) (name : Token) (w : WrittenEffect) (es : List Element) (marks : List DefinitionMark) (toks : List Tok) (e : Signature) (i r : Bool) (q : Reading) → IsLocals parts name w es marks → toks ≡ written_inputs w.tokens → e ≡ w.effect → i ≡ is_inline marks → r ≡ is_recursive marks →
     take (f_define (tok name) (given e) (with_inputs toks (nested es)) i r) q ≡ take (read_form (row DefineLocals parts)) q
 locals_row parts name w es marks toks e i r q h inputs effect inlined recurs =
     ap (λ (ts : List Tok). take (f_define (tok name) (given e) (with_inputs ts (nested es)) i r) q) inputs

@@ -7,8 +7,8 @@ use Rattle.fac_source.specs.declared.tree.Form.{Form as Flat}
 use Rattle.fac_source.specs.declared.tree.Form.TheVariants.{Row, Items}
 use Rattle.fac_source.specs.declared.tree.FormKind.{FormKind}
 use Rattle.fac_source.specs.declared.tree.FormKind.TheVariants.{In, Use, Using, From, QualifiedWith, Defer, Symbol, Constant, Private, Public, Main, Define, DefineLocals, Tuple, Union, Singleton, Generic, Method, Maker}
-use Rattle.fac_source.specs.declared.tree.Mark.{Mark}
-use Rattle.fac_source.specs.declared.tree.Mark.TheVariants.{Inline, Recursive}
+use Rattle.fac_source.specs.declared.tree.DefinitionMark.{DefinitionMark}
+use Rattle.fac_source.specs.declared.tree.DefinitionMark.TheVariants.{Inline, Recursive}
 use Rattle.fac_source.specs.declared.tree.Parent.{Parent}
 use Rattle.fac_source.specs.declared.tree.Part.{Part}
 use Rattle.fac_source.specs.declared.tree.Part.TheVariants as part
@@ -16,12 +16,12 @@ use Rattle.fac_items.specs.FromElements.{nested, tok}
 use Rattle.fac_names.specs.WrittenInputs.{written_inputs}
 use Rattle.fac_items.specs.Written.{Tok, Node, n_part, Nodes, nothing, more, given, Form, f_in, f_use, f_using, f_from, f_qualified, f_private, f_public, f_defer, f_symbol, f_constant, f_main, f_define, f_locals, f_tuple, f_union, f_single, f_maker, f_generic, f_method, f_items}
 
-abbrev pub is_inline : List Mark → Bool
+abbrev pub is_inline : List DefinitionMark → Bool
 is_inline [] = false
 is_inline (Inline place ∷ marks) = true
 is_inline (Recursive place ∷ marks) = is_inline marks
 
-abbrev pub is_recursive : List Mark → Bool
+abbrev pub is_recursive : List DefinitionMark → Bool
 is_recursive [] = false
 is_recursive (Inline place ∷ marks) = is_recursive marks
 is_recursive (Recursive place ∷ marks) = true
@@ -79,7 +79,7 @@ elements_in (part.Items es ends ∷ parts) = es
 elements_in (part.Literal es ∷ parts) = es
 elements_in (p ∷ parts) = elements_in parts
 
-abbrev pub marks_in : List Part → List Mark
+abbrev pub marks_in : List Part → List DefinitionMark
 marks_in [] = []
 marks_in (part.Marks marks ∷ parts) = marks
 marks_in (p ∷ parts) = marks_in parts

@@ -8,7 +8,7 @@ ghost use Rattle.fac_names.specs.FromFlat.{is_inline, is_recursive};
 ghost use Rattle.fac_names.specs.inner.Parts.{AreBrought, IsConstant, IsDefinition, IsLocals, IsMethod, IsNamesPart, IsTuple, IsUnion};
 
 use fac_base::Boxed;
-use fac_source::{Element, Mark, Parent, Part, Token, WrittenEffect};
+use fac_source::{DefinitionMark, Element, Parent, Part, Token, WrittenEffect};
 
 /// The one name of a row.
 pub fn sole_name(parts: &[Part]) -> &Token
@@ -75,7 +75,7 @@ pub struct Definition<'a> {
     pub name: &'a Token,
     pub written: &'a WrittenEffect,
     pub elements: &'a [Element],
-    pub marks: &'a [Mark],
+    pub marks: &'a [DefinitionMark],
 }
 
 /// The parts of a definition.
@@ -201,26 +201,26 @@ pub fn method_parts(parts: &[Part]) -> MethodParts<'_>
 }
 
 /// Whether marks have `inline`.
-pub fn marks_inline(marks: &[Mark]) -> bool
+pub fn marks_inline(marks: &[DefinitionMark]) -> bool
     ensures { result ≡ is_inline marks.now }
 {
     for mark in marks {
         match mark {
-            Mark::Inline(_) => return true,
-            Mark::Recursive(_) => {}
+            DefinitionMark::Inline(_) => return true,
+            DefinitionMark::Recursive(_) => {}
         }
     }
     false
 }
 
 /// Whether marks have `recursive`.
-pub fn marks_recursive(marks: &[Mark]) -> bool
+pub fn marks_recursive(marks: &[DefinitionMark]) -> bool
     ensures { result ≡ is_recursive marks.now }
 {
     for mark in marks {
         match mark {
-            Mark::Recursive(_) => return true,
-            Mark::Inline(_) => {}
+            DefinitionMark::Recursive(_) => return true,
+            DefinitionMark::Inline(_) => {}
         }
     }
     false

@@ -6,7 +6,7 @@ use Rattle.fac_source.specs.declared.tree.Element.TheVariants as element
 use Rattle.fac_source.specs.declared.tree.Form.{Form}
 use Rattle.fac_source.specs.declared.tree.Form.TheVariants.{Row, Items}
 use Rattle.fac_source.specs.declared.tree.FormKind.TheVariants.{Tuple, Union, Singleton, Method, Maker}
-use Rattle.fac_source.specs.declared.tree.Mark.TheVariants as mark
+use Rattle.fac_source.specs.declared.tree.DefinitionMark.TheVariants as mark
 use Rattle.fac_source.specs.declared.tree.Part.TheVariants as part
 use Rattle.fac_source.specs.declared.tree.Term.TheVariants as term
 use Rattle.fac_effect.specs.declared.spelling.Spelling.TheVariants as spelled

@@ -5,7 +5,7 @@ use Rattle.std.specs.Prelude.{nat_lt, slice_get, ◌||◌}
 use Rattle.fac_base.specs.declared.place.Place.{Place}
 use Rattle.fac_source.specs.declared.token.Token.{Token}
 use Rattle.fac_source.specs.declared.tree.Element.{Element}
-use Rattle.fac_source.specs.declared.tree.Mark.{Mark}
+use Rattle.fac_source.specs.declared.tree.DefinitionMark.{DefinitionMark}
 use Rattle.fac_source.specs.declared.tree.FormKind.{FormKind}
 use Rattle.fac_source.specs.declared.tree.Key.{Key}
 use Rattle.fac_source.specs.declared.tree.Key.TheVariants.{Arrow}
@@ -136,7 +136,7 @@ literal_stepped g fs b es contexts (begun_as h) = cond_state g (is_open contexts
 literal_stepped g fs b es contexts (grown e) =
     cond_next g (is_open contexts || begins_literal e) (literal_with (g ++ fs) b (es ++ e ∷ []) (behind contexts e)) (literal_with fs b (es ++ e ∷ []) (behind contexts e)) (literal_by g fs b (es ++ e ∷ []) (behind contexts e))
 
-mark_stepped : (g fs : List Form) (b : Begun) (k : Marked) (ms : List Mark) (o : Option Mark) (s : Spelling) (t : Token) → mark_step (g ++ fs) b k ms o s t ≡ behind_next g (mark_step fs b k ms o s t)
+mark_stepped : (g fs : List Form) (b : Begun) (k : Marked) (ms : List DefinitionMark) (o : Option DefinitionMark) (s : Spelling) (t : Token) → mark_step (g ++ fs) b k ms o s t ≡ behind_next g (mark_step fs b k ms o s t)
 mark_stepped g fs b k ms (Some m) s t = cond_state g (may_follow k ms m) (in_state (g ++ fs) (row b (marks k (ms ++ m ∷ [])))) (in_state fs (row b (marks k (ms ++ m ∷ [])))) refl
 mark_stepped g fs b k ms None s t =
     let ended_row = row_form (more b (part.Marks ms)) ∷ [] in

@@ -14,8 +14,8 @@ use Rattle.fac_source.specs.declared.tree.Bracket.TheVariants.{Quotation, Array,
 use Rattle.fac_parse.specs.declared.rows.Taking.{Taking}
 use Rattle.fac_parse.specs.declared.rows.Taking.TheVariants.{Values, Locals}
 use Rattle.fac_source.specs.declared.tree.Callee.{Callee}
-use Rattle.fac_source.specs.declared.tree.Mark.{Mark}
-use Rattle.fac_source.specs.declared.tree.Mark.TheVariants as mark
+use Rattle.fac_source.specs.declared.tree.DefinitionMark.{DefinitionMark}
+use Rattle.fac_source.specs.declared.tree.DefinitionMark.TheVariants as mark
 use Rattle.fac_source.specs.declared.tree.FormKind.{FormKind}
 use Rattle.fac_source.specs.declared.tree.Key.{Key}
 use Rattle.fac_source.specs.declared.tree.Key.TheVariants.{Arrow}
@@ -478,7 +478,7 @@ literal_keeps forms b (element.Closes bracket place ∷ es) contexts h s t k fit
 
 -- Marks.
 
-abbrev IsMarkOf : Token → Option Mark → Type 0
+abbrev IsMarkOf : Token → Option DefinitionMark → Type 0
 IsMarkOf t None = Unit {0}
 IsMarkOf t (Some m) = t ≡ mark_token m
 
@@ -487,7 +487,7 @@ mark_is t Inline h = sign_token t Inline h tt
 mark_is t Recursive h = sign_token t Recursive h tt
 mark_is t _ h = tt
 
-AreMarks-more : (k : Marked) (ms : List Mark) (m : Mark) → AreMarks k ms → may_follow k ms m ≡ true → AreMarks k (ms ++ m ∷ [])
+AreMarks-more : (k : Marked) (ms : List DefinitionMark) (m : DefinitionMark) → AreMarks k ms → may_follow k ms m ≡ true → AreMarks k (ms ++ m ∷ [])
 AreMarks-more marked.Word [] m h f = tt
 AreMarks-more marked.Word (mark.Inline p ∷ []) (mark.Inline q) h f = cc
 AreMarks-more marked.Word (mark.Inline p ∷ []) (mark.Recursive q) h f = tt
@@ -499,29 +499,29 @@ AreMarks-more marked.Method [] (mark.Inline q) h f = tt
 AreMarks-more marked.Method [] (mark.Recursive q) h f = cc
 AreMarks-more marked.Method (n ∷ ms) m h f = cc
 
-pub marks_fill : (n : ℕ) (k : Marked) (ms : List Mark) → AreMarks k ms → Fills n (slot_of (marks k ms)) (part.Marks ms)
+pub marks_fill : (n : ℕ) (k : Marked) (ms : List DefinitionMark) → AreMarks k ms → Fills n (slot_of (marks k ms)) (part.Marks ms)
 marks_fill n marked.Word ms h = h
 marks_fill n marked.Method ms h = h
 
-marks-last : (ms : List Mark) (m : Mark) → marks_tokens (ms ++ m ∷ []) ≡ marks_tokens ms ++ mark_token m ∷ []
+marks-last : (ms : List DefinitionMark) (m : DefinitionMark) → marks_tokens (ms ++ m ∷ []) ≡ marks_tokens ms ++ mark_token m ∷ []
 marks-last [] m = refl
 marks-last (k ∷ ms) m = ap (λ (ts : List Token). mark_token k ∷ ts) (marks-last ms m)
 
-mark_keeps : (forms : List Form) (b : Begun) (k : Marked) (ms : List Mark) (t : Token) (m : Mark) → t ≡ mark_token m → IsWellFormed forms → GoodRow b (marks k ms) → Keeps (tokens_of forms (row b (marks k ms))) t (with_mark forms b k ms m)
+mark_keeps : (forms : List Form) (b : Begun) (k : Marked) (ms : List DefinitionMark) (t : Token) (m : DefinitionMark) → t ≡ mark_token m → IsWellFormed forms → GoodRow b (marks k ms) → Keeps (tokens_of forms (row b (marks k ms))) t (with_mark forms b k ms m)
 mark_keeps forms b k ms t m e fits g =
     cond_keeps (may_follow k ms m) _ t (in_state forms (row b (marks k (ms ++ m ∷ [])))) (λ h.
     within_taken forms b (marks k ms) (marks k (ms ++ m ∷ [])) t fits g refl (AreMarks-more k ms m g.within.0 h, g.within.1) (marks-last ms m ∙ with_sign (marks_tokens ms) t (mark_token m) e))
 
 -- a row with its marks, which ends
-pub marked_gone : (forms : List Form) (b : Begun) (k : Marked) (ms : List Mark) → IsWellFormed forms → GoodRow b (marks k ms) → Gone forms (more b (part.Marks ms)) (in_state (forms ++ row_form (more b (part.Marks ms)) ∷ []) (top [] outside no_half))
+pub marked_gone : (forms : List Form) (b : Begun) (k : Marked) (ms : List DefinitionMark) → IsWellFormed forms → GoodRow b (marks k ms) → Gone forms (more b (part.Marks ms)) (in_state (forms ++ row_form (more b (part.Marks ms)) ∷ []) (top [] outside no_half))
 marked_gone forms b k ms fits g =
     ended_row_gone forms (more b (part.Marks ms)) fits (filled_more 0 (slots_of b.kind) b.parts (slot_of (marks k ms)) [] (part.Marks ms) (subst (λ (rest : List Slot). Filled 0 (slots_of b.kind) b.parts (slot_of (marks k ms) ∷ rest)) g.within.1 g.filled) (marks_fill (last_inputs 0 b.parts) k ms g.within.0))
 
-pub marked_tokens : (forms : List Form) (b : Begun) (k : Marked) (ms : List Mark) → IsWellFormed forms → GoodRow b (marks k ms) → tokens_of (forms ++ row_form (more b (part.Marks ms)) ∷ []) (top [] outside no_half) ≡ tokens_of forms (row b (marks k ms))
+pub marked_tokens : (forms : List Form) (b : Begun) (k : Marked) (ms : List DefinitionMark) → IsWellFormed forms → GoodRow b (marks k ms) → tokens_of (forms ++ row_form (more b (part.Marks ms)) ∷ []) (top [] outside no_half) ≡ tokens_of forms (row b (marks k ms))
 marked_tokens forms b k ms fits g =
     (marked_gone forms b k ms fits g).tokens ∙ ap (λ (ts : List Token). flatten forms ++ plain_token b.opens (head_of b.kind) ∷ ts) (parts-last b.parts (part.Marks ms))
 
-marks_keeps_by : (forms : List Form) (b : Begun) (k : Marked) (ms : List Mark) (o : Option Mark) (s : Spelling) (t : Token) → IsMarkOf t o → token_spelling t.kind ≡ s → IsWellFormed forms → GoodRow b (marks k ms) → Keeps (tokens_of forms (row b (marks k ms))) t (mark_step forms b k ms o s t)
+marks_keeps_by : (forms : List Form) (b : Begun) (k : Marked) (ms : List DefinitionMark) (o : Option DefinitionMark) (s : Spelling) (t : Token) → IsMarkOf t o → token_spelling t.kind ≡ s → IsWellFormed forms → GoodRow b (marks k ms) → Keeps (tokens_of forms (row b (marks k ms))) t (mark_step forms b k ms o s t)
 marks_keeps_by forms b k ms (Some m) s t is h fits g = mark_keeps forms b k ms t m is fits g
 marks_keeps_by forms b k ms None s t is h fits g =
     let ended = (marked_gone forms b k ms fits g).good in

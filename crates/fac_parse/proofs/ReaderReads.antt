@@ -12,8 +12,8 @@ use Rattle.fac_source.specs.declared.token.TokKind.TheVariants.{Plain}
 use Rattle.fac_source.specs.declared.tree.Term.TheVariants as term
 use Rattle.fac_source.specs.declared.tree.Element.{Element}
 use Rattle.fac_source.specs.declared.tree.Element.TheVariants as element
-use Rattle.fac_source.specs.declared.tree.Mark.{Mark}
-use Rattle.fac_source.specs.declared.tree.Mark.TheVariants as mark
+use Rattle.fac_source.specs.declared.tree.DefinitionMark.{DefinitionMark}
+use Rattle.fac_source.specs.declared.tree.DefinitionMark.TheVariants as mark
 use Rattle.fac_source.specs.declared.tree.FormKind.{FormKind}
 use Rattle.fac_source.specs.declared.tree.Key.{Key}
 use Rattle.fac_source.specs.declared.tree.Key.TheVariants.{Arrow}
@@ -375,17 +375,17 @@ elements_read held forms holds es (e ∷ ms) from to h =
 -- Parts.
 
 -- a mark that may stand behind these
-mark_read : (forms : List Form) (b : Begun) (k : Marked) (ms : List Mark) (m : Mark) → may_follow k ms m ≡ true → step (in_state forms (row b (marks k ms))) (mark_token m) ≡ Some (in_state forms (row b (marks k (ms ++ m ∷ []))))
+mark_read : (forms : List Form) (b : Begun) (k : Marked) (ms : List DefinitionMark) (m : DefinitionMark) → may_follow k ms m ≡ true → step (in_state forms (row b (marks k ms))) (mark_token m) ≡ Some (in_state forms (row b (marks k (ms ++ m ∷ []))))
 mark_read forms b k ms (mark.Inline place) h =
     by_spelling forms (row b (marks k ms)) (mark_token (mark.Inline place)) Inline (sign_is Inline tt) ∙ ap (λ (x : Bool). cond x (Some (in_state forms (row b (marks k (ms ++ mark.Inline place ∷ []))))) None) h
 mark_read forms b k ms (mark.Recursive place) h =
     by_spelling forms (row b (marks k ms)) (mark_token (mark.Recursive place)) Recursive (sign_is Recursive tt) ∙ ap (λ (x : Bool). cond x (Some (in_state forms (row b (marks k (ms ++ mark.Recursive place ∷ []))))) None) h
 
-both_read : (forms : List Form) (b : Begun) (m n : Mark) → may_follow marked.Word [] m ≡ true → may_follow marked.Word (m ∷ []) n ≡ true → steps (Some (in_state forms (row b (marks marked.Word [])))) (marks_tokens (m ∷ n ∷ [])) ≡ Some (in_state forms (row b (marks marked.Word (m ∷ n ∷ []))))
+both_read : (forms : List Form) (b : Begun) (m n : DefinitionMark) → may_follow marked.Word [] m ≡ true → may_follow marked.Word (m ∷ []) n ≡ true → steps (Some (in_state forms (row b (marks marked.Word [])))) (marks_tokens (m ∷ n ∷ [])) ≡ Some (in_state forms (row b (marks marked.Word (m ∷ n ∷ []))))
 both_read forms b m n h k =
     one (in_state forms (row b (marks marked.Word []))) (in_state forms (row b (marks marked.Word (m ∷ [])))) (mark_token m) (mark_token n ∷ []) _ (mark_read forms b marked.Word [] m h) (mark_read forms b marked.Word (m ∷ []) n k)
 
-marks_read : (forms : List Form) (b : Begun) (k : Marked) (ms : List Mark) → AreMarks k ms → steps (Some (in_state forms (row b (marks k [])))) (marks_tokens ms) ≡ Some (in_state forms (row b (marks k ms)))
+marks_read : (forms : List Form) (b : Begun) (k : Marked) (ms : List DefinitionMark) → AreMarks k ms → steps (Some (in_state forms (row b (marks k [])))) (marks_tokens ms) ≡ Some (in_state forms (row b (marks k ms)))
 marks_read forms b k [] h = refl
 marks_read forms b marked.Word (m ∷ []) h = mark_read forms b marked.Word [] m refl
 marks_read forms b marked.Word (mark.Inline place ∷ mark.Recursive other ∷ []) h = both_read forms b (mark.Inline place) (mark.Recursive other) refl refl
@@ -500,10 +500,10 @@ start_ready rest = fresh_ready start [] rest refl (λ t h. refl)
 ended_ready : (forms : List Form) (b : Begun) (rest : List Form) → Ready (row_ended forms b) (forms ++ row_form b ∷ []) rest
 ended_ready forms b rest = fresh_ready (row_ended forms b) (forms ++ row_form b ∷ []) rest refl (λ t h. refl)
 
-marked_ready : (forms : List Form) (b : Begun) (k : Marked) (ms : List Mark) (rest : List Form) → Ready (in_state forms (row b (marks k ms))) (forms ++ row_form (more b (part.Marks ms)) ∷ []) rest
+marked_ready : (forms : List Form) (b : Begun) (k : Marked) (ms : List DefinitionMark) (rest : List Form) → Ready (in_state forms (row b (marks k ms))) (forms ++ row_form (more b (part.Marks ms)) ∷ []) rest
 marked_ready forms b k ms rest =
     fresh_ready (in_state forms (row b (marks k ms))) (forms ++ row_form (more b (part.Marks ms)) ∷ []) rest refl (λ t h.
-    ap (λ (o : Option Mark). mark_step forms b k ms o (token_spelling t.kind) t) h)
+    ap (λ (o : Option DefinitionMark). mark_step forms b k ms o (token_spelling t.kind) t) h)
 
 -- behind a run
 run_ready : (forms : List Form) (e : Element) (es : List Element) (to : Context) (rest : List Form) → (BeginWithRun rest → ⊥) → Ready (in_state forms (top (e ∷ es) (to ∷ []) no_half)) (forms ++ Items (e ∷ es) ∷ []) rest
@@ -535,7 +535,7 @@ slot_read forms b w s p slots ps rest h f reads later =
     let filled = filled_more 0 (slots_of b.kind) b.parts s slots p h f in
     part_then forms b w p ps rest reads (to_slot forms (more b p) slots _ _ rest filled (later filled))
 
-marks_reach : (forms : List Form) (b : Begun) (k : Marked) (ms : List Mark) (rest : List Form) → AreMarks k ms → Reaches (in_state forms (row b (marks k []))) (parts_tokens (part.Marks ms ∷ [])) (forms ++ row_with b (part.Marks ms ∷ []) ∷ []) rest
+marks_reach : (forms : List Form) (b : Begun) (k : Marked) (ms : List DefinitionMark) (rest : List Form) → AreMarks k ms → Reaches (in_state forms (row b (marks k []))) (parts_tokens (part.Marks ms ∷ [])) (forms ++ row_with b (part.Marks ms ∷ []) ∷ []) rest
 marks_reach forms b k ms rest h = record {
   to = in_state forms (row b (marks k ms));
   reads = ap (steps (Some (in_state forms (row b (marks k []))))) (append-nil (marks_tokens ms)) ∙ marks_read forms b k ms h;

@@ -13,8 +13,8 @@ use Rattle.fac_source.specs.declared.tree.Element.{Element}
 use Rattle.fac_source.specs.declared.tree.Element.TheVariants as element
 use Rattle.fac_source.specs.declared.tree.Bracket.{Bracket}
 use Rattle.fac_source.specs.declared.tree.Bracket.TheVariants.{Fry}
-use Rattle.fac_source.specs.declared.tree.Mark.{Mark}
-use Rattle.fac_source.specs.declared.tree.Mark.TheVariants.{Inline, Recursive}
+use Rattle.fac_source.specs.declared.tree.DefinitionMark.{DefinitionMark}
+use Rattle.fac_source.specs.declared.tree.DefinitionMark.TheVariants.{Inline, Recursive}
 use Rattle.fac_source.specs.declared.tree.Form.{Form}
 use Rattle.fac_source.specs.declared.tree.Form.TheVariants.{Row, Items}
 use Rattle.fac_source.specs.declared.tree.Part.{Part}
@@ -63,12 +63,12 @@ abbrev pub items_tokens : List Element → List Token
 items_tokens [] = []
 items_tokens (element ∷ elements) = element_tokens element ++ items_tokens elements
 
-abbrev pub mark_token : Mark → Token
+abbrev pub mark_token : DefinitionMark → Token
 mark_token (Inline place) = plain_token place (codes "inline")
 mark_token (Recursive place) = plain_token place (codes "recursive")
 
 -- the tokens of marks, in order
-abbrev pub marks_tokens : List Mark → List Token
+abbrev pub marks_tokens : List DefinitionMark → List Token
 marks_tokens [] = []
 marks_tokens (mark ∷ marks) = mark_token mark ∷ marks_tokens marks
 
@@ -194,7 +194,7 @@ IsLiteral (element.Opens bracket place ∷ elements) = IsLiteralBracket bracket 
 IsLiteral _ = ⊥
 
 -- marks of one definition: of a word each of the two at most once, in any order, and of a method at most one `inline`
-abbrev pub AreMarks : Marked → List Mark → Type 0
+abbrev pub AreMarks : Marked → List DefinitionMark → Type 0
 AreMarks marked.Word [] = Unit {0}
 AreMarks marked.Word (mark ∷ []) = Unit {0}
 AreMarks marked.Word (Inline place ∷ Recursive other ∷ []) = Unit {0}

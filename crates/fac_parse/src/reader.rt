@@ -18,8 +18,8 @@ use fac_base::limits::MOST_SLOTS;
 use fac_base::{Boxed, List, Memory, Place};
 use fac_effect::{EffectReader, Spelling, Taken, classify, effect_from, may_stand, text};
 use fac_source::{
-    Bracket, Element, Form, FormKind, Key, Literal, Mark, Parent, Part, Slot, Term, Token,
-    WrittenEffect, slot_at,
+    Bracket, DefinitionMark, Element, Form, FormKind, Key, Literal, Parent, Part, Slot, Term,
+    Token, WrittenEffect, slot_at,
 };
 use std::alloc::Global;
 use std::mem;
@@ -101,7 +101,7 @@ pub struct Reader {
     pub effect: EffectReader,
     /// Items.
     pub run: Run,
-    pub marks: List<Mark>,
+    pub marks: List<DefinitionMark>,
     pub at: At,
 }
 
@@ -206,39 +206,39 @@ fn may_take(taking: Taking, reader: &EffectReader, spelling: Spelling, token: &T
 }
 
 // The mark that a token of this spelling is.
-fn mark(spelling: Spelling, place: Place) -> Option<Mark>
+fn mark(spelling: Spelling, place: Place) -> Option<DefinitionMark>
     ensures { result ≡ mark_of spelling place }
 {
     match spelling {
-        Spelling::Inline => Some(Mark::Inline(place)),
-        Spelling::Recursive => Some(Mark::Recursive(place)),
+        Spelling::Inline => Some(DefinitionMark::Inline(place)),
+        Spelling::Recursive => Some(DefinitionMark::Recursive(place)),
         _ => None,
     }
 }
 
 // Whether a mark may stand behind these: none stands twice, and a method has only the one.
-fn may_follow(marked: Marked, marks: &List<Mark>, mark: Mark) -> bool
+fn may_follow(marked: Marked, marks: &List<DefinitionMark>, mark: DefinitionMark) -> bool
     ensures { result ≡ may_stand_behind marked marks.now mark }
 {
     match marked {
         Marked::Word => match marks.as_slice() {
             [] => true,
             [first] => match first {
-                Mark::Inline(_) => match mark {
-                    Mark::Inline(_) => false,
-                    Mark::Recursive(_) => true,
+                DefinitionMark::Inline(_) => match mark {
+                    DefinitionMark::Inline(_) => false,
+                    DefinitionMark::Recursive(_) => true,
                 },
-                Mark::Recursive(_) => match mark {
-                    Mark::Inline(_) => true,
-                    Mark::Recursive(_) => false,
+                DefinitionMark::Recursive(_) => match mark {
+                    DefinitionMark::Inline(_) => true,
+                    DefinitionMark::Recursive(_) => false,
                 },
             },
             _ => false,
         },
         Marked::Method => match marks.as_slice() {
             [] => match mark {
-                Mark::Inline(_) => true,
-                Mark::Recursive(_) => false,
+                DefinitionMark::Inline(_) => true,
+                DefinitionMark::Recursive(_) => false,
             },
             _ => false,
         },
@@ -716,7 +716,7 @@ impl Reader {
     }
 
     // Adds a mark to a row. False where it may not stand.
-    fn add_mark(&mut self, head: Head, marked: Marked, mark: Mark) -> Result<bool, Memory>
+    fn add_mark(&mut self, head: Head, marked: Marked, mark: DefinitionMark) -> Result<bool, Memory>
         requires { self.now.at ≡ At.Marks head marked }
         ensures { Goes (with_mark self.old.forms (begun_at head self.old.parts) marked self.old.marks mark) (state_of self.new) result }
     {

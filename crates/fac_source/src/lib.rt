@@ -16,6 +16,6 @@ pub use refusal::{NameFault, NameKind, ResolveFault};
 pub use tok::{Ref, Tok};
 pub use token::{TokKind, Token};
 pub use tree::{
-    Bracket, Callee, Element, Form, FormKind, Key, Literal, Mark, Parent, Part, Term, Tree,
-    WrittenEffect,
+    Bracket, Callee, DefinitionMark, Element, Form, FormKind, Key, Literal, Parent, Part, Term,
+    Tree, WrittenEffect,
 };

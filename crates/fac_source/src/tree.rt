@@ -104,7 +104,7 @@ pub enum Part {
         ends: Place,
     },
     /// Marks.
-    Marks(List<Mark>),
+    Marks(List<DefinitionMark>),
 }
 
 /// The parent of a tuple class as it is written.
@@ -118,7 +118,7 @@ pub struct Parent {
 
 /// A mark behind the `;` of a definition.
 #[derive(Clone, Copy, Debug, PartialEq, Eq)]
-pub enum Mark {
+pub enum DefinitionMark {
     /// `inline`
     Inline(Place),
     /// `recursive`
@@ -239,8 +239,8 @@ pub enum Element {
     Closes(Bracket, Place),
 }
 
-impl Duplicate for Mark {
-    fn copy(&self, _alloc: Global) -> Result<Mark, Memory> {
+impl Duplicate for DefinitionMark {
+    fn copy(&self, _alloc: Global) -> Result<DefinitionMark, Memory> {
         Ok(*self)
     }
 }

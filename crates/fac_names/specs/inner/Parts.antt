@@ -4,7 +4,7 @@ use Rattle.fac_base.specs.declared.place.Place.{Place}
 use Rattle.fac_source.specs.declared.token.Token.{Token}
 use Rattle.fac_source.specs.declared.tree.Element.{Element}
 use Rattle.fac_source.specs.declared.tree.Key.{Key}
-use Rattle.fac_source.specs.declared.tree.Mark.{Mark}
+use Rattle.fac_source.specs.declared.tree.DefinitionMark.{DefinitionMark}
 use Rattle.fac_source.specs.declared.tree.Parent.{Parent}
 use Rattle.fac_source.specs.declared.tree.Part.{Part}
 use Rattle.fac_source.specs.declared.tree.Part.TheVariants as part
@@ -30,13 +30,13 @@ pub record IsConstant (parts : List Part) (name : Token) (elements : List Elemen
   pub literal : IsLiteral elements
 
 -- the parts of a definition
-pub record IsDefinition (parts : List Part) (name : Token) (written : WrittenEffect) (elements : List Element) (marks : List Mark) : Type 0 where
+pub record IsDefinition (parts : List Part) (name : Token) (written : WrittenEffect) (elements : List Element) (marks : List DefinitionMark) : Type 0 where
   pub ends : Place
   pub are : parts ≡ part.Name name ∷ part.Effect written ∷ part.Items elements ends ∷ part.Marks marks ∷ []
   pub items : AreItems None elements
 
 -- and of one whose inputs are locals
-pub record IsLocals (parts : List Part) (name : Token) (written : WrittenEffect) (elements : List Element) (marks : List Mark) : Type 0 where
+pub record IsLocals (parts : List Part) (name : Token) (written : WrittenEffect) (elements : List Element) (marks : List DefinitionMark) : Type 0 where
   pub ends : Place
   pub are : parts ≡ part.Name name ∷ part.Effect written ∷ part.Items elements ends ∷ part.Marks marks ∷ []
   pub effect : IsEffect written.tokens written.effect
@@ -55,6 +55,6 @@ pub record IsUnion (parts : List Part) (name : Token) (members : List Token) : T
 -- the class, the generic and the items of a method
 pub record IsMethod (parts : List Part) (class : Token) (generic : Token) (elements : List Element) : Type 0 where
   pub ends : Place
-  pub marks : List Mark
+  pub marks : List DefinitionMark
   pub are : parts ≡ part.Name class ∷ part.Name generic ∷ part.Items elements ends ∷ part.Marks marks ∷ []
   pub items : AreItems None elements

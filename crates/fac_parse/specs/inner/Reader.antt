@@ -6,8 +6,8 @@ use Rattle.fac_source.specs.declared.token.Token.{Token}
 use Rattle.fac_source.specs.declared.tree.Term.TheVariants as term
 use Rattle.fac_source.specs.declared.tree.Element.{Element}
 use Rattle.fac_source.specs.declared.tree.Element.TheVariants as element
-use Rattle.fac_source.specs.declared.tree.Mark.{Mark}
-use Rattle.fac_source.specs.declared.tree.Mark.TheVariants as mark
+use Rattle.fac_source.specs.declared.tree.DefinitionMark.{DefinitionMark}
+use Rattle.fac_source.specs.declared.tree.DefinitionMark.TheVariants as mark
 use Rattle.fac_source.specs.declared.tree.Bracket.TheVariants as bracket
 use Rattle.fac_source.specs.declared.tree.Callee.{Callee}
 use Rattle.fac_source.specs.declared.tree.FormKind.{FormKind}
@@ -77,7 +77,7 @@ pub data Within : Type 0 where
   effect : Taking → List Token → EffectReader → Within
   items : Taking → List Element → List Context → Half → Within
   literal : List Element → List Context → Half → Within
-  marks : Marked → List Mark → Within
+  marks : Marked → List DefinitionMark → Within
 
 -- a row as far as some of its parts
 pub record Begun : Type 0 where
@@ -369,28 +369,28 @@ abbrev pub literal_step : List Form → Begun → List Element → List Context 
 literal_step forms b elements contexts h s t = literal_grown forms b elements contexts (grow contexts h s t)
 
 -- the mark that a token is
-abbrev pub mark_of : Spelling → Place → Option Mark
+abbrev pub mark_of : Spelling → Place → Option DefinitionMark
 mark_of Inline place = Some (mark.Inline place)
 mark_of Recursive place = Some (mark.Recursive place)
 mark_of _ place = None
 
 -- whether a mark may stand behind these: none stands twice, and a method has only the one
-abbrev pub may_follow : Marked → List Mark → Mark → Bool
+abbrev pub may_follow : Marked → List DefinitionMark → DefinitionMark → Bool
 may_follow marked.Word [] m = true
 may_follow marked.Word (mark.Inline place ∷ []) (mark.Recursive other) = true
 may_follow marked.Word (mark.Recursive place ∷ []) (mark.Inline other) = true
 may_follow marked.Method [] (mark.Inline place) = true
 may_follow _ _ _ = false
 
-abbrev pub with_mark : List Form → Begun → Marked → List Mark → Mark → Option State
+abbrev pub with_mark : List Form → Begun → Marked → List DefinitionMark → DefinitionMark → Option State
 with_mark forms b k ms m = (if may_follow k ms m then Some (in_state forms (row b (marks k (ms ++ m ∷ [])))) else None)
 
 -- a mark, or the row ended before this token
-abbrev pub mark_step : List Form → Begun → Marked → List Mark → Option Mark → Spelling → Token → Option State
+abbrev pub mark_step : List Form → Begun → Marked → List DefinitionMark → Option DefinitionMark → Spelling → Token → Option State
 mark_step forms b k ms (Some m) s t = with_mark forms b k ms m
 mark_step forms b k ms None s t = top_step (forms ++ row_form (more b (part.Marks ms)) ∷ []) [] outside no_half s t
 
-abbrev pub marks_step : List Form → Begun → Marked → List Mark → Spelling → Token → Option State
+abbrev pub marks_step : List Form → Begun → Marked → List DefinitionMark → Spelling → Token → Option State
 marks_step forms b k ms s t = mark_step forms b k ms (mark_of s t.place) s t
 
 abbrev pub row_step : List Form → Begun → Within → Spelling → Token → Option State
