@@ -11,8 +11,8 @@ use Rattle.fac_effect.specs.declared.effect_reader.Spot.TheVariants.{Start, Firs
 use Rattle.fac_effect.specs.declared.effect_reader.EffectWhy.{EffectWhy}
 use Rattle.fac_effect.specs.declared.effect_reader.EffectWhy.TheVariants.{RowPlace, TooWide, Form}
 use Rattle.fac_effect.specs.declared.effect_reader.EffectReader.{EffectReader}
-use Rattle.fac_effect.specs.declared.effect_reader.Taken.{Taken}
-use Rattle.fac_effect.specs.declared.effect_reader.Taken.TheVariants.{More, Whole, Refused}
+use Rattle.fac_effect.specs.declared.effect_reader.EffectStep.{EffectStep}
+use Rattle.fac_effect.specs.declared.effect_reader.EffectStep.TheVariants.{More, Whole, Refused}
 use Rattle.fac_effect.specs.Spellings.{token_spelling}
 use Rattle.fac_effect.specs.WrittenEffects.{most_names, is_row, is_colon}
 
@@ -103,7 +103,7 @@ abbrev pub after : List Token → Progress
 after tokens = run (reads start) tokens
 
 -- What a reader answers to one more token. Only where the effect goes on it isn't as it was.
-abbrev pub Takes : Progress → EffectReader → EffectReader → Result Taken Memory → Type 0
+abbrev pub Takes : Progress → EffectReader → EffectReader → Result EffectStep Memory → Type 0
 Takes p before now (Err memory) = now ≡ before
 Takes (reads r) before now (Ok More) = now ≡ r
 Takes whole before now (Ok Whole) = now ≡ before

@@ -43,7 +43,7 @@ pub enum EffectWhy {
 
 /// What a token of an effect came to.
 #[derive(Clone, Copy, Debug, PartialEq, Eq)]
-pub enum Taken {
+pub enum EffectStep {
     /// The effect goes on behind it.
     More,
     /// It is the last token of the effect.
@@ -90,28 +90,28 @@ impl EffectReader {
     }
 
     // Goes on at a spot behind one more name.
-    fn go_on(&mut self, spot: Spot) -> Taken
+    fn go_on(&mut self, spot: Spot) -> EffectStep
         requires { self.now.names < MOST_NAMES }
-        ensures taken { result ≡ Taken.More }
+        ensures taken { result ≡ EffectStep.More }
         ensures now { self.new ≡ record { side = self.old.side; spot = spot; outer = self.old.outer; names = suc self.old.names } }
     {
         self.spot = spot;
         self.names += 1;
-        Taken::More
+        EffectStep::More
     }
 
     // One more name.
-    fn place_name(&mut self, colon: bool) -> Taken
+    fn place_name(&mut self, colon: bool) -> EffectStep
         requires { self.now.names < MOST_NAMES }
         ensures { Takes (name_placed self.old.spot colon self.old) self.old self.new (Ok result) }
     {
         match self.spot {
-            Spot::Start => Taken::Refused(EffectWhy::Form),
+            Spot::Start => EffectStep::Refused(EffectWhy::Form),
             Spot::First => self.go_on(behind_name(colon)),
             Spot::Behind => self.go_on(behind_name(colon)),
             Spot::Described => {
                 if colon {
-                    Taken::Refused(EffectWhy::Form)
+                    EffectStep::Refused(EffectWhy::Form)
                 } else {
                     self.go_on(Spot::Behind)
                 }
@@ -120,86 +120,86 @@ impl EffectReader {
     }
 
     // Takes a name.
-    fn take_name(&mut self, row: bool, colon: bool) -> Taken
+    fn take_name(&mut self, row: bool, colon: bool) -> EffectStep
         ensures { Takes (name_step self.old row colon) self.old self.new (Ok result) }
     {
         if is_behind(self.spot) && row {
-            return Taken::Refused(EffectWhy::RowPlace);
+            return EffectStep::Refused(EffectWhy::RowPlace);
         }
         if self.names < MOST_NAMES {
             self.place_name(colon)
         } else {
-            Taken::Refused(EffectWhy::TooWide)
+            EffectStep::Refused(EffectWhy::TooWide)
         }
     }
 
     // Takes a `(`.
-    fn take_opens(&mut self) -> Result<Taken, Memory>
+    fn take_opens(&mut self) -> Result<EffectStep, Memory>
         ensures { Takes (opens_step self.old.spot self.old) self.old self.new result }
     {
         match self.spot {
             Spot::Start => {
                 self.side = Side::Inputs;
                 self.spot = Spot::First;
-                Ok(Taken::More)
+                Ok(EffectStep::More)
             }
             Spot::Described => {
                 self.outer.push(self.side)?;
                 self.side = Side::Inputs;
                 self.spot = Spot::First;
-                Ok(Taken::More)
+                Ok(EffectStep::More)
             }
-            Spot::First => Ok(Taken::Refused(EffectWhy::Form)),
-            Spot::Behind => Ok(Taken::Refused(EffectWhy::Form)),
+            Spot::First => Ok(EffectStep::Refused(EffectWhy::Form)),
+            Spot::Behind => Ok(EffectStep::Refused(EffectWhy::Form)),
         }
     }
 
     // Takes a `--`.
-    fn take_dashes(&mut self) -> Taken
+    fn take_dashes(&mut self) -> EffectStep
         ensures { Takes (dashes_step (ends_at self.old.spot) self.old.side self.old) self.old self.new (Ok result) }
     {
         if !may_end(self.spot) {
-            return Taken::Refused(EffectWhy::Form);
+            return EffectStep::Refused(EffectWhy::Form);
         }
         match self.side {
             Side::Inputs => {
                 self.side = Side::Outputs;
                 self.spot = Spot::First;
-                Taken::More
+                EffectStep::More
             }
-            Side::Outputs => Taken::Refused(EffectWhy::Form),
+            Side::Outputs => EffectStep::Refused(EffectWhy::Form),
         }
     }
 
     // Goes on behind an effect, with the one around it.
-    fn close(&mut self) -> Taken
+    fn close(&mut self) -> EffectStep
         ensures { Takes (closed self.old.outer self.old.names) self.old self.new (Ok result) }
     {
         match self.outer.pop() {
             Some(side) => {
                 self.side = side;
                 self.spot = Spot::Behind;
-                Taken::More
+                EffectStep::More
             }
-            None => Taken::Whole,
+            None => EffectStep::Whole,
         }
     }
 
     // Takes a `)`.
-    fn take_closes(&mut self) -> Taken
+    fn take_closes(&mut self) -> EffectStep
         ensures { Takes (closes_step (ends_at self.old.spot) self.old.side self.old) self.old self.new (Ok result) }
     {
         if !may_end(self.spot) {
-            return Taken::Refused(EffectWhy::Form);
+            return EffectStep::Refused(EffectWhy::Form);
         }
         match self.side {
-            Side::Inputs => Taken::Refused(EffectWhy::Form),
+            Side::Inputs => EffectStep::Refused(EffectWhy::Form),
             Side::Outputs => self.close(),
         }
     }
 
     /// Takes one more token, of this spelling. Where the answer isn't `More`, the reader is as it was.
-    pub fn take(&mut self, spelling: Spelling, token: &Token) -> Result<Taken, Memory>
+    pub fn take(&mut self, spelling: Spelling, token: &Token) -> Result<EffectStep, Memory>
         ensures { Takes (step self.old spelling token.now) self.old self.new result }
     {
         match spelling {
@@ -210,7 +210,7 @@ impl EffectReader {
             Spelling::Opens => self.take_opens(),
             Spelling::Dashes => Ok(self.take_dashes()),
             Spelling::Closes => Ok(self.take_closes()),
-            _ => Ok(Taken::Refused(EffectWhy::Form)),
+            _ => Ok(EffectStep::Refused(EffectWhy::Form)),
         }
     }
 }

@@ -9,7 +9,7 @@ pub mod reserved;
 mod spelling;
 
 pub use effect_parts::{declared_height, effect_from};
-pub use effect_reader::{EffectReader, EffectWhy, Side, Spot, Taken, is_no_row};
+pub use effect_reader::{EffectReader, EffectStep, EffectWhy, Side, Spot, is_no_row};
 pub use laws::{
     effect_is_whole, effects_end, inputs_are_named, literals_are_integers, locals_go_on,
     read_goes_on, refused_is_none, rowless_goes_on, rowless_is_whole, whole_is_effect,

@@ -3,8 +3,8 @@ use Rattle.std.proofs.Common.{◌≡◌, List, [], ◌∷◌, ◌++◌, Ok, refl
 use Rattle.fac_source.specs.declared.token.Token.{Token}
 use Rattle.fac_effect.specs.declared.spelling.Spelling.{Spelling}
 use Rattle.fac_effect.specs.declared.effect_reader.EffectReader.{EffectReader}
-use Rattle.fac_effect.specs.declared.effect_reader.Taken.{Taken}
-use Rattle.fac_effect.specs.declared.effect_reader.Taken.TheVariants.{Whole}
+use Rattle.fac_effect.specs.declared.effect_reader.EffectStep.{EffectStep}
+use Rattle.fac_effect.specs.declared.effect_reader.EffectStep.TheVariants.{Whole}
 use Rattle.fac_effect.specs.Spellings.{token_spelling}
 use Rattle.fac_effect.specs.EffectReading.{Progress, reads, whole, refused, opened, step, go_on, after, Takes}
 use Rattle.fac_effect.specs.RowlessEffects.{behind_opens}
@@ -17,13 +17,13 @@ taken_whole whole r next h = refl
 taken_whole (refused why) r next h = absurd h
 
 -- an effect that is whole behind one more token
-pub effect_ends : (ts now : List Token) (r next : EffectReader) (s : Spelling) (t : Token) (answer : Taken) → after ts ≡ reads r → token_spelling t.kind ≡ s → Takes (step r s t) r next (Ok answer) → answer ≡ Whole → now ≡ ts ++ t ∷ [] → after now ≡ whole
+pub effect_ends : (ts now : List Token) (r next : EffectReader) (s : Spelling) (t : Token) (answer : EffectStep) → after ts ≡ reads r → token_spelling t.kind ≡ s → Takes (step r s t) r next (Ok answer) → answer ≡ Whole → now ≡ ts ++ t ∷ [] → after now ≡ whole
 effect_ends ts now r next s t answer read spelled takes is more =
-    let all : step r s t ≡ whole = taken_whole (step r s t) r next (subst (λ (x : Taken). Takes (step r s t) r next (Ok x)) is takes) in
+    let all : step r s t ≡ whole = taken_whole (step r s t) r next (subst (λ (x : EffectStep). Takes (step r s t) r next (Ok x)) is takes) in
     ap after more ∙ after_more ts t ∙ ap (λ (p : Progress). go_on p t) read ∙ ap (λ (x : Spelling). step r x t) spelled ∙ all
 
 -- likewise the effect of a call
-pub call_ends : (ts now : List Token) (r next : EffectReader) (s : Spelling) (t : Token) (answer : Taken) → behind_opens ts ≡ reads r → token_spelling t.kind ≡ s → Takes (step r s t) r next (Ok answer) → answer ≡ Whole → now ≡ ts ++ t ∷ [] → behind_opens now ≡ whole
+pub call_ends : (ts now : List Token) (r next : EffectReader) (s : Spelling) (t : Token) (answer : EffectStep) → behind_opens ts ≡ reads r → token_spelling t.kind ≡ s → Takes (step r s t) r next (Ok answer) → answer ≡ Whole → now ≡ ts ++ t ∷ [] → behind_opens now ≡ whole
 call_ends ts now r next s t answer read spelled takes is more =
-    let all : step r s t ≡ whole = taken_whole (step r s t) r next (subst (λ (x : Taken). Takes (step r s t) r next (Ok x)) is takes) in
+    let all : step r s t ≡ whole = taken_whole (step r s t) r next (subst (λ (x : EffectStep). Takes (step r s t) r next (Ok x)) is takes) in
     ap behind_opens more ∙ run_append (reads opened) ts (t ∷ []) ∙ ap (λ (p : Progress). go_on p t) read ∙ ap (λ (x : Spelling). step r x t) spelled ∙ all

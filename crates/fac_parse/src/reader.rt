@@ -16,7 +16,7 @@ use crate::rows::{Marked, Naming, Taking};
 use crate::run::{Growth, Run, Unfinished};
 use fac_base::limits::MOST_SLOTS;
 use fac_base::{Boxed, List, Memory, Place};
-use fac_effect::{EffectReader, Spelling, Taken, classify, effect_from, may_stand, text};
+use fac_effect::{EffectReader, EffectStep, Spelling, classify, effect_from, may_stand, text};
 use fac_source::{
     Bracket, DefinitionMark, Element, Form, FormKind, Key, Literal, Parent, Part, Slot, Term,
     Token, WrittenEffect, slot_at,
@@ -612,16 +612,16 @@ impl Reader {
             return Ok(false);
         }
         match self.effect.take(spelling, &token)? {
-            Taken::More => {
+            EffectStep::More => {
                 self.names.push(token)?;
                 Ok(true)
             }
-            Taken::Whole => {
+            EffectStep::Whole => {
                 self.names.push(token)?;
                 self.end_effect(alloc, head)?;
                 Ok(true)
             }
-            Taken::Refused(_) => Ok(false),
+            EffectStep::Refused(_) => Ok(false),
         }
     }
 

@@ -11,7 +11,9 @@ ghost use Rattle.fac_parse.specs.inner.Reader.{may_end as ends_there, is_literal
 
 use crate::levels::Levels;
 use fac_base::{List, Memory, Place};
-use fac_effect::{EffectReader, Spelling, Taken, declared_height, is_local_name, is_no_row, text};
+use fac_effect::{
+    EffectReader, EffectStep, Spelling, declared_height, is_local_name, is_no_row, text,
+};
 use fac_source::{Bracket, Callee, Element, Term, Token};
 use std::alloc::Global;
 use std::mem;
@@ -293,16 +295,16 @@ impl Run {
             return Ok(Growth::Stuck);
         }
         match self.effect.take(spelling, &token)? {
-            Taken::More => {
+            EffectStep::More => {
                 self.names.push(token)?;
                 Ok(Growth::More)
             }
-            Taken::Whole => {
+            EffectStep::Whole => {
                 self.names.push(token)?;
                 let element = self.end_call(alloc, callee, sign)?;
                 Ok(Growth::Whole(element))
             }
-            Taken::Refused(_) => Ok(Growth::Stuck),
+            EffectStep::Refused(_) => Ok(Growth::Stuck),
         }
     }
 
