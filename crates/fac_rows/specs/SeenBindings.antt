@@ -12,7 +12,7 @@ use Rattle.fac_abs.specs.declared.reached.Reached.TheVariants.{Dead, On}
 use Rattle.fac_abs.specs.declared.rule.Rule.{Rule}
 use Rattle.fac_rows.specs.declared.called.Called.{Called}
 use Rattle.fac_rows.specs.declared.called.Called.TheVariants.{Breaks, Leaves}
-use Rattle.fac_rows.specs.declared.taken.Taken.{Taken}
+use Rattle.fac_rows.specs.declared.taken.TakenInputs.{TakenInputs}
 use Rattle.fac_rows.specs.RowBinding.{Binding, tied, untied, tie, start_row, Called as CallOf, call_breaks, call_leaves}
 
 module _ (N : Naming) (M : MarksSeen) where
@@ -41,7 +41,7 @@ abbrev pub rule_of_call : CallOf → Option Rule
 rule_of_call c = elim c [ call_breaks r ↦ Some r | call_leaves A ↦ None ]
 
 -- so many values are taken off a stack: the marks of those taken, the deepest on top, and the rest
-abbrev pub IsTaken : MarksSeen → MarksSeen → ℕ → ℕ → Option Taken → Type 0
+abbrev pub IsTaken : MarksSeen → MarksSeen → ℕ → ℕ → Option TakenInputs → Type 0
 IsTaken M L n s None = (N : Naming) → popped n [] (stack_of N M s) ≡ None
 IsTaken M L n s (Some t) = IsStack L t.inputs × IsStack L t.rest × ((N : Naming) → popped n [] (stack_of N M s) ≡ Some (stack_of N L t.inputs, stack_of N L t.rest))
 

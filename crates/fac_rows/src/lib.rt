@@ -18,5 +18,5 @@ pub use called::Called;
 pub use calls::{own_call, par, par_rule};
 pub use numbers::{outer_in, outer_out};
 pub use row_variables::{bindable, has_rows, is_row_word};
-pub use taken::Taken;
+pub use taken::TakenInputs;
 pub use taking::{inputs_marks, known_inputs, take, take_inputs};

@@ -10,13 +10,13 @@ ghost use Rattle.fac_abs.specs.MarkTrees.{Naming};
 ghost use Rattle.fac_rows.specs.RowBinding.{inputs_known, inputs_marks};
 ghost use Rattle.fac_rows.specs.SeenBindings.{IsTaken};
 
-use crate::Taken;
+use crate::TakenInputs;
 use crate::numbers::count_inputs;
 use fac_abs::Marks;
 use fac_base::{Effect, Input, Memory};
 
 /// Takes so many values off a stack. None where there are fewer.
-pub fn take(marks: &mut Marks, stack: u32, count: usize) -> Result<Option<Taken>, Memory>
+pub fn take(marks: &mut Marks, stack: u32, count: usize) -> Result<Option<TakenInputs>, Memory>
     requires { IsStack marks.old stack }
     ensures grows { Grows marks.old marks.new }
     ensures taken { IfOk result (λ o. IsTaken marks.old marks.new count stack o) }
@@ -34,11 +34,15 @@ pub fn take(marks: &mut Marks, stack: u32, count: usize) -> Result<Option<Taken>
             }
         }
     }
-    Ok(Some(Taken { inputs, rest }))
+    Ok(Some(TakenInputs { inputs, rest }))
 }
 
 /// Takes the inputs of a word off a stack. None where there are fewer values.
-pub fn take_inputs(marks: &mut Marks, effect: &Effect, stack: u32) -> Result<Option<Taken>, Memory>
+pub fn take_inputs(
+    marks: &mut Marks,
+    effect: &Effect,
+    stack: u32,
+) -> Result<Option<TakenInputs>, Memory>
     requires { IsStack marks.old stack }
     ensures grows { Grows marks.old marks.new }
     ensures taken { IfOk result (λ o. IsTaken marks.old marks.new (inputs_count (effect_inputs effect.now)) stack o) }
