@@ -8,11 +8,11 @@ ghost use Rattle.fac_bytes.specs.GenericBytes.{method_in, method, methods as met
 use crate::part::{Writable, write_list};
 use fac_base::{Bytes, List, Memory};
 use fac_code::{GenericRow, MethodRow};
-use fac_spelling::{ReadFault, Taken, number_fits, read_number, write_number};
+use fac_spelling::{ReadFault, TakenNumbers, number_fits, read_number, write_number};
 use std::alloc::Global;
 
 // How many methods there can be beside those whose numbers are taken.
-fn method_room(taken: &Taken) -> u32
+fn method_room(taken: &TakenNumbers) -> u32
     ensures { result ≡ room_of taken.now }
 {
     let count = taken.len() as u64;
@@ -28,7 +28,7 @@ fn method_room(taken: &Taken) -> u32
 // The method at the front, whose number isn't taken and is from then on.
 fn read_method<'a>(
     alloc: Global,
-    taken: &mut Taken,
+    taken: &mut TakenNumbers,
     bytes: &'a [u8],
 ) -> Result<(MethodRow, &'a [u8]), ReadFault>
     ensures exact { Gives (λ x. (x.0, x.1.now)) result ((method taken.old).read bytes.now) }
@@ -43,7 +43,7 @@ fn read_method<'a>(
 // So many methods.
 fn read_methods<'a>(
     alloc: Global,
-    taken: &mut Taken,
+    taken: &mut TakenNumbers,
     count: u32,
     bytes: &'a [u8],
 ) -> Result<(List<MethodRow>, &'a [u8]), ReadFault>
@@ -63,7 +63,7 @@ fn read_methods<'a>(
 // The generic at the front.
 fn read_generic<'a>(
     alloc: Global,
-    taken: &mut Taken,
+    taken: &mut TakenNumbers,
     bytes: &'a [u8],
 ) -> Result<(GenericRow, &'a [u8]), ReadFault>
     ensures exact { Gives (λ x. (x.0, x.1.now)) result ((generic taken.old).read bytes.now) }
@@ -83,7 +83,7 @@ fn read_generics_from<'a>(
 ) -> Result<(List<GenericRow>, &'a [u8]), ReadFault>
     ensures { Gives (λ x. (x.0, x.1.now)) result ((generics_from count []).read bytes.now) }
 {
-    let mut taken = Taken::new(alloc);
+    let mut taken = TakenNumbers::new(alloc);
     let mut rows = List::new(alloc);
     let mut rest = bytes;
     for _ in 0..count {
@@ -132,7 +132,7 @@ pub fn write_generics(rows: &List<GenericRow>, out: &mut Bytes) -> Result<(), Me
 }
 
 // Whether a method has a spelling. Its number is taken then.
-fn method_has_spelling(row: &MethodRow, taken: &mut Taken) -> Result<bool, Memory>
+fn method_has_spelling(row: &MethodRow, taken: &mut TakenNumbers) -> Result<bool, Memory>
     ensures tells { IfOk result (λ fits. MatchBool fits ((method taken.old).Fits row.now) ((method taken.old).Fits row.now → ⊥)) }
     ensures takes { IfOk result (λ fits. MatchBool fits (taken.new ≡ taken.old ++ row.now.number ∷ []) (taken.new ≡ taken.old)) }
 {
@@ -143,7 +143,7 @@ fn method_has_spelling(row: &MethodRow, taken: &mut Taken) -> Result<bool, Memor
 }
 
 // Whether methods have a spelling. Their numbers are taken then.
-fn methods_have_spelling(rows: &[MethodRow], taken: &mut Taken) -> Result<bool, Memory>
+fn methods_have_spelling(rows: &[MethodRow], taken: &mut TakenNumbers) -> Result<bool, Memory>
     ensures tells { IfOk result (λ fits. MatchBool fits ((methods_format (length rows.now) taken.old).Fits rows.now) ((methods_format (length rows.now) taken.old).Fits rows.now → ⊥)) }
     ensures takes { IfOk result (λ fits. MatchBool fits (taken.new ≡ taken.old ++ numbers_of rows.now) (Unit {0})) }
 {
@@ -157,7 +157,7 @@ fn methods_have_spelling(rows: &[MethodRow], taken: &mut Taken) -> Result<bool, 
 }
 
 // Whether a generic has a spelling. The numbers of its methods are taken then.
-fn generic_has_spelling(row: &GenericRow, taken: &mut Taken) -> Result<bool, Memory>
+fn generic_has_spelling(row: &GenericRow, taken: &mut TakenNumbers) -> Result<bool, Memory>
     ensures tells { IfOk result (λ fits. MatchBool fits ((generic taken.old).Fits row.now) ((generic taken.old).Fits row.now → ⊥)) }
     ensures takes { IfOk result (λ fits. MatchBool fits (taken.new ≡ taken.old ++ numbers_of row.now.methods) (Unit {0})) }
 {
@@ -172,7 +172,7 @@ fn generic_has_spelling(row: &GenericRow, taken: &mut Taken) -> Result<bool, Mem
 fn each_has_spelling(alloc: Global, rows: &[GenericRow]) -> Result<bool, Memory>
     ensures { IfOk result (λ fits. MatchBool fits ((generics_from (length rows.now) []).Fits rows.now) ((generics_from (length rows.now) []).Fits rows.now → ⊥)) }
 {
-    let mut taken = Taken::new(alloc);
+    let mut taken = TakenNumbers::new(alloc);
     for row in rows {
         let fits = generic_has_spelling(row, &mut taken)?;
         if !fits {

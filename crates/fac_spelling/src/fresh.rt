@@ -128,11 +128,11 @@ fn fresh_from<'a>(
 
 /// Numbers that are taken, no two of them the same, in the order in which they were taken.
 #[derive(Drop)]
-pub struct Taken {
+pub struct TakenNumbers {
     numbers: IndexSet<u32>,
 }
 
-impl Model for Taken {
+impl Model for TakenNumbers {
     ghost use Rattle.std.specs.Prelude.{List, ℕ};
 
     ghost Value = { List ℕ };
@@ -140,12 +140,12 @@ impl Model for Taken {
     ghost view = { λ taken. taken.numbers.keys };
 }
 
-impl Taken {
+impl TakenNumbers {
     /// No numbers.
     pub fn new(alloc: Global) -> Self
         ensures { result ≡ [] }
     {
-        Taken {
+        TakenNumbers {
             numbers: IndexSet::new(alloc),
         }
     }

@@ -20,7 +20,7 @@ pub use bytes::{read_byte, read_fixed, write_fixed};
 pub use characters::read_characters;
 pub use fault::ReadFault;
 pub use fits::{ascending_fits, integer_fits, number_fits, numbers_fit, text_fits};
-pub use fresh::Taken;
+pub use fresh::TakenNumbers;
 pub use integers::{unzigzag, zigzag};
 pub use laws::{
     ascending_numbers_are_exact, ascending_pairs_are_exact, fixed_bytes_are_exact,

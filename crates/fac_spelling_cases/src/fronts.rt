@@ -4,7 +4,7 @@ use crate::telling::{tell, tell_again, tell_left};
 use crate::wholes::number_is_exact;
 use fac_base::{Bytes, List, Memory, Text};
 use fac_spelling::{
-    Taken, ascending_numbers_are_exact, ascending_pairs_are_exact, read_ascending,
+    TakenNumbers, ascending_numbers_are_exact, ascending_pairs_are_exact, read_ascending,
     read_ascending_by, read_fixed, write_ascending, write_ascending_by, write_fixed, write_number,
 };
 use std::alloc::Global;
@@ -59,7 +59,7 @@ pub fn fixed(alloc: Global, bytes: &[u8]) -> Result<Text, Stop> {
 
 // Numbers one behind another, each of them not taken before. Each has a byte at least.
 fn take_all(alloc: Global, bytes: &[u8]) -> Result<List<u32>, Stop> {
-    let mut taken = Taken::new(alloc);
+    let mut taken = TakenNumbers::new(alloc);
     let mut numbers = List::new(alloc);
     let mut rest = bytes;
     for _ in 0..bytes.len() {
