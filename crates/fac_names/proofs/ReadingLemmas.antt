@@ -19,7 +19,7 @@ use Rattle.fac_endings.specs.Words.{no_effect}
 use Rattle.fac_endings.specs.declared.draft.Draft.{Draft}
 use Rattle.fac_endings.specs.declared.draft.Late.{Late}
 use Rattle.fac_endings.specs.declared.draft.Late.TheVariants.{Settled as settled, Maker as maker, Method as method_of}
-use Rattle.fac_names.specs.declared.drafts.Told.{Told}
+use Rattle.fac_names.specs.declared.drafts.WordFacts.{WordFacts}
 use Rattle.fac_names.specs.declared.so_far.SoFar.{SoFar}
 use Rattle.fac_names.specs.Forms.{Numbered, Reading, added, changed, defined, own, read_phrase, refused, take, told, with_told}
 use Rattle.fac_names.specs.inner.State.{Owns, Reads, reading_of}
@@ -29,7 +29,7 @@ on_ok (Ok x) f h = f h
 on_ok (Err e) f h = tt
 
 -- what is told, by its parts
-pub told_parts : (t : Told) (sort : Sort) (e : Signature) (inline recursive : Bool) (late : Late) (number : ℕ) (ds words : List Draft) → t.sort ≡ sort → t.effect ≡ e → t.inline ≡ inline → t.recursive ≡ recursive → t.late ≡ late →
+pub told_parts : (t : WordFacts) (sort : Sort) (e : Signature) (inline recursive : Bool) (late : Late) (number : ℕ) (ds words : List Draft) → t.sort ≡ sort → t.effect ≡ e → t.inline ≡ inline → t.recursive ≡ recursive → t.late ≡ late →
     words ≡ changed (with_told t.sort t.effect t.inline t.recursive t.late) number ds → words ≡ changed (with_told sort e inline recursive late) number ds
 told_parts t sort e inline recursive late number ds words a b c d f h =
     h

@@ -15,7 +15,7 @@ ghost use Rattle.fac_items.specs.Written.{f_define, f_items, f_maker, f_method, 
 ghost use Rattle.fac_names.specs.Forms.{added, refused, take};
 ghost use Rattle.fac_names.specs.inner.State.{Reads, reading_of};
 
-use crate::drafts::Told;
+use crate::drafts::WordFacts;
 use crate::forms::sole_item;
 use crate::naming::own;
 use crate::so_far::SoFar;
@@ -73,7 +73,7 @@ pub fn define<'a>(
     let body = read_phrase(alloc, so_far, inputs, elements)?;
     so_far.drafts.tell(
         number,
-        Told {
+        WordFacts {
             sort: Sort::Body(body),
             effect,
             inline,
@@ -84,14 +84,14 @@ pub fn define<'a>(
 }
 
 // What a word is whose phrase has an effect that is late.
-fn late_body(alloc: Global, body: Phrase, late: Late) -> Told
+fn late_body(alloc: Global, body: Phrase, late: Late) -> WordFacts
     ensures sort { result.sort ≡ Body body }
     ensures effect { result.effect ≡ no_effect }
     ensures inline { result.inline ≡ false }
     ensures recursive { result.recursive ≡ false }
     ensures late { result.late ≡ late }
 {
-    Told {
+    WordFacts {
         sort: Sort::Body(body),
         effect: no_effect(alloc),
         inline: false,

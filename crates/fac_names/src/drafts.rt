@@ -109,7 +109,7 @@ fn untold(alloc: Global, name: Name, place: Place) -> Draft
 
 /// What a word is.
 #[derive(Drop)]
-pub struct Told {
+pub struct WordFacts {
     pub sort: Sort,
     pub effect: Effect,
     pub inline: bool,
@@ -148,7 +148,7 @@ fn placed_count(list: &[Draft], classes: u64, number: u32, place: Place) -> Resu
 
 // The count of classes where the word of a number is told.
 #[tactic(auto, using(crate::proofs::DraftLemmas::uncounted))]
-fn told_count(list: &[Draft], classes: u64, number: u32, told: &Told) -> Result<u64, Memory>
+fn told_count(list: &[Draft], classes: u64, number: u32, told: &WordFacts) -> Result<u64, Memory>
     requires { classes ≡ counted list.now }
     ensures { IfOk result (λ next. next ≡ counted (changed (with_told told.now.sort told.now.effect told.now.inline told.now.recursive told.now.late) number list.now)) }
 {
@@ -171,10 +171,10 @@ fn place_at(list: &mut Vec<Draft>, number: u32, place: Place)
 }
 
 // Tells what the word of a number is.
-fn tell_at(list: &mut Vec<Draft>, number: u32, told: Told)
+fn tell_at(list: &mut Vec<Draft>, number: u32, told: WordFacts)
     ensures { list.new.items ≡ changed (with_told told.sort told.effect told.inline told.recursive told.late) number list.old.items }
 {
-    let Told {
+    let WordFacts {
         sort,
         effect,
         inline,
@@ -247,7 +247,7 @@ impl Drafts {
     }
 
     /// Tells what the word of a number is.
-    pub fn tell(&mut self, number: u32, told: Told) -> Result<(), Memory>
+    pub fn tell(&mut self, number: u32, told: WordFacts) -> Result<(), Memory>
         ensures { OnOk result (self.new ≡ changed (with_told told.sort told.effect told.inline told.recursive told.late) number self.old) }
     {
         let classes = told_count(self.list.as_slice(), self.classes, number, &told)?;

@@ -8,7 +8,7 @@ ghost use Rattle.fac_items.specs.Written.{f_defer, f_from, f_generic, f_in, f_ma
 ghost use Rattle.fac_names.specs.Forms.{bring_one, scoped, take, use_one};
 ghost use Rattle.fac_names.specs.inner.State.{reading_of};
 
-use crate::drafts::Told;
+use crate::drafts::WordFacts;
 use crate::naming::{defer, own};
 use crate::so_far::SoFar;
 use fac_base::{Effect, Memory, Place};
@@ -156,14 +156,14 @@ pub fn take_defer(alloc: Global, so_far: &mut SoFar, name: &Token) -> Result<(),
 }
 
 /// What a word is that has no marks and of which nothing is late.
-pub fn plainly(sort: Sort, effect: Effect) -> Told
+pub fn plainly(sort: Sort, effect: Effect) -> WordFacts
     ensures sort { result.sort ≡ sort }
     ensures effect { result.effect ≡ effect }
     ensures inline { result.inline ≡ false }
     ensures recursive { result.recursive ≡ false }
     ensures late { result.late ≡ Settled }
 {
-    Told {
+    WordFacts {
         sort,
         effect,
         inline: false,
