@@ -14,7 +14,7 @@ use fac_effect::text;
 use fac_endings::plain_effect;
 use fac_lang::Sort;
 use fac_source::Token;
-use fac_vocab::Standing;
+use fac_vocab::NameState;
 use std::alloc::Global;
 
 // The full name of an accessor, of the two parts of its name.
@@ -56,9 +56,9 @@ fn accessor(
     ensures { OnOk result (reading_of so_far.new ≡ made_as name place sort effect (reading_of so_far.old)) }
 {
     match so_far.scope.standing(&name) {
-        Standing::New => define_accessor(alloc, so_far, name, place, sort, effect),
-        Standing::Deferred(_) => Ok(()),
-        Standing::Defined => Ok(()),
+        NameState::New => define_accessor(alloc, so_far, name, place, sort, effect),
+        NameState::Deferred(_) => Ok(()),
+        NameState::Defined => Ok(()),
     }
 }
 

@@ -2,7 +2,7 @@
 ghost use Rattle.std.specs.Prelude.{◌≡◌, true, false, IfOk, OnOk};
 ghost use Rattle.fac_vocab.specs.ScopeCalls.{Stands};
 ghost use Rattle.fac_vocab.specs.Scopes.{holders, home, with_entry};
-ghost use Rattle.fac_vocab.specs.declared.answers.Standing.TheVariants.{New, Deferred, Defined};
+ghost use Rattle.fac_vocab.specs.declared.answers.NameState.TheVariants.{New, Deferred, Defined};
 ghost use Rattle.fac_items.specs.FromElements.{tok};
 ghost use Rattle.fac_names.specs.Forms.{deferring};
 ghost use Rattle.fac_names.specs.inner.State.{Owns, Settles, reading_of, tok_at};
@@ -12,7 +12,7 @@ use fac_base::{Memory, Name, Place, Text};
 use fac_effect::text;
 use fac_items::refuse_token;
 use fac_source::{NameKind, Token, refuse_name};
-use fac_vocab::{Scope, ScopeFault, Standing};
+use fac_vocab::{NameState, Scope, ScopeFault};
 use std::alloc::Global;
 
 /// The full name of a word.
@@ -124,12 +124,12 @@ pub fn define_name(
     ensures { IfOk result (λ number. Owns so_far.old name.vocab (tok_at name place) number so_far.new) }
 {
     match so_far.scope.standing(&name) {
-        Standing::New => own_new(alloc, so_far, name, place),
-        Standing::Deferred(number) => {
+        NameState::New => own_new(alloc, so_far, name, place),
+        NameState::Deferred(number) => {
             own_deferred(alloc, so_far, &name, place, number)?;
             Ok(number)
         }
-        Standing::Defined => own_refused(alloc, so_far, name, place),
+        NameState::Defined => own_refused(alloc, so_far, name, place),
     }
 }
 
@@ -159,12 +159,12 @@ pub fn defer(alloc: Global, so_far: &mut SoFar, token: &Token) -> Result<(), Mem
 {
     let name = full_name(alloc, so_far.scope.home(), text(&token.kind))?;
     match so_far.scope.standing(&name) {
-        Standing::New => deferred_new(alloc, so_far, name, token.place),
-        Standing::Deferred(_) => {
+        NameState::New => deferred_new(alloc, so_far, name, token.place),
+        NameState::Deferred(_) => {
             refuse_token(alloc, &mut so_far.first, NameKind::Twice, token)?;
             Ok(())
         }
-        Standing::Defined => {
+        NameState::Defined => {
             refuse_token(alloc, &mut so_far.first, NameKind::Twice, token)?;
             Ok(())
         }

@@ -1,7 +1,7 @@
 -- Examples of what names find, of vocabularies and of definitions.
 use Rattle.std.proofs.Common.{◌≡◌, ℕ, true, false, List, [], ◌∷◌, Some, None, refl}
 use Rattle.std.specs.Prelude.{codes}
-use Rattle.fac_vocab.specs.declared.answers.Standing.TheVariants.{New, Deferred, Defined}
+use Rattle.fac_vocab.specs.declared.answers.NameState.TheVariants.{New, Deferred, Defined}
 use Rattle.fac_vocab.specs.Scopes.{Entry, named, prefixed, Scope, word_held, the, unknown, ambiguous, found, exists, begun, entered, with_private, using_vocab, using_all, bringing, home, holders, now_defined, first_scope}
 use Rattle.fac_vocab.specs.ScopeCalls.{names_differ, standing_of, scope_defining, scope_deferring, bringing_word}
 

@@ -5,8 +5,8 @@ use Rattle.std.specs.List.{list_any, filter, find}
 use Rattle.std.specs.Option.{option_map}
 use Rattle.std.specs.Str.{bytes_eq}
 use Rattle.std.proofs.lemmas.List.{length_push}
-use Rattle.fac_vocab.specs.declared.answers.Standing.{Standing}
-use Rattle.fac_vocab.specs.declared.answers.Standing.TheVariants.{New, Deferred, Defined}
+use Rattle.fac_vocab.specs.declared.answers.NameState.{NameState}
+use Rattle.fac_vocab.specs.declared.answers.NameState.TheVariants.{New, Deferred, Defined}
 use Rattle.fac_vocab.specs.Scopes.{Entry, held, word_held, or_else, same_table, companion, holders}
 use Rattle.fac_vocab.specs.ScopeCalls.{standing_of, standing_with}
 use Rattle.fac_vocab.specs.inner.Rows.{numbers_named, with_some, entries_at, entries_named, word_if, word_among, defined_if, defined_among, number_if, first_among, in_table, deferred_word, deferred_at}
@@ -92,7 +92,7 @@ defined_at_rows table vocab (n ∷ ns) = one (slice_get table n) (defined_at_row
     one None h = h
     one (Some e) h = two (same_table vocab e.vocab) e.is_defined (defined_among table vocab ns) true (in_table vocab (entries_at table ns)) e refl h
 
-abbrev first_word : List Entry → Standing
+abbrev first_word : List Entry → NameState
 first_word [] = New
 first_word (e ∷ es) = Deferred e.word
 
@@ -124,7 +124,7 @@ stands_defined table vocab ns h = sym (standing_defined (in_table vocab (entries
 pub stands_open : (table : List Entry) (vocab : List ℕ) (ns : List ℕ) → defined_among table vocab ns ≡ false → deferred_at table (first_among table vocab ns) ≡ standing_of (in_table vocab (entries_at table ns))
 stands_open table vocab ns h = first_at_rows table vocab ns ∙ sym (standing_open (in_table vocab (entries_at table ns)) (sym (defined_at_rows table vocab ns) ∙ h))
 
-pub stands_named : (table : List Entry) (vocab name : List ℕ) (s : Standing) → s ≡ standing_of (in_table vocab (entries_at table (numbers_named 0 name table))) → standing_of (holders table vocab name) ≡ s
+pub stands_named : (table : List Entry) (vocab name : List ℕ) (s : NameState) → s ≡ standing_of (in_table vocab (entries_at table (numbers_named 0 name table))) → standing_of (holders table vocab name) ≡ s
 stands_named table vocab name s h = sym (h ∙ ap (λ (rows : List Entry). standing_of (in_table vocab rows)) (rows_named table name) ∙ ap standing_of (holders_named table vocab name))
 
 -- a new name isn't held

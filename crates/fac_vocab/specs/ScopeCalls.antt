@@ -7,8 +7,8 @@ use Rattle.fac_vocab.specs.declared.answers.ScopeFault.{ScopeFault}
 use Rattle.fac_vocab.specs.declared.answers.ScopeFault.TheVariants.{Twice, NoVocab, Unknown as Missing, Memory}
 use Rattle.fac_vocab.specs.declared.answers.Found.{Found as Answer}
 use Rattle.fac_vocab.specs.declared.answers.Found.TheVariants.{Word, Unknown, Ambiguous}
-use Rattle.fac_vocab.specs.declared.answers.Standing.{Standing}
-use Rattle.fac_vocab.specs.declared.answers.Standing.TheVariants.{New, Deferred, Defined}
+use Rattle.fac_vocab.specs.declared.answers.NameState.{NameState}
+use Rattle.fac_vocab.specs.declared.answers.NameState.TheVariants.{New, Deferred, Defined}
 use Rattle.fac_vocab.specs.Scopes.{Entry, named, prefixed, Scope, word_held, Found, the, unknown, ambiguous, found, exists, using_vocab, bringing, holders, with_entry, now_defined}
 
 -- the full name of an entry
@@ -37,16 +37,16 @@ names_between _ = None
 
 -- Definitions.
 
-abbrev pub standing_with : Bool → ℕ → Standing
+abbrev pub standing_with : Bool → ℕ → NameState
 standing_with true w = Defined
 standing_with false w = Deferred w
 
 -- how a name stands that has these holders
-abbrev pub standing_of : List Entry → Standing
+abbrev pub standing_of : List Entry → NameState
 standing_of [] = New
 standing_of (e ∷ es) = standing_with (list_any (λ (f : Entry). f.is_defined) (e ∷ es)) e.word
 
-abbrev pub Stands : Scope → FullName → Standing → Type 0
+abbrev pub Stands : Scope → FullName → NameState → Type 0
 Stands s name standing = standing_of (holders s.table name.vocab name.name) ≡ standing
 
 -- A call that changes a scope: an answer comes with the next scope alone, and after a refusal all is as before.

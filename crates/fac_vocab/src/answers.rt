@@ -16,7 +16,7 @@ pub enum Found {
 
 /// How a full name stands in the tables to which its vocabulary belongs.
 #[derive(Clone, Copy, Debug, PartialEq, Eq)]
-pub enum Standing {
+pub enum NameState {
     /// None of them holds it.
     New,
     /// It is only deferred: the word that its definition defines.

@@ -14,7 +14,7 @@ mod table;
 mod text_set;
 mod vocabularies;
 
-pub use answers::{Found, ScopeFault, Standing};
+pub use answers::{Found, NameState, ScopeFault};
 pub use brought::Brought;
 pub use entry::Entry;
 pub use scope::Scope;

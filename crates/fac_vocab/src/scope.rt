@@ -4,7 +4,7 @@ ghost use Rattle.fac_vocab.specs.Scopes.{or_else, word_held, companion, latest, 
 ghost use Rattle.fac_vocab.specs.inner.Rows.{numbers_named};
 ghost use Rattle.fac_vocab.specs.ScopeCalls.{names_differ, Finds, names_between, Stands, Defines, Defers, Uses, Qualifies, BringsOne};
 
-use crate::answers::{Found, ScopeFault, Standing};
+use crate::answers::{Found, NameState, ScopeFault};
 use crate::brought::Brought;
 use crate::brought_names::BroughtNames;
 use crate::standing::{found_of, names_of};
@@ -215,7 +215,7 @@ impl Scope {
     }
 
     /// How a full name stands for a definition.
-    pub fn standing(&self, name: &Name) -> Standing
+    pub fn standing(&self, name: &Name) -> NameState
         ensures { Stands self.now name.now result }
     {
         self.table.standing(name)
@@ -226,15 +226,15 @@ impl Scope {
         ensures { Defines self.old name.now word self.new result }
     {
         match self.table.standing(name) {
-            Standing::New => {
+            NameState::New => {
                 self.table.add(alloc, name, word, true)?;
                 Ok(())
             }
-            Standing::Deferred(_) => {
+            NameState::Deferred(_) => {
                 self.table.settle(name);
                 Ok(())
             }
-            Standing::Defined => Err(ScopeFault::Twice),
+            NameState::Defined => Err(ScopeFault::Twice),
         }
     }
 
@@ -243,12 +243,12 @@ impl Scope {
         ensures { Defers self.old name.now word self.new result }
     {
         match self.table.standing(name) {
-            Standing::New => {
+            NameState::New => {
                 self.table.add(alloc, name, word, false)?;
                 Ok(())
             }
-            Standing::Deferred(_) => Err(ScopeFault::Twice),
-            Standing::Defined => Err(ScopeFault::Twice),
+            NameState::Deferred(_) => Err(ScopeFault::Twice),
+            NameState::Defined => Err(ScopeFault::Twice),
         }
     }
 

@@ -4,7 +4,7 @@ ghost use Rattle.fac_vocab.specs.Scopes.{only_one};
 ghost use Rattle.fac_vocab.specs.ScopeCalls.{answer_of, names_between, name_of, standing_of};
 ghost use Rattle.fac_vocab.specs.inner.Rows.{deferred_at, entries_at, in_table, kept_numbers};
 
-use crate::answers::{Found, Standing};
+use crate::answers::{Found, NameState};
 use crate::entry::Entry;
 use crate::least::Least;
 use crate::search::{first_number, is_defined_in};
@@ -12,24 +12,24 @@ use fac_base::{Duplicate, Memory, Name};
 use std::alloc::Global;
 
 // The word of the first entry that has holders of a name.
-fn deferred_of(entries: &[Entry], first: Option<u32>) -> Standing
+fn deferred_of(entries: &[Entry], first: Option<u32>) -> NameState
     ensures { result ≡ deferred_at entries.now first }
 {
     match first {
         Some(number) => match entries.get(number as usize) {
-            Some(entry) => Standing::Deferred(entry.word),
-            None => Standing::New,
+            Some(entry) => NameState::Deferred(entry.word),
+            None => NameState::New,
         },
-        None => Standing::New,
+        None => NameState::New,
     }
 }
 
 /// How a name stands in the tables to which a vocabulary belongs, where its entries have these numbers.
-pub fn standing_in(entries: &[Entry], numbers: &[u32], vocab: &str) -> Standing
+pub fn standing_in(entries: &[Entry], numbers: &[u32], vocab: &str) -> NameState
     ensures { result ≡ standing_of (in_table vocab.now (entries_at entries.now numbers.now)) }
 {
     if is_defined_in(entries, numbers, vocab) {
-        return Standing::Defined;
+        return NameState::Defined;
     }
     deferred_of(entries, first_number(entries, numbers, vocab))
 }

@@ -4,7 +4,7 @@ ghost use Rattle.fac_vocab.specs.Scopes.{held, word_held, holders};
 ghost use Rattle.fac_vocab.specs.ScopeCalls.{names_differ, standing_of};
 ghost use Rattle.fac_vocab.specs.inner.Rows.{numbers_named, LeastUsed, settled, defined_at};
 
-use crate::answers::Standing;
+use crate::answers::NameState;
 use crate::entry::Entry;
 use crate::index::{add_number, numbers_of};
 use crate::least::Least;
@@ -116,7 +116,7 @@ impl Table {
     }
 
     /// How a full name stands.
-    pub fn standing(&self, name: &Name) -> Standing
+    pub fn standing(&self, name: &Name) -> NameState
         ensures { standing_of (holders self.now name.now.vocab name.now.name) ≡ result }
     {
         standing_in(

@@ -4,8 +4,8 @@ use Rattle.std.specs.List.{list_any, filter}
 use Rattle.std.specs.Str.{bytes_eq}
 use Rattle.fac_vocab.specs.declared.least.Least.{Least}
 use Rattle.fac_vocab.specs.declared.least.Least.TheVariants.{Nothing, One, Two}
-use Rattle.fac_vocab.specs.declared.answers.Standing.{Standing}
-use Rattle.fac_vocab.specs.declared.answers.Standing.TheVariants.{New, Deferred}
+use Rattle.fac_vocab.specs.declared.answers.NameState.{NameState}
+use Rattle.fac_vocab.specs.declared.answers.NameState.TheVariants.{New, Deferred}
 use Rattle.fac_vocab.specs.declared.answers.ScopeFault.{ScopeFault}
 use Rattle.fac_vocab.specs.declared.answers.ScopeFault.TheVariants.{Unknown as Missing, Memory}
 use Rattle.std.specs.Global.{Vec}
@@ -91,12 +91,12 @@ abbrev pub least_with : List (List ℕ) → List Entry → List ℕ → List Ent
 least_with used table [] least = least
 least_with used table (n ∷ ns) least = with_used_entry used (slice_get table n) (least_with used table ns least)
 
-abbrev pub deferred_word : Option Entry → Standing
+abbrev pub deferred_word : Option Entry → NameState
 deferred_word (Some e) = Deferred e.word
 deferred_word None = New
 
 -- a name whose first entry has this number, and that is only deferred
-abbrev pub deferred_at : List Entry → Option ℕ → Standing
+abbrev pub deferred_at : List Entry → Option ℕ → NameState
 deferred_at table (Some n) = deferred_word (slice_get table n)
 deferred_at table None = New
 
