@@ -11,8 +11,8 @@ use Rattle.fac_graph.proofs.NumberLists.{some_same, in_left, in_right, in_either
 use Rattle.fac_graph.proofs.ComponentLemmas.{same_or_other}
 use Rattle.fac_graph.specs.Slots.{own_slot_count, slot_counts, classes_end}
 use Rattle.fac_graph.specs.inner.Climbing.{Counts, first_or, IsLine, known_or_none, is_met, is_known, Climbs, IsClimbing, IsIdle, IsMet, KeepsMet, Climbed, MayDescend, Visits, VisitsOne, all_known, IsOver}
-use Rattle.fac_graph.specs.declared.slots.Standing.{Standing}
-use Rattle.fac_graph.specs.declared.slots.Standing.TheVariants.{Unmet, OnWay, Known}
+use Rattle.fac_graph.specs.declared.slots.SlotCount.{SlotCount}
+use Rattle.fac_graph.specs.declared.slots.SlotCount.TheVariants.{Unmet, OnWay, Known}
 use Rattle.fac_graph.specs.declared.slots.Counting.{Counting}
 use Rattle.fac_graph.proofs.SlotLemmas.{counts_are, none_counts, child_counts, parent_edge, no_round, all_counted}
 
@@ -34,23 +34,23 @@ unmet_not_on_way e = cc
 known_same : (m n : ℕ) → Known m ≡ Known n → m ≡ n
 known_same m n e = cc
 
-pub found_unmet : (o : Option Standing) (s : Standing) → s ≡ known_or_none o → s ≡ Unmet → o ≡ Some Unmet
+pub found_unmet : (o : Option SlotCount) (s : SlotCount) → s ≡ known_or_none o → s ≡ Unmet → o ≡ Some Unmet
 found_unmet None s e is = absurd (let clash : Known 0 ≡ Unmet = sym e ∙ is in cc)
 found_unmet (Some t) s e is = ap Some (sym e ∙ is)
 
-pub found_on_way : (o : Option Standing) (s : Standing) → s ≡ known_or_none o → s ≡ OnWay → o ≡ Some OnWay
+pub found_on_way : (o : Option SlotCount) (s : SlotCount) → s ≡ known_or_none o → s ≡ OnWay → o ≡ Some OnWay
 found_on_way None s e is = absurd (known_not_on_way 0 (sym e ∙ is))
 found_on_way (Some t) s e is = ap Some (sym e ∙ is)
 
-found_known : (o : Option Standing) (s : Standing) (n : ℕ) → s ≡ known_or_none o → s ≡ Known n → ((o ≡ None) × (n ≡ 0)) ⊎ (o ≡ Some (Known n))
+found_known : (o : Option SlotCount) (s : SlotCount) (n : ℕ) → s ≡ known_or_none o → s ≡ Known n → ((o ≡ None) × (n ≡ 0)) ⊎ (o ≡ Some (Known n))
 found_known None s n e is = inl (refl, known_same n 0 (sym is ∙ e))
 found_known (Some t) s n e is = inr (ap Some (sym e ∙ is))
 
-known_met : (o : Option Standing) (s : Standing) (n : ℕ) → s ≡ known_or_none o → s ≡ Known n → is_met o ≡ true
+known_met : (o : Option SlotCount) (s : SlotCount) (n : ℕ) → s ≡ known_or_none o → s ≡ Known n → is_met o ≡ true
 known_met None s n e is = refl
-known_met (Some t) s n e is = ap (λ (r : Standing). is_met (Some r)) (sym e ∙ is)
+known_met (Some t) s n e is = ap (λ (r : SlotCount). is_met (Some r)) (sym e ∙ is)
 
-not_there : (S : List Standing) (c : ℕ) → slice_get S c ≡ None → length S ≤ c
+not_there : (S : List SlotCount) (c : ℕ) → slice_get S c ≡ None → length S ≤ c
 not_there [] c e = omega arith
 not_there (s ∷ S) zero e = absurd cc
 not_there (s ∷ S) (suc c) e = let le = not_there S c e in omega (arith, le)
@@ -75,12 +75,12 @@ line_less cs (x ∷ way) c at h =
     first_less (y ∷ way) c at = refl
 
 -- how many classes weren't met
-abbrev pub unmet_count : List Standing → ℕ
+abbrev pub unmet_count : List SlotCount → ℕ
 unmet_count [] = 0
 unmet_count (Unmet ∷ S) = suc (unmet_count S)
 unmet_count (_ ∷ S) = unmet_count S
 
-pub fewer_unmet : (S : List Standing) (c : ℕ) → slice_get S c ≡ Some Unmet → suc (unmet_count (set S c OnWay)) ≡ unmet_count S
+pub fewer_unmet : (S : List SlotCount) (c : ℕ) → slice_get S c ≡ Some Unmet → suc (unmet_count (set S c OnWay)) ≡ unmet_count S
 fewer_unmet [] c e = absurd cc
 fewer_unmet (Unmet ∷ S) zero e = refl
 fewer_unmet (OnWay ∷ S) zero e = absurd cc
@@ -89,10 +89,10 @@ fewer_unmet (Unmet ∷ S) (suc c) e = ap suc (fewer_unmet S c e)
 fewer_unmet (OnWay ∷ S) (suc c) e = fewer_unmet S c e
 fewer_unmet (Known n ∷ S) (suc c) e = fewer_unmet S c e
 
-set_met : (S : List Standing) (c : ℕ) (s : Standing) → is_met (Some s) ≡ true → c < length S → KeepsMet S (set S c s)
+set_met : (S : List SlotCount) (c : ℕ) (s : SlotCount) → is_met (Some s) ≡ true → c < length S → KeepsMet S (set S c s)
 set_met S c s met lt = λ x e. by_case x e (same_or_other x c)
   where
-    here : (S : List Standing) (c : ℕ) → c < length S → slice_get (set S c s) c ≡ Some s
+    here : (S : List SlotCount) (c : ℕ) → c < length S → slice_get (set S c s) c ≡ Some s
     here [] c lt = absurd (omega (arith, lt))
     here (t ∷ S) zero lt = refl
     here (t ∷ S) (suc c) lt = here S c (omega (arith, lt))
@@ -101,7 +101,7 @@ set_met S c s met lt = λ x e. by_case x e (same_or_other x c)
     by_case x e (inl same) = ap is_met (ap (slice_get (set S c s)) same ∙ here S c lt) ∙ met
     by_case x e (inr other) = ap is_met (set_other S c x s other) ∙ e
 
-climbs_same : (cs : List ClassDef) (S T : List Standing) (way there : List ℕ) (at : Option ℕ) → T ≡ S → there ≡ way → Climbs cs S way at → Climbs cs T there at
+climbs_same : (cs : List ClassDef) (S T : List SlotCount) (way there : List ℕ) (at : Option ℕ) → T ≡ S → there ≡ way → Climbs cs S way at → Climbs cs T there at
 climbs_same cs S T way there at e f h = rw (e, f) h
 
 -- the way up, from its beginning
@@ -131,14 +131,14 @@ climb_begins cs class c idle =
     nothing x e = let none : IsOneOf x [] = subst (λ (way : List ℕ). IsOneOf x way) idle.nothing e in cc
 
 -- a class on the way isn't met again
-pub no_return : (cs : List ClassDef) (class : ℕ) (before now : Counting) (at : Option ℕ) (c : ℕ) (s : Standing) → classes_end cs ≡ true → Climbing cs class before now at → at ≡ Some c → s ≡ known_or_none (slice_get now.standings.items c) → s ≡ OnWay → ⊥
+pub no_return : (cs : List ClassDef) (class : ℕ) (before now : Counting) (at : Option ℕ) (c : ℕ) (s : SlotCount) → classes_end cs ≡ true → Climbing cs class before now at → at ≡ Some c → s ≡ known_or_none (slice_get now.standings.items c) → s ≡ OnWay → ⊥
 no_return cs class before now at c s end h is found on_way =
     let there = h.climbing.on_way c (found_on_way (slice_get now.standings.items c) s found on_way) in
     no_round cs c end (h.climbing.low c there) (h.leads c c there is)
 
 -- one class further up
 module _ (cs : List ClassDef) (class : ℕ) (before now after : Counting) (c : ℕ) (h : Climbing cs class before now (Some c)) (unmet : slice_get now.standings.items c ≡ Some Unmet) (m : IsMet c now after) where
-  abbrev S : List Standing
+  abbrev S : List SlotCount
   S = now.standings.items
 
   abbrev way : List ℕ
@@ -184,15 +184,15 @@ module _ (cs : List ClassDef) (class : ℕ) (before now after : Counting) (c : �
   climbs_on = record {
     climbing = climbs_same cs (set S c OnWay) after.standings.items (way ++ c ∷ []) after.way.items upward m.standings_are m.way_is up;
     leads = λ x a e is. now_leads x a (subst (λ (xs : List ℕ). IsOneOf x xs) m.way_is e) is;
-    kept = λ x e. subst (λ (T : List Standing). is_met (slice_get T x) ≡ true) (sym m.standings_are) (set_met S c OnWay refl here_low x (h.kept x e));
-    start = inr (subst (λ (T : List Standing). is_met (slice_get T class) ≡ true) (sym m.standings_are) (met_now h.start));
+    kept = λ x e. subst (λ (T : List SlotCount). is_met (slice_get T x) ≡ true) (sym m.standings_are) (set_met S c OnWay refl here_low x (h.kept x e));
+    start = inr (subst (λ (T : List SlotCount). is_met (slice_get T class) ≡ true) (sym m.standings_are) (met_now h.start));
   }
 
   pub fewer : unmet_count after.standings.items < unmet_count now.standings.items
   fewer = omega (arith, ap unmet_count m.standings_are, fewer_unmet S c unmet)
 
 -- a class that is counted
-pub climbed_known : (cs : List ClassDef) (class : ℕ) (before now : Counting) (at : Option ℕ) (c n : ℕ) (s : Standing) → Climbing cs class before now at → at ≡ Some c → s ≡ known_or_none (slice_get now.standings.items c) → s ≡ Known n → Climbed cs class before now n
+pub climbed_known : (cs : List ClassDef) (class : ℕ) (before now : Counting) (at : Option ℕ) (c n : ℕ) (s : SlotCount) → Climbing cs class before now at → at ≡ Some c → s ≡ known_or_none (slice_get now.standings.items c) → s ≡ Known n → Climbed cs class before now n
 climbed_known cs class before now at c n s h is found known = record {
   at = Some c;
   climbing = subst (λ (o : Option ℕ). IsClimbing cs now o) is h.climbing;
@@ -226,7 +226,7 @@ pub descend_begins : (cs : List ClassDef) (c : Counting) (above : ℕ) → MayDe
 descend_begins cs c above may = record { may = may; kept = λ x e. e }
 
 -- one class further down
-module _ (cs : List ClassDef) (before now : Counting) (standings : List Standing) (left : List ℕ) (count c sum : ℕ) (d : Descending cs before now count) (way_is : now.way.items ≡ left ++ c ∷ []) (sum_is : sum ≡ count + own_slot_count (shape_at cs c)) (standings_are : standings ≡ set now.standings.items c (Known sum)) where
+module _ (cs : List ClassDef) (before now : Counting) (standings : List SlotCount) (left : List ℕ) (count c sum : ℕ) (d : Descending cs before now count) (way_is : now.way.items ≡ left ++ c ∷ []) (sum_is : sum ≡ count + own_slot_count (shape_at cs c)) (standings_are : standings ≡ set now.standings.items c (Known sum)) where
   abbrev h : Climbs cs now.standings.items now.way.items d.may.at
   h = d.may.climbing
 
@@ -254,7 +254,7 @@ module _ (cs : List ClassDef) (before now : Counting) (standings : List Standing
     | inr p ↦ elim (in_either x left (c ∷ []) (subst (λ (way : List ℕ). IsOneOf x way) way_is (h.on_way x p))) [ inl q ↦ q | inr q ↦ absurd (gone x (only_one x c q) e) ]
   ]
     where
-      here : (S : List Standing) (k : ℕ) → k < length S → slice_get (set S k (Known sum)) k ≡ Some (Known sum)
+      here : (S : List SlotCount) (k : ℕ) → k < length S → slice_get (set S k (Known sum)) k ≡ Some (Known sum)
       here [] k lt = absurd (omega (arith, lt))
       here (t ∷ S) zero lt = refl
       here (t ∷ S) (suc k) lt = here S k (omega (arith, lt))
@@ -278,7 +278,7 @@ module _ (cs : List ClassDef) (before now : Counting) (standings : List Standing
       climbing = climbs_same cs (set now.standings.items c (Known sum)) after.standings.items left after.way.items (Some c) (same_standings ∙ standings_are) same_way down;
       above_is = here_counts;
     };
-    kept = λ x e. subst (λ (T : List Standing). is_met (slice_get T x) ≡ true) (sym (same_standings ∙ standings_are)) (set_met now.standings.items c (Known sum) refl last_low x (d.kept x e));
+    kept = λ x e. subst (λ (T : List SlotCount). is_met (slice_get T x) ≡ true) (sym (same_standings ∙ standings_are)) (set_met now.standings.items c (Known sum) refl last_low x (d.kept x e));
   }
 
   pub last_there : c < length now.standings.items
@@ -299,7 +299,7 @@ descent_ends cs before now after count d none same_standings same_way =
         });
         nothing = same_way ∙ none;
       };
-      kept = λ x e. subst (λ (T : List Standing). is_met (slice_get T x) ≡ true) (sym same_standings) (d.kept x e);
+      kept = λ x e. subst (λ (T : List SlotCount). is_met (slice_get T x) ≡ true) (sym same_standings) (d.kept x e);
     }
 
 pub may_descend : (cs : List ClassDef) (class : ℕ) (before after : Counting) (above : ℕ) → Climbed cs class before after above → MayDescend cs after above
@@ -310,10 +310,10 @@ pub visits_one : (cs : List ClassDef) (class : ℕ) (before between after : Coun
 visits_one cs class before between after above c v = record { idle = v.idle; kept = λ x e. v.kept x (c.kept x e); met = v.kept class c.met }
 
 -- all classes were met up to this one
-abbrev pub MetBelow : ℕ → List Standing → Type 0
+abbrev pub MetBelow : ℕ → List SlotCount → Type 0
 MetBelow n standings = (c : ℕ) → c < n → is_met (slice_get standings c) ≡ true
 
-pub met_none : (S : List Standing) → MetBelow 0 S
+pub met_none : (S : List SlotCount) → MetBelow 0 S
 met_none S c lt = absurd (omega (arith, lt))
 
 pub met_more : (cs : List ClassDef) (before after : Counting) (class : ℕ) → MetBelow class before.standings.items → VisitsOne cs class before after → MetBelow (class + 1) after.standings.items
@@ -322,11 +322,11 @@ met_more cs before after class below v c lt = elim (last_or_before c class lt) [
   | inr p ↦ subst (λ (x : ℕ). is_met (slice_get after.standings.items x) ≡ true) (sym p) v.met
 ]
 
-known_each : (S : List Standing) → ((c : ℕ) (s : Standing) → slice_get S c ≡ Some s → is_known (Some s) ≡ true) → all_known S ≡ true
+known_each : (S : List SlotCount) → ((c : ℕ) (s : SlotCount) → slice_get S c ≡ Some s → is_known (Some s) ≡ true) → all_known S ≡ true
 known_each [] all = refl
 known_each (s ∷ S) all = and_from (is_known (Some s)) (all_known S) (all 0 s refl) (known_each S (λ c t e. all (suc c) t e))
 
-known_by : (s : Standing) → is_met (Some s) ≡ true → (s ≡ OnWay → ⊥) → is_known (Some s) ≡ true
+known_by : (s : SlotCount) → is_met (Some s) ≡ true → (s ≡ OnWay → ⊥) → is_known (Some s) ≡ true
 known_by Unmet e none = absurd cc
 known_by OnWay e none = absurd (none refl)
 known_by (Known n) e none = refl
@@ -343,7 +343,7 @@ all_met cs c n idle below le =
     nothing x e = let none : IsOneOf x [] = subst (λ (way : List ℕ). IsOneOf x way) idle.nothing e in cc
 
 -- a count that has not begun
-unmet_at : (n x : ℕ) (s : Standing) → slice_get (replicate n Unmet) x ≡ Some s → s ≡ Unmet
+unmet_at : (n x : ℕ) (s : SlotCount) → slice_get (replicate n Unmet) x ≡ Some s → s ≡ Unmet
 unmet_at zero x s e = absurd cc
 unmet_at (suc n) zero s e = some_same s Unmet (sym e)
 unmet_at (suc n) (suc x) s e = unmet_at n x s e
@@ -374,4 +374,4 @@ pub over_counts : (cs : List ClassDef) (c : Counting) (ns : List ℕ) → IsOver
 over_counts cs c ns over are =
     let h : IsClimbing cs c None = over.idle.climbing in
     let many : length ns ≡ length cs = sym (ap length are ∙ counts_length ns) ∙ h.counted in
-    all_counted cs ns many (λ x n e. counts_are cs x n (let lt = under ns x n e in omega (arith, lt, many)) (h.known x n (ap (λ (S : List Standing). slice_get S x) are ∙ count_there ns x n e)))
+    all_counted cs ns many (λ x n e. counts_are cs x n (let lt = under ns x n e in omega (arith, lt, many)) (h.known x n (ap (λ (S : List SlotCount). slice_get S x) are ∙ count_there ns x n e)))

@@ -3,7 +3,7 @@ ghost use Rattle.std.specs.Prelude.{◌≡◌, ◌<◌, true, length, map, slice
 ghost use Rattle.fac_lang.specs.Classes.{parent_in, shape_at};
 ghost use Rattle.fac_graph.specs.Slots.{classes_end, own_slot_count, slot_counts};
 ghost use Rattle.fac_graph.specs.inner.Climbing.{Climbed, IsIdle, IsMet, IsOver, MayDescend, Visits, VisitsOne, all_known, is_known, known_or_none};
-ghost use Rattle.fac_graph.specs.declared.slots.Standing.TheVariants.{Known};
+ghost use Rattle.fac_graph.specs.declared.slots.SlotCount.TheVariants.{Known};
 
 use fac_base::{List, Memory};
 use fac_lang::{ClassDef, Shape};
@@ -11,7 +11,7 @@ use std::alloc::Global;
 
 // How far a class is counted.
 #[derive(Clone, Copy)]
-enum Standing {
+enum SlotCount {
     // It wasn't met.
     Unmet,
     // It is on the way up.
@@ -23,7 +23,7 @@ enum Standing {
 // What is counted so far.
 #[derive(Drop)]
 struct Counting {
-    standings: Vec<Standing>,
+    standings: Vec<SlotCount>,
     // The classes on the way up, each followed by its parent.
     way: Vec<u32>,
 }
@@ -55,12 +55,12 @@ fn own_slots(classes: &List<ClassDef>, class: u32) -> u32
 }
 
 // How far a class is counted. One that isn't there has no slots.
-fn standing_of(standings: &[Standing], class: u32) -> Standing
+fn standing_of(standings: &[SlotCount], class: u32) -> SlotCount
     ensures { result ≡ known_or_none (slice_get standings.now class) }
 {
     match standings.get(class as usize) {
         Some(standing) => *standing,
-        None => Standing::Known(0),
+        None => SlotCount::Known(0),
     }
 }
 
@@ -69,7 +69,7 @@ fn meet(counting: &mut Counting, class: u32) -> Result<(), Memory>
     requires { class < length counting.old.standings.items }
     ensures { IfOk result (λ met. IsMet class counting.old counting.new) }
 {
-    counting.standings[class as usize] = Standing::OnWay;
+    counting.standings[class as usize] = SlotCount::OnWay;
     counting.way.push(class)?;
     Ok(())
 }
@@ -83,9 +83,9 @@ fn climb(counting: &mut Counting, classes: &List<ClassDef>, class: u32) -> Resul
     let mut at = Some(class);
     while let Some(number) = at {
         match standing_of(counting.standings.as_slice(), number) {
-            Standing::Known(count) => return Ok(count),
-            Standing::OnWay => unreachable!(),
-            Standing::Unmet => {
+            SlotCount::Known(count) => return Ok(count),
+            SlotCount::OnWay => unreachable!(),
+            SlotCount::Unmet => {
                 meet(counting, number)?;
                 at = parent_of(classes, number);
             }
@@ -105,7 +105,7 @@ fn descend(counting: &mut Counting, classes: &List<ClassDef>, above: u32) -> Res
             Some(sum) => sum,
             None => return Err(Memory),
         };
-        counting.standings[class as usize] = Standing::Known(count);
+        counting.standings[class as usize] = SlotCount::Known(count);
     }
     Ok(())
 }
@@ -133,18 +133,18 @@ fn count_all(counting: &mut Counting, classes: &List<ClassDef>) -> Result<(), Me
 }
 
 // How many slots a class has that is counted. What is read of finished standings stands here and in components.rt, each for standings of its own type.
-fn count_of(standing: Standing) -> u32
+fn count_of(standing: SlotCount) -> u32
     requires { is_known (Some standing) ≡ true }
     ensures { standing ≡ Known result }
 {
     match standing {
-        Standing::Known(count) => count,
+        SlotCount::Known(count) => count,
         _ => unreachable!(),
     }
 }
 
 // How many slots each class has.
-fn counts_of(alloc: Global, standings: &[Standing]) -> Result<List<u32>, Memory>
+fn counts_of(alloc: Global, standings: &[SlotCount]) -> Result<List<u32>, Memory>
     requires { all_known standings.now ≡ true }
     ensures { IfOk result (λ counts. standings.now ≡ map Known counts) }
 {
@@ -162,7 +162,7 @@ pub fn slot_counts(alloc: Global, classes: &List<ClassDef>) -> Result<List<u32>,
     ensures { IfOk result (λ counts. counts ≡ slot_counts classes.now) }
 {
     let mut counting = Counting {
-        standings: vec![in alloc; Standing::Unmet; classes.as_slice().len()]?,
+        standings: vec![in alloc; SlotCount::Unmet; classes.as_slice().len()]?,
         way: Vec::new(alloc),
     };
     count_all(&mut counting, classes)?;

@@ -3,8 +3,8 @@ use Rattle.std.specs.Prelude.{◌≡◌, ◌<◌, ◌++◌, ℕ, zero, suc, List
 use Rattle.fac_lang.specs.declared.program.ClassDef.{ClassDef}
 use Rattle.fac_lang.specs.Classes.{shape_at, parent_in, slots_within}
 use Rattle.fac_graph.specs.Paths.{IsOneOf}
-use Rattle.fac_graph.specs.declared.slots.Standing.{Standing}
-use Rattle.fac_graph.specs.declared.slots.Standing.TheVariants.{Unmet, OnWay, Known}
+use Rattle.fac_graph.specs.declared.slots.SlotCount.{SlotCount}
+use Rattle.fac_graph.specs.declared.slots.SlotCount.TheVariants.{Unmet, OnWay, Known}
 use Rattle.fac_graph.specs.declared.slots.Counting.{Counting}
 
 -- what holds of the parent, where there is one
@@ -38,22 +38,22 @@ abbrev pub IsLine : List ClassDef → List ℕ → Option ℕ → Type 0
 IsLine cs [] at = Unit {0}
 IsLine cs (c ∷ way) at = (parent_in (shape_at cs c) ≡ first_or at way) × IsLine cs way at
 
-abbrev pub known_or_none : Option Standing → Standing
+abbrev pub known_or_none : Option SlotCount → SlotCount
 known_or_none None = Known 0
 known_or_none (Some s) = s
 
 -- whether a class was met; a number that isn't a class's counts as one that was
-abbrev pub is_met : Option Standing → Bool
+abbrev pub is_met : Option SlotCount → Bool
 is_met (Some Unmet) = false
 is_met _ = true
 
 -- whether it is counted
-abbrev pub is_known : Option Standing → Bool
+abbrev pub is_known : Option SlotCount → Bool
 is_known (Some (Known n)) = true
 is_known _ = false
 
 -- What is known where this class stands behind the way, or none.
-pub record Climbs (cs : List ClassDef) (standings : List Standing) (way : List ℕ) (at : Option ℕ) : Type 0 where
+pub record Climbs (cs : List ClassDef) (standings : List SlotCount) (way : List ℕ) (at : Option ℕ) : Type 0 where
   pub counted : length standings ≡ length cs
   pub known : (c n : ℕ) → slice_get standings c ≡ Some (Known n) → Counts cs c n
   pub on_way : (c : ℕ) → slice_get standings c ≡ Some OnWay → IsOneOf c way
@@ -74,7 +74,7 @@ pub record IsMet (class : ℕ) (before after : Counting) : Type 0 where
   pub way_is : after.way.items ≡ before.way.items ++ class ∷ []
 
 -- classes that were met stay so
-abbrev pub KeepsMet : List Standing → List Standing → Type 0
+abbrev pub KeepsMet : List SlotCount → List SlotCount → Type 0
 KeepsMet before after = (c : ℕ) → is_met (slice_get before c) ≡ true → is_met (slice_get after c) ≡ true
 
 -- the way up from this class has come to its end, or to a class that is counted, which has so many slots
@@ -103,7 +103,7 @@ pub record VisitsOne (cs : List ClassDef) (class : ℕ) (before after : Counting
   pub met : is_met (slice_get after.standings.items class) ≡ true
 
 -- whether all classes are counted
-abbrev pub all_known : List Standing → Bool
+abbrev pub all_known : List SlotCount → Bool
 all_known [] = true
 all_known (s ∷ standings) = is_known (Some s) && all_known standings
 

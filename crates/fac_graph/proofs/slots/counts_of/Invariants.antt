@@ -1,6 +1,6 @@
 use Rattle.std.proofs.Common.{◌≡◌, drop, take, map, true}
 use Rattle.fac_graph.specs.inner.Climbing.{all_known}
-use Rattle.fac_graph.specs.declared.slots.Standing.TheVariants.{Known}
+use Rattle.fac_graph.specs.declared.slots.SlotCount.TheVariants.{Known}
 use Rattle.fac_graph.proofs.slots.counts_of.Given as goal
 
 abbrev pub invariant-loop-standing : goal.invariant-loop-standing

@@ -3,7 +3,7 @@ use Rattle.std.proofs.Common.{◌≡◌, ℕ, ◌+◌, ◌++◌, ◌∷◌, [], 
 use Rattle.std.specs.Option.{option_to_list}
 use Rattle.fac_lang.specs.Classes.{shape_at}
 use Rattle.fac_graph.specs.Slots.{own_slot_count}
-use Rattle.fac_graph.specs.declared.slots.Standing.TheVariants.{Known}
+use Rattle.fac_graph.specs.declared.slots.SlotCount.TheVariants.{Known}
 use Rattle.fac_graph.proofs.ClimbLemmas.{last_there, descends_on}
 use Rattle.fac_graph.proofs.slots.descend.Goals as goal
 

@@ -1,6 +1,6 @@
 use Rattle.std.proofs.Common.{◌≡◌, List, ℕ, map, sym, ◌∙◌}
 use Rattle.fac_graph.specs.Slots.{slot_counts}
-use Rattle.fac_graph.specs.declared.slots.Standing.TheVariants.{Known}
+use Rattle.fac_graph.specs.declared.slots.SlotCount.TheVariants.{Known}
 use Rattle.fac_graph.proofs.ClimbLemmas.{if_ok, over_counts}
 use Rattle.fac_graph.proofs.slots.slot_counts.Goals as goal
 
