@@ -2,14 +2,14 @@
 ghost use Rattle.std.specs.Prelude.{◌≡◌, ◌<◌, true, length, map, IfOk, OnOk, slice_get, Some};
 ghost use Rattle.fac_graph.specs.Paths.{AreLeadingBack, one_of, successors};
 ghost use Rattle.fac_graph.specs.inner.Components.{Opens, Joins, Closes, IsExplored, IsIdle, IsOver, Steps, Follows, MayFollow, Visits, all_done, all_finished, are_below, behind_place, comes_back, is_done, last_of, standing_or_done};
-ghost use Rattle.fac_graph.specs.declared.components.Standing.TheVariants.{Unseen, Done};
+ghost use Rattle.fac_graph.specs.declared.components.Visit.TheVariants.{Unseen, Done};
 
 use fac_base::{List, Memory};
 use std::alloc::Global;
 
 // How far a search has come with a node.
 #[derive(Clone, Copy)]
-enum Standing {
+enum Visit {
     // It wasn't met.
     Unseen,
     // It is at this place of the path.
@@ -29,7 +29,7 @@ struct Component {
 // What a search has found.
 #[derive(Drop)]
 struct Search {
-    standings: Vec<Standing>,
+    standings: Vec<Visit>,
     // The open nodes, in the order in which they were met.
     path: Vec<u32>,
     // The components of the path.
@@ -67,7 +67,7 @@ fn open(search: &mut Search, edges: &List<List<u32>>, node: u32) -> Result<(), M
 {
     let first = search.path.len();
     let pending = search.pending.len();
-    search.standings[node as usize] = Standing::Open(first);
+    search.standings[node as usize] = Visit::Open(first);
     search.path.push(node)?;
     search.components.push(Component { first, pending })?;
     search
@@ -106,12 +106,12 @@ fn join(components: &mut Vec<Component>, place: usize)
 }
 
 // The standing of a node. A number that isn't a node's is done, since it leads nowhere.
-fn standing_of(standings: &[Standing], node: u32) -> Standing
+fn standing_of(standings: &[Visit], node: u32) -> Visit
     ensures { result ≡ standing_or_done (slice_get standings.now node) }
 {
     match standings.get(node as usize) {
         Some(standing) => *standing,
-        None => Standing::Done(false),
+        None => Visit::Done(false),
     }
 }
 
@@ -121,12 +121,12 @@ fn follow(search: &mut Search, edges: &List<List<u32>>, node: u32) -> Result<(),
     ensures { OnOk result (Follows edges.now search.old search.new) }
 {
     match standing_of(search.standings.as_slice(), node) {
-        Standing::Unseen => open(search, edges, node),
-        Standing::Open(place) => {
+        Visit::Unseen => open(search, edges, node),
+        Visit::Open(place) => {
             join(&mut search.components, place);
             Ok(())
         }
-        Standing::Done(_) => Ok(()),
+        Visit::Done(_) => Ok(()),
     }
 }
 
@@ -139,13 +139,13 @@ fn leads_back(edges: &List<List<u32>>, path: &[u32], first: usize) -> bool
 }
 
 // Finishes nodes.
-fn finish(standings: &mut Vec<Standing>, nodes: &[u32], back: bool)
+fn finish(standings: &mut Vec<Visit>, nodes: &[u32], back: bool)
     requires { are_below (length standings.old.items) nodes.now ≡ true }
     ensures { standings.new.items ≡ all_done back nodes.now standings.old.items }
 {
     for node in nodes {
         let next = *node as usize;
-        standings[next] = Standing::Done(back);
+        standings[next] = Visit::Done(back);
     }
 }
 
@@ -198,9 +198,9 @@ fn visit(search: &mut Search, edges: &List<List<u32>>, node: u32) -> Result<(), 
     ensures { OnOk result (Visits edges.now node search.old search.new) }
 {
     match standing_of(search.standings.as_slice(), node) {
-        Standing::Unseen => explore(search, edges, node),
-        Standing::Open(_) => Ok(()),
-        Standing::Done(_) => Ok(()),
+        Visit::Unseen => explore(search, edges, node),
+        Visit::Open(_) => Ok(()),
+        Visit::Done(_) => Ok(()),
     }
 }
 
@@ -216,18 +216,18 @@ fn visit_all(search: &mut Search, edges: &List<List<u32>>) -> Result<(), Memory>
 }
 
 // Whether a node that is done leads back to itself. slots.rt has the same for its standings, which are of another type.
-fn flag_of(standing: Standing) -> bool
+fn flag_of(standing: Visit) -> bool
     requires { is_done (Some standing) ≡ true }
     ensures { standing ≡ Done result }
 {
     match standing {
-        Standing::Done(back) => back,
+        Visit::Done(back) => back,
         _ => unreachable!(),
     }
 }
 
 // For each node whether it leads back to itself.
-fn flags_of(alloc: Global, standings: &[Standing]) -> Result<List<bool>, Memory>
+fn flags_of(alloc: Global, standings: &[Visit]) -> Result<List<bool>, Memory>
     requires { all_finished standings.now ≡ true }
     ensures { IfOk result (λ flags. standings.now ≡ map Done flags) }
 {
@@ -245,7 +245,7 @@ pub fn leading_back(alloc: Global, edges: &List<List<u32>>) -> Result<List<bool>
     ensures { IfOk result (AreLeadingBack edges.now) }
 {
     let mut search = Search {
-        standings: vec![in alloc; Standing::Unseen; edges.as_slice().len()]?,
+        standings: vec![in alloc; Visit::Unseen; edges.as_slice().len()]?,
         path: Vec::new(alloc),
         components: Vec::new(alloc),
         pending: Vec::new(alloc),
