@@ -17,12 +17,12 @@ use Rattle.fac_abs.proofs.CallerLemmas.{popped_none, popped_some}
 use Rattle.fac_abs.specs.InTurn.{under, taken, moved}
 use Rattle.fac_abs.specs.SeenMarks.{MarksSeen}
 use Rattle.fac_check.specs.inner.Walking.{IsDoing, IsDoingOf, is_defined, only}
-use Rattle.fac_check.specs.declared.doing.Doing.{Doing}
-use Rattle.fac_check.specs.declared.doing.Doing.TheVariants.{Breaks, Ends, Gives, Leaves, Expands, Again, Walks, Forks, Uses}
+use Rattle.fac_check.specs.declared.doing.Transfer.{Transfer}
+use Rattle.fac_check.specs.declared.doing.Transfer.TheVariants.{Breaks, Ends, Gives, Leaves, Expands, Again, Walks, Forks, Uses}
 use Rattle.fac_check.specs.Flow.{Doing as DoingAtOnce, breaks, gives, forks, uses, callable_or, by_height, marks_moved, mark_made, core_doing, row_doing}
 
 -- what expands and uses none of some words is of any others
-pub doing_of : (words : ℕ → Option WordDef) (M : MarksSeen) (D : Doing) → IsDoing M D → IsDoingOf words M D
+pub doing_of : (words : ℕ → Option WordDef) (M : MarksSeen) (D : Transfer) → IsDoing M D → IsDoingOf words M D
 doing_of words M (Breaks r) h = tt
 doing_of words M Ends h = tt
 doing_of words M (Gives s) h = h
@@ -41,7 +41,7 @@ only_word : (w v : ℕ) (d : WordDef) (words : ℕ → Option WordDef) → words
 only_word w v d words e h = (let same = only_defined w v d (nat_eq v w) refl h in same.1 ∙ sym e ∙ ap words (sym same.0))
 
 -- what is of one word alone is of all words where it is the word with its number
-pub doing_of_one : (w : ℕ) (d : WordDef) (words : ℕ → Option WordDef) (M : MarksSeen) (D : Doing) → words w ≡ Some d → IsDoingOf (only w d) M D → IsDoingOf words M D
+pub doing_of_one : (w : ℕ) (d : WordDef) (words : ℕ → Option WordDef) (M : MarksSeen) (D : Transfer) → words w ≡ Some d → IsDoingOf (only w d) M D → IsDoingOf words M D
 doing_of_one w d words M (Breaks r) e h = tt
 doing_of_one w d words M Ends e h = tt
 doing_of_one w d words M (Gives s) e h = h

@@ -8,15 +8,15 @@ use Rattle.fac_abs.specs.MarkTrees.{Naming}
 use Rattle.fac_abs.specs.SeenMarks.{MarksSeen, Grows, mark_of, stack_of, base_seen}
 use Rattle.fac_check.specs.Flow.{gives, expands, walks, forks, again, uses}
 use Rattle.fac_check.specs.inner.Walking.{IsDoingOf, IsActOf, AreMarks, doing_seen, marks_of_option, phrase_of, effect_of}
-use Rattle.fac_check.specs.declared.doing.Doing.{Doing}
-use Rattle.fac_check.specs.declared.doing.Doing.TheVariants.{Breaks, Ends, Gives, Leaves, Expands, Again, Walks, Forks, Uses}
+use Rattle.fac_check.specs.declared.doing.Transfer.{Transfer}
+use Rattle.fac_check.specs.declared.doing.Transfer.TheVariants.{Breaks, Ends, Gives, Leaves, Expands, Again, Walks, Forks, Uses}
 
 marks_later : (M L : MarksSeen) (back : Option ℕ) → Grows M L → AreMarks M back → AreMarks L back
 marks_later M L None g h = tt
 marks_later M L (Some m) g h = g.marks m h
 
 -- the numbers are still there
-pub doing_later : (words : ℕ → Option WordDef) (M L : MarksSeen) (D : Doing) → Grows M L → IsDoingOf words M D → IsDoingOf words L D
+pub doing_later : (words : ℕ → Option WordDef) (M L : MarksSeen) (D : Transfer) → Grows M L → IsDoingOf words M D → IsDoingOf words L D
 doing_later words M L (Breaks r) g h = tt
 doing_later words M L Ends g h = tt
 doing_later words M L (Gives s) g h = g.stacks s h
@@ -27,7 +27,7 @@ doing_later words M L (Walks m s back) g h = (g.marks m h.0, g.stacks s h.1, mar
 doing_later words M L (Forks m n s) g h = (g.marks m h.0, g.marks n h.1, g.stacks s h.2)
 doing_later words M L (Uses w i r) g h = (h.0, g.stacks i h.1, g.stacks r h.2)
 
-pub act_later : (words : ℕ → Option WordDef) (M L : MarksSeen) (D : Doing) → Grows M L → IsActOf words M D → IsActOf words L D
+pub act_later : (words : ℕ → Option WordDef) (M L : MarksSeen) (D : Transfer) → Grows M L → IsActOf words M D → IsActOf words L D
 act_later words M L (Again w s) g h = absurd h
 act_later words M L (Breaks r) g h = tt
 act_later words M L Ends g h = tt
@@ -39,7 +39,7 @@ act_later words M L (Forks m n s) g h = (g.marks m h.0, g.marks n h.1, g.stacks 
 act_later words M L (Uses w i r) g h = (h.0, g.stacks i h.1, g.stacks r h.2)
 
 -- where no word is found by `execute`, it is what an item does
-pub act_is_doing : (words : ℕ → Option WordDef) (M : MarksSeen) (D : Doing) → IsActOf words M D → IsDoingOf words M D
+pub act_is_doing : (words : ℕ → Option WordDef) (M : MarksSeen) (D : Transfer) → IsActOf words M D → IsDoingOf words M D
 act_is_doing words M (Again w s) h = absurd h
 act_is_doing words M (Breaks r) h = h
 act_is_doing words M Ends h = h
@@ -56,7 +56,7 @@ module _ (N : Naming) (words : ℕ → Option WordDef) (b : Option Row) (M L : M
   back_stays (Some m) g h = ap (λ (x : Mark). x ∷ []) (g.same_mark N m h)
 
   -- and what they stand for
-  pub doing_stays : (others : ℕ → Option WordDef) (D : Doing) → Grows M L → IsDoingOf others M D → doing_seen N L words b D ≡ doing_seen N M words b D
+  pub doing_stays : (others : ℕ → Option WordDef) (D : Transfer) → Grows M L → IsDoingOf others M D → doing_seen N L words b D ≡ doing_seen N M words b D
   doing_stays others (Breaks r) g h = refl
   doing_stays others Ends g h = refl
   doing_stays others (Gives s) g h = ap (λ ms. gives (on b ms)) (g.same_stack N s h)

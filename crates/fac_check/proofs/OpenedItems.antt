@@ -18,7 +18,7 @@ use Rattle.fac_check.specs.Flow.{Doing as DoingAtOnce, breaks, gives, needing, d
 use Rattle.fac_check.specs.inner.Alone.{literal_number, StandsAt}
 use Rattle.fac_check.specs.inner.Walking.{Opened, NamesTemplate, Captures, MakesLiteral, PutsMark, doing_seen, items_of}
 use Rattle.fac_abs.specs.MarkPromises.{IsMarkOf, IsFrameOf}
-use Rattle.fac_check.specs.declared.doing.Doing.{Doing}
+use Rattle.fac_check.specs.declared.doing.Transfer.{Transfer}
 use Rattle.fac_check.proofs.StandingItems.{made_literal, made_template}
 
 -- An item that a frame changes nothing of opens to itself.
@@ -146,7 +146,7 @@ pub needing_takes : (n : ℕ) (ms taken rest : List Mark) (go : List Mark → Li
 needing_takes n ms taken rest go there = subst (λ (q : Option (List Mark × List Mark)). go taken rest ≡ (elim q [ Some r ↦ go r.0 r.1 | None ↦ breaks (Underflow n (length ms)) ])) (sym there) refl
 
 -- a literal of these cells and of what a stack's top marks are
-pub fry_makes : (M L C T K : MarksSeen) (s k g n inputs rest cells mark : ℕ) (D : Doing) → Grows M L → Grows L C → Grows C T → IsFrame M g → IsStack L rest → ((N : Naming) → popped n [] (stack_of N M s) ≡ Some (stack_of N L inputs, stack_of N L rest)) → IsFrameOf C cells (λ N. piled (stack_of N L inputs) (frame_of N L g)) → IsMarkOf T mark (λ N. limited (lit_mark (N.literal k) (N.phrase k (frame_of N C cells)))) → PutsMark T K rest (λ N. mark_of N T mark) D → MakesLiteral M K s k g n D
+pub fry_makes : (M L C T K : MarksSeen) (s k g n inputs rest cells mark : ℕ) (D : Transfer) → Grows M L → Grows L C → Grows C T → IsFrame M g → IsStack L rest → ((N : Naming) → popped n [] (stack_of N M s) ≡ Some (stack_of N L inputs, stack_of N L rest)) → IsFrameOf C cells (λ N. piled (stack_of N L inputs) (frame_of N L g)) → IsMarkOf T mark (λ N. limited (lit_mark (N.literal k) (N.phrase k (frame_of N C cells)))) → PutsMark T K rest (λ N. mark_of N T mark) D → MakesLiteral M K s k g n D
 fry_makes M L C T K s k g n inputs rest cells mark D first second third frame below takes filled makes puts = λ N words b.
     let stays : stack_of N T rest ≡ stack_of N L rest = third.same_stack N rest (second.stacks rest below) ∙ second.same_stack N rest below in
     let same_cells : frame_of N C cells ≡ piled (stack_of N L inputs) (frame_of N M g) = filled.is N ∙ ap (piled (stack_of N L inputs)) (first.same_frame N g frame) in
@@ -156,7 +156,7 @@ fry_makes M L C T K s k g n inputs rest cells mark D first second third frame be
     ∙ needing_takes n (stack_of N M s) (stack_of N L inputs) (stack_of N L rest) (λ taken rest. gives (on b (limited (lit_mark (N.literal k) (N.phrase k (piled taken (frame_of N M g)))) ∷ rest))) (takes N)
 
 -- The value of a cell.
-module _ {C : Program} {templates : List Template} {own : Option ℕ} {inner : ℕ} (O : Opened C templates own inner) (M L : MarksSeen) (b : Option ℕ) (s g k : ℕ) (D : Doing) where
+module _ {C : Program} {templates : List Template} {own : Option ℕ} {inner : ℕ} (O : Opened C templates own inner) (M L : MarksSeen) (b : Option ℕ) (s g k : ℕ) (D : Transfer) where
   pub local_does : (m : ℕ) → slice_get (piled (frame_of O.naming M g) []) k ≡ Some (mark_of O.naming M m) → PutsMark M L s (λ N. mark_of N M m) D → (at here : Literal) (i : Item) → OpensItem O.program templates (items_of (frame_of O.naming M g)) at (local k) i → doing_seen O.naming L (slice_get O.program.words) (base_seen O.naming b) D ≡ doing O.program O.word here i (base_seen O.naming b) (stack_of O.naming M s)
   local_does m cell puts at here i opens =
       let there : Some i ≡ Some (known (mark_of O.naming M m)) = sym (opens_local k i opens) ∙ item_there (frame_of O.naming M g) k ∙ ap (option_map known) cell in
@@ -168,7 +168,7 @@ pub no_local : {C : Program} {templates : List Template} {own : Option ℕ} {inn
 no_local O M g k cell at i opens = (let clash : Some i ≡ None = sym (opens_local k i opens) ∙ item_there (frame_of O.naming M g) k ∙ ap (option_map known) cell in absurd (cc))
 
 -- A literal with the marks of its captures and holes does what each does that a template opens to.
-module _ {C : Program} {templates : List Template} {own : Option ℕ} {inner : ℕ} (O : Opened C templates own inner) (M L K : MarksSeen) (alone : Bool) (k : ℕ) (t : Template) (there : slice_get templates k ≡ Some t) (b : Option ℕ) (s g h : ℕ) (grows : Grows M L) (stack : IsStack M s) (captures : Captures M L g t.captures (Some h)) (D : Doing) (makes : MakesLiteral L K s (literal_number (length templates) alone k) h t.holes D) where
+module _ {C : Program} {templates : List Template} {own : Option ℕ} {inner : ℕ} (O : Opened C templates own inner) (M L K : MarksSeen) (alone : Bool) (k : ℕ) (t : Template) (there : slice_get templates k ≡ Some t) (b : Option ℕ) (s g h : ℕ) (grows : Grows M L) (stack : IsStack M s) (captures : Captures M L g t.captures (Some h)) (D : Transfer) (makes : MakesLiteral L K s (literal_number (length templates) alone k) h t.holes D) where
   abbrev N : Naming
   N = O.naming
 

@@ -26,7 +26,7 @@ use Rattle.fac_check.specs.declared.subject.Subject.{Subject}
 use Rattle.fac_check.specs.declared.walker.Step.{Step}
 use Rattle.fac_check.proofs.OpenedItems.{items_more}
 use Rattle.fac_abs.specs.declared.reached.Reached.TheVariants.{Dead, On}
-use Rattle.fac_check.specs.declared.doing.Doing.{Doing}
+use Rattle.fac_check.specs.declared.doing.Transfer.{Transfer}
 use Rattle.fac_check.specs.declared.walker.Walked.{Walked}
 use Rattle.fac_check.specs.declared.walker.Walked.TheVariants.{Found, Refused}
 use Rattle.fac_check.proofs.StepByStep.{rest, walk_on_rest}
@@ -199,7 +199,7 @@ no_bind (w_bind x) f = absurd (f x refl)
 no_bind _ f = refl
 
 -- the walk of an item that binds no local, by what it does
-pub one_walks : (subject : Subject) (M K L : MarksSeen) (c : Item) (s : Step) (D : Doing) (W : Walked) → binds c ≡ false → DoesItem subject M K s.alone s.base s.stack s.frame c D → IsWalkOfDoing subject K L D s W → IsWalkOfOne subject M L c s W
+pub one_walks : (subject : Subject) (M K L : MarksSeen) (c : Item) (s : Step) (D : Transfer) (W : Walked) → binds c ≡ false → DoesItem subject M K s.alone s.base s.stack s.frame c D → IsWalkOfDoing subject K L D s W → IsWalkOfOne subject M L c s W
 one_walks subject M K L (bind k) s D W e does walks = absurd (cc)
 one_walks subject M K L c s D W e does walks = λ O at here i f stands h l. record {
   names_none = subst NamesNone (does O at here i stands h) (names_none O.naming K (slice_get O.program.words) (base_seen O.naming s.base) D);

@@ -33,7 +33,7 @@ use fac_rows::{
 
 /// What an item does at once, with marks and stacks by their numbers. A stack stays on its base, but for `Leaves`.
 #[derive(Clone, Copy)]
-pub enum Doing {
+pub enum Transfer {
     /// It breaks a rule before it counts.
     Breaks(Rule),
     /// It never returns. Nothing is walked after it.
@@ -81,36 +81,36 @@ pub enum Doing {
 #[derive(Clone, Copy)]
 pub enum Executed {
     /// It does this, and so many items may be walked then.
-    Does(Doing, u32),
+    Does(Transfer, u32),
     /// It breaks this rule.
     Stops(Rule),
 }
 
 // An item that needs more values than there are.
-fn underflow(marks: &Marks, stack: u32, needs: u32) -> Doing
+fn underflow(marks: &Marks, stack: u32, needs: u32) -> Transfer
     requires { IsStack marks.now stack }
     ensures there { IsDoing marks.now result }
     ensures does { DoesAs marks.now marks.now stack result (lacks needs) }
 {
     let has = marks.height(stack);
-    Doing::Breaks(Rule::Underflow { needs, has })
+    Transfer::Breaks(Rule::Underflow { needs, has })
 }
 
 // Puts a mark on a stack.
-fn put(marks: &mut Marks, stack: u32, mark: u32) -> Result<Doing, Memory>
+fn put(marks: &mut Marks, stack: u32, mark: u32) -> Result<Transfer, Memory>
     requires stack { IsStack marks.old stack }
     requires mark { IsMark marks.old mark }
     ensures grows { Grows marks.old marks.new }
     ensures there { IfOk result (λ doing. IsDoing marks.new doing) }
     ensures does { IfOk result (λ doing. PutsMark marks.old marks.new stack (λ N. mark_of N marks.old mark) doing) }
 {
-    Ok(Doing::Gives {
+    Ok(Transfer::Gives {
         stack: marks.push(stack, mark)?,
     })
 }
 
 // Takes so many values and leaves unknown ones, or never returns.
-fn by_height(marks: &mut Marks, stack: u32, height: Height) -> Result<Doing, Memory>
+fn by_height(marks: &mut Marks, stack: u32, height: Height) -> Result<Transfer, Memory>
     requires { IsStack marks.old stack }
     ensures grows { Grows marks.old marks.new }
     ensures there { IfOk result (λ doing. IsDoing marks.new doing) }
@@ -119,8 +119,8 @@ fn by_height(marks: &mut Marks, stack: u32, height: Height) -> Result<Doing, Mem
     match marks.below(stack, height.ins) {
         None => Ok(underflow(marks, stack, height.ins)),
         Some(rest) => match height.outs {
-            None => Ok(Doing::Ends),
-            Some(outs) => Ok(Doing::Gives {
+            None => Ok(Transfer::Ends),
+            Some(outs) => Ok(Transfer::Gives {
                 stack: marks.unknowns(rest, outs as u64)?,
             }),
         },
@@ -138,21 +138,21 @@ fn pop_two(marks: &Marks, stack: u32) -> Option<(u32, u32, u32)>
 }
 
 // A shuffle, which takes so many values and leaves those at these places.
-fn shuffle(marks: &mut Marks, stack: u32, takes: u32, leaves: &[u32]) -> Result<Doing, Memory>
+fn shuffle(marks: &mut Marks, stack: u32, takes: u32, leaves: &[u32]) -> Result<Transfer, Memory>
     requires { IsStack marks.old stack }
     ensures grows { Grows marks.old marks.new }
     ensures there { IfOk result (λ doing. IsDoing marks.new doing) }
     ensures does { IfOk result (λ doing. DoesAs marks.old marks.new stack doing (marks_moved takes leaves.now)) }
 {
     match marks.shuffle(stack, takes, leaves)? {
-        Some(moved) => Ok(Doing::Gives { stack: moved }),
+        Some(moved) => Ok(Transfer::Gives { stack: moved }),
         None => Ok(underflow(marks, stack, takes)),
     }
 }
 
 // `curry`
 #[tactic(auto, using(fac_abs::proofs::SeenLemmas::grows_trans))]
-fn curry(marks: &mut Marks, stack: u32) -> Result<Doing, Memory>
+fn curry(marks: &mut Marks, stack: u32) -> Result<Transfer, Memory>
     requires { IsStack marks.old stack }
     ensures grows { Grows marks.old marks.new }
     ensures there { IfOk result (λ doing. IsDoing marks.new doing) }
@@ -169,7 +169,7 @@ fn curry(marks: &mut Marks, stack: u32) -> Result<Doing, Memory>
 
 // `compose`, as `curry`: each has a call and a definition of its own.
 #[tactic(auto, using(fac_abs::proofs::SeenLemmas::grows_trans))]
-fn compose(marks: &mut Marks, stack: u32) -> Result<Doing, Memory>
+fn compose(marks: &mut Marks, stack: u32) -> Result<Transfer, Memory>
     requires { IsStack marks.old stack }
     ensures grows { Grows marks.old marks.new }
     ensures there { IfOk result (λ doing. IsDoing marks.new doing) }
@@ -185,7 +185,7 @@ fn compose(marks: &mut Marks, stack: u32) -> Result<Doing, Memory>
 }
 
 // `call`
-fn call(marks: &Marks, stack: u32) -> Doing
+fn call(marks: &Marks, stack: u32) -> Transfer
     requires { IsStack marks.now stack }
     ensures there { IsDoing marks.now result }
     ensures does { (P : ProgramSeen) → DoesAs marks.now marks.now stack result (core_doing P CoreWord.Call) }
@@ -193,13 +193,13 @@ fn call(marks: &Marks, stack: u32) -> Doing
     match marks.pop(stack) {
         Some((mark, rest)) => {
             if marks.is_callable(mark) {
-                Doing::Walks {
+                Transfer::Walks {
                     mark,
                     stack: rest,
                     back: None,
                 }
             } else {
-                Doing::Breaks(Rule::NotKnown)
+                Transfer::Breaks(Rule::NotKnown)
             }
         }
         None => underflow(marks, stack, 1),
@@ -207,7 +207,7 @@ fn call(marks: &Marks, stack: u32) -> Doing
 }
 
 // `dip`
-fn dip(marks: &Marks, stack: u32) -> Doing
+fn dip(marks: &Marks, stack: u32) -> Transfer
     requires { IsStack marks.now stack }
     ensures there { IsDoing marks.now result }
     ensures does { (P : ProgramSeen) → DoesAs marks.now marks.now stack result (core_doing P CoreWord.Dip) }
@@ -215,13 +215,13 @@ fn dip(marks: &Marks, stack: u32) -> Doing
     match pop_two(marks, stack) {
         Some((value, mark, rest)) => {
             if marks.is_callable(mark) {
-                Doing::Walks {
+                Transfer::Walks {
                     mark,
                     stack: rest,
                     back: Some(value),
                 }
             } else {
-                Doing::Breaks(Rule::NotKnown)
+                Transfer::Breaks(Rule::NotKnown)
             }
         }
         None => underflow(marks, stack, 2),
@@ -239,7 +239,7 @@ fn pop_branches(marks: &Marks, stack: u32) -> Option<(u32, u32, u32)>
 }
 
 // `if`
-fn branch(marks: &Marks, stack: u32) -> Doing
+fn branch(marks: &Marks, stack: u32) -> Transfer
     requires { IsStack marks.now stack }
     ensures there { IsDoing marks.now result }
     ensures does { (P : ProgramSeen) → DoesAs marks.now marks.now stack result (core_doing P CoreWord.If) }
@@ -247,12 +247,12 @@ fn branch(marks: &Marks, stack: u32) -> Doing
     match pop_branches(marks, stack) {
         Some((first, second, stack)) => {
             if !marks.is_callable(first) {
-                return Doing::Breaks(Rule::NotKnown);
+                return Transfer::Breaks(Rule::NotKnown);
             }
             if !marks.is_callable(second) {
-                return Doing::Breaks(Rule::NotKnown);
+                return Transfer::Breaks(Rule::NotKnown);
             }
-            Doing::Forks {
+            Transfer::Forks {
                 first,
                 second,
                 stack,
@@ -278,15 +278,15 @@ fn word_of(marks: &Marks, mark: u32) -> Option<u32>
 }
 
 // `execute`
-fn execute(marks: &Marks, stack: u32) -> Doing
+fn execute(marks: &Marks, stack: u32) -> Transfer
     requires { IsStack marks.now stack }
     ensures there { IsDoing marks.now result }
     ensures does { (P : ProgramSeen) → DoesAs marks.now marks.now stack result (core_doing P CoreWord.Execute) }
 {
     match marks.pop(stack) {
         Some((mark, rest)) => match word_of(marks, mark) {
-            Some(word) => Doing::Again { word, stack: rest },
-            None => Doing::Breaks(Rule::NotKnown),
+            Some(word) => Transfer::Again { word, stack: rest },
+            None => Transfer::Breaks(Rule::NotKnown),
         },
         None => underflow(marks, stack, 1),
     }
@@ -329,7 +329,7 @@ fn slots_of_word(closed: &Closed, word: u32) -> Option<u32>
 }
 
 // Makes a tuple of so many values below the class that is on top.
-fn tuple(marks: &mut Marks, stack: u32, rest: u32, slots: Option<u32>) -> Result<Doing, Memory>
+fn tuple(marks: &mut Marks, stack: u32, rest: u32, slots: Option<u32>) -> Result<Transfer, Memory>
     requires stack { IsStack marks.old stack }
     requires rest { IsStack marks.old rest }
     requires top { (N : Naming) → length (stack_of N marks.old stack) ≡ suc (length (stack_of N marks.old rest)) }
@@ -338,16 +338,16 @@ fn tuple(marks: &mut Marks, stack: u32, rest: u32, slots: Option<u32>) -> Result
     ensures does { IfOk result (λ doing. DoesAs marks.old marks.new rest doing (makes_counted slots)) }
 {
     let Some(count) = slots else {
-        return Ok(Doing::Breaks(Rule::NotAClass));
+        return Ok(Transfer::Breaks(Rule::NotAClass));
     };
     match marks.below(rest, count) {
-        Some(below) => Ok(Doing::Gives {
+        Some(below) => Ok(Transfer::Gives {
             stack: marks.unknowns(below, 1)?,
         }),
         None => {
             let needs = one_more(count)?;
             let has = marks.height(stack);
-            Ok(Doing::Breaks(Rule::Underflow { needs, has }))
+            Ok(Transfer::Breaks(Rule::Underflow { needs, has }))
         }
     }
 }
@@ -363,7 +363,7 @@ fn one_more(number: u32) -> Result<u32, Memory>
 }
 
 // `boa`
-fn boa(closed: &Closed, marks: &mut Marks, stack: u32) -> Result<Doing, Memory>
+fn boa(closed: &Closed, marks: &mut Marks, stack: u32) -> Result<Transfer, Memory>
     requires { IsStack marks.old stack }
     ensures grows { Grows marks.old marks.new }
     ensures there { IfOk result (λ doing. IsDoing marks.new doing) }
@@ -372,14 +372,14 @@ fn boa(closed: &Closed, marks: &mut Marks, stack: u32) -> Result<Doing, Memory>
     match marks.pop(stack) {
         Some((mark, rest)) => match word_of(marks, mark) {
             Some(word) => tuple(marks, stack, rest, slots_of_word(closed, word)),
-            None => Ok(Doing::Breaks(Rule::NotKnown)),
+            None => Ok(Transfer::Breaks(Rule::NotKnown)),
         },
         None => Ok(underflow(marks, stack, 1)),
     }
 }
 
 // A core word. `cond` is read with its literal, and is known nowhere else.
-fn core(closed: &Closed, marks: &mut Marks, stack: u32, word: CoreWord) -> Result<Doing, Memory>
+fn core(closed: &Closed, marks: &mut Marks, stack: u32, word: CoreWord) -> Result<Transfer, Memory>
     requires { IsStack marks.old stack }
     ensures grows { Grows marks.old marks.new }
     ensures there { IfOk result (λ doing. IsDoing marks.new doing) }
@@ -391,7 +391,7 @@ fn core(closed: &Closed, marks: &mut Marks, stack: u32, word: CoreWord) -> Resul
         CoreWord::If => Ok(branch(marks, stack)),
         CoreWord::Execute => Ok(execute(marks, stack)),
         CoreWord::Boa => boa(closed, marks, stack),
-        CoreWord::Cond => Ok(Doing::Breaks(Rule::NotKnown)),
+        CoreWord::Cond => Ok(Transfer::Breaks(Rule::NotKnown)),
     }
 }
 
@@ -402,7 +402,7 @@ fn storing(
     number: u32,
     operation: Storing,
     height: Height,
-) -> Result<Doing, Memory>
+) -> Result<Transfer, Memory>
     requires stack { IsStack marks.old stack }
     requires operation { IsOperationOf number (Operation.Storing operation) }
     ensures grows { Grows marks.old marks.new }
@@ -417,7 +417,7 @@ fn storing(
 }
 
 // A primitive, where this is how many values its word takes and leaves by its effect.
-fn primitive(marks: &mut Marks, stack: u32, number: u32, height: Height) -> Result<Doing, Memory>
+fn primitive(marks: &mut Marks, stack: u32, number: u32, height: Height) -> Result<Transfer, Memory>
     requires stack { IsStack marks.old stack }
     requires number { number < built_count }
     ensures grows { Grows marks.old marks.new }
@@ -458,7 +458,7 @@ fn own_call(
     base: Option<u32>,
     stack: u32,
     effect: &Effect,
-) -> Result<Doing, Memory>
+) -> Result<Transfer, Memory>
     requires few { (effect_height effect.now).ins ≤ MOST_EFFECT_NAMES }
     requires stack { IsStack marks.old stack }
     ensures grows { Grows marks.old marks.new }
@@ -466,14 +466,14 @@ fn own_call(
     ensures does { IfOk result (λ doing. DoesOwnCall marks.old marks.new base stack effect.now doing) }
 {
     match own_call_of(marks, effect, base, stack)? {
-        Called::Breaks(rule) => Ok(Doing::Breaks(rule)),
-        Called::Leaves(Reached::Dead) => Ok(Doing::Ends),
-        Called::Leaves(Reached::On { base, stack }) => Ok(Doing::Leaves { base, stack }),
+        Called::Breaks(rule) => Ok(Transfer::Breaks(rule)),
+        Called::Leaves(Reached::Dead) => Ok(Transfer::Ends),
+        Called::Leaves(Reached::On { base, stack }) => Ok(Transfer::Leaves { base, stack }),
     }
 }
 
 // A use of a row word that isn't the one that is checked. Where its rows can't be bound, it is dead once its inputs are there.
-fn row_use(marks: &mut Marks, stack: u32, number: u32, word: &WordDef) -> Result<Doing, Memory>
+fn row_use(marks: &mut Marks, stack: u32, number: u32, word: &WordDef) -> Result<Transfer, Memory>
     requires stack { IsStack marks.old stack }
     requires word { (top : ℕ) × (count : ℕ) × (takes_word top count word.now ≡ true) }
     requires phrase { has_phrase word.now.sort ≡ true }
@@ -485,12 +485,12 @@ fn row_use(marks: &mut Marks, stack: u32, number: u32, word: &WordDef) -> Result
         None => Ok(underflow(marks, stack, word.effect.inputs() as u32)),
         Some(taken) => {
             if !bindable(&word.effect) {
-                return Ok(Doing::Ends);
+                return Ok(Transfer::Ends);
             }
             if !known_inputs(marks, &word.effect, taken.inputs) {
-                return Ok(Doing::Breaks(Rule::NotKnown));
+                return Ok(Transfer::Breaks(Rule::NotKnown));
             }
-            Ok(Doing::Uses {
+            Ok(Transfer::Uses {
                 word: number,
                 inputs: taken.inputs,
                 rest: taken.rest,
@@ -507,7 +507,7 @@ fn defined(
     stack: u32,
     number: u32,
     word: &WordDef,
-) -> Result<Doing, Memory>
+) -> Result<Transfer, Memory>
     requires stack { IsStack marks.old stack }
     requires word { (top : ℕ) × (count : ℕ) × (takes_word top count word.now ≡ true) }
     requires phrase { has_phrase word.now.sort ≡ true }
@@ -519,7 +519,7 @@ fn defined(
         return by_height(marks, stack, height_of(word));
     }
     if !is_row_word(word) {
-        return Ok(Doing::Expands {
+        return Ok(Transfer::Expands {
             word: number,
             stack,
         });
@@ -532,7 +532,7 @@ fn defined(
 
 // A word as a value, by its number.
 #[tactic(auto, using(fac_abs::proofs::SeenLemmas::grows_trans))]
-fn reference(marks: &mut Marks, stack: u32, word: u32) -> Result<Doing, Memory>
+fn reference(marks: &mut Marks, stack: u32, word: u32) -> Result<Transfer, Memory>
     requires { IsStack marks.old stack }
     ensures grows { Grows marks.old marks.new }
     ensures there { IfOk result (λ doing. IsDoing marks.new doing) }
@@ -550,7 +550,7 @@ fn word_item(
     stack: u32,
     number: u32,
     word: &WordDef,
-) -> Result<Doing, Memory>
+) -> Result<Transfer, Memory>
     requires stack { IsStack marks.old stack }
     requires word { (top : ℕ) × (count : ℕ) × (takes_word top count word.now ≡ true) }
     ensures grows { Grows marks.old marks.new }
@@ -567,7 +567,7 @@ fn word_item(
         Sort::Isa(_) | Sort::Getter(_) | Sort::Setter(_) | Sort::Putter(_) | Sort::Generic => {
             by_height(marks, stack, height_of(word))
         }
-        Sort::Past(_) | Sort::Method { .. } => Ok(Doing::Breaks(Rule::NotKnown)),
+        Sort::Past(_) | Sort::Method { .. } => Ok(Transfer::Breaks(Rule::NotKnown)),
     }
 }
 
@@ -578,7 +578,7 @@ fn word(
     base: Option<u32>,
     stack: u32,
     number: u32,
-) -> Result<Doing, Memory>
+) -> Result<Transfer, Memory>
     requires stack { IsStack marks.old stack }
     requires program { takes_all subject.closed.now.program subject.closed.now.templates ≡ true }
     ensures grows { Grows marks.old marks.new }
@@ -586,16 +586,16 @@ fn word(
     ensures does { IfOk result (λ doing. DoesWord subject.entry marks.old marks.new base stack number doing) }
 {
     if number == subject.closed.program.top {
-        return Ok(Doing::Breaks(Rule::NotKnown));
+        return Ok(Transfer::Breaks(Rule::NotKnown));
     }
     match subject.closed.program.words.get(number as usize) {
         Some(word) => word_item(subject, marks, base, stack, number, word),
-        None => Ok(Doing::Breaks(Rule::NotKnown)),
+        None => Ok(Transfer::Breaks(Rule::NotKnown)),
     }
 }
 
 // `call( )` or `execute( )`, which takes what is called on top of the inputs of its effect.
-fn effect_call(marks: &mut Marks, stack: u32, height: Height) -> Result<Doing, Memory>
+fn effect_call(marks: &mut Marks, stack: u32, height: Height) -> Result<Transfer, Memory>
     requires { IsStack marks.old stack }
     ensures grows { Grows marks.old marks.new }
     ensures there { IfOk result (λ doing. IsDoing marks.new doing) }
@@ -607,19 +607,24 @@ fn effect_call(marks: &mut Marks, stack: u32, height: Height) -> Result<Doing, M
 }
 
 // A value of which nothing is known.
-fn unknown(marks: &mut Marks, stack: u32) -> Result<Doing, Memory>
+fn unknown(marks: &mut Marks, stack: u32) -> Result<Transfer, Memory>
     requires { IsStack marks.old stack }
     ensures grows { Grows marks.old marks.new }
     ensures there { IfOk result (λ doing. IsDoing marks.new doing) }
     ensures does { IfOk result (λ doing. DoesAs marks.old marks.new stack doing (λ b ms. gives (on b (any ∷ ms)))) }
 {
-    Ok(Doing::Gives {
+    Ok(Transfer::Gives {
         stack: marks.unknowns(stack, 1)?,
     })
 }
 
 // A literal array, by its number.
-fn array(subject: Subject<'_>, marks: &mut Marks, stack: u32, number: u32) -> Result<Doing, Memory>
+fn array(
+    subject: Subject<'_>,
+    marks: &mut Marks,
+    stack: u32,
+    number: u32,
+) -> Result<Transfer, Memory>
     requires { IsStack marks.old stack }
     ensures grows { Grows marks.old marks.new }
     ensures there { IfOk result (λ doing. IsDoing marks.new doing) }
@@ -628,7 +633,7 @@ fn array(subject: Subject<'_>, marks: &mut Marks, stack: u32, number: u32) -> Re
     if number < subject.closed.program.arrays.len() {
         return unknown(marks, stack);
     }
-    Ok(Doing::Breaks(Rule::NotKnown))
+    Ok(Transfer::Breaks(Rule::NotKnown))
 }
 
 // The frame of the cells that a template captures of another. None where one of them isn't there.
@@ -672,7 +677,13 @@ fn fill(marks: &mut Marks, frame: u32, holes: u32) -> Result<u32, Memory>
 
 // The literal of this number with these captured cells, and the values that it takes off the stack for its holes.
 #[tactic(auto, using(fac_abs::proofs::SeenLemmas::grows_trans))]
-fn fry(marks: &mut Marks, stack: u32, literal: u32, frame: u32, holes: u32) -> Result<Doing, Memory>
+fn fry(
+    marks: &mut Marks,
+    stack: u32,
+    literal: u32,
+    frame: u32,
+    holes: u32,
+) -> Result<Transfer, Memory>
     requires stack { IsStack marks.old stack }
     requires literal { literal < marks.old.templates }
     requires frame { IsFrame marks.old frame }
@@ -714,7 +725,12 @@ fn number_of(closed: &Closed, alone: bool, template: u32) -> Result<u32, Memory>
 
 // A quotation or fry, by its template, under a frame. A cell that isn't there is that of no program.
 #[tactic(auto, using(fac_abs::proofs::SeenLemmas::grows_trans))]
-fn made(subject: Subject<'_>, marks: &mut Marks, step: Step, template: u32) -> Result<Doing, Memory>
+fn made(
+    subject: Subject<'_>,
+    marks: &mut Marks,
+    step: Step,
+    template: u32,
+) -> Result<Transfer, Memory>
     requires stack { IsStack marks.old step.stack }
     requires frame { IsFrame marks.old step.frame }
     requires template { template < length subject.closed.now.templates }
@@ -729,14 +745,14 @@ fn made(subject: Subject<'_>, marks: &mut Marks, step: Step, template: u32) -> R
                 let literal = number_of(subject.closed, step.alone, template)?;
                 fry(marks, step.stack, literal, cells, found.holes)
             }
-            None => Ok(Doing::Breaks(Rule::NotKnown)),
+            None => Ok(Transfer::Breaks(Rule::NotKnown)),
         },
         None => unreachable!(),
     }
 }
 
 // The value of a local, which is a cell of the frame. One that isn't there is that of no program.
-fn local(marks: &mut Marks, stack: u32, frame: u32, cell: u32) -> Result<Doing, Memory>
+fn local(marks: &mut Marks, stack: u32, frame: u32, cell: u32) -> Result<Transfer, Memory>
     requires stack { IsStack marks.old stack }
     requires frame { IsFrame marks.old frame }
     ensures grows { Grows marks.old marks.new }
@@ -745,7 +761,7 @@ fn local(marks: &mut Marks, stack: u32, frame: u32, cell: u32) -> Result<Doing, 
 {
     match marks.cell(frame, cell) {
         Some(mark) => put(marks, stack, mark),
-        None => Ok(Doing::Breaks(Rule::NotKnown)),
+        None => Ok(Transfer::Breaks(Rule::NotKnown)),
     }
 }
 
@@ -763,7 +779,12 @@ fn generic_of(closed: &Closed, method: u32) -> Option<&WordDef>
 }
 
 // `call-next-method` in a method, which goes by the effect of its generic.
-fn next_after(closed: &Closed, marks: &mut Marks, stack: u32, method: u32) -> Result<Doing, Memory>
+fn next_after(
+    closed: &Closed,
+    marks: &mut Marks,
+    stack: u32,
+    method: u32,
+) -> Result<Transfer, Memory>
     requires stack { IsStack marks.old stack }
     requires program { takes_all closed.now.program closed.now.templates ≡ true }
     ensures grows { Grows marks.old marks.new }
@@ -772,7 +793,7 @@ fn next_after(closed: &Closed, marks: &mut Marks, stack: u32, method: u32) -> Re
 {
     match generic_of(closed, method) {
         Some(generic) => by_height(marks, stack, height_of(generic)),
-        None => Ok(Doing::Breaks(Rule::MethodEffect)),
+        None => Ok(Transfer::Breaks(Rule::MethodEffect)),
     }
 }
 
@@ -782,7 +803,7 @@ pub fn item_doing(
     marks: &mut Marks,
     step: Step,
     what: &What,
-) -> Result<Doing, Memory>
+) -> Result<Transfer, Memory>
     requires stack { IsStack marks.old step.stack }
     requires frame { IsFrame marks.old step.frame }
     requires templates { marks.old.templates ≡ length subject.closed.now.templates + length subject.closed.now.templates }
@@ -801,7 +822,7 @@ pub fn item_doing(
         What::Made(template) => made(subject, marks, step, *template),
         What::Local(cell) => local(marks, stack, step.frame, *cell),
         What::Arr(number) => array(subject, marks, stack, *number),
-        What::NextMethod => Ok(Doing::Breaks(Rule::MethodEffect)),
+        What::NextMethod => Ok(Transfer::Breaks(Rule::MethodEffect)),
         What::NextAfter(method) => next_after(subject.closed, marks, stack, *method),
         What::CallEffect(height) => effect_call(marks, stack, *height),
         What::ExecuteEffect(height) => effect_call(marks, stack, *height),
@@ -821,7 +842,7 @@ pub fn count(left: u32) -> Option<u32>
 pub fn follow(
     subject: Subject<'_>,
     marks: &mut Marks,
-    doing: Doing,
+    doing: Transfer,
     step: Step,
 ) -> Result<Executed, Memory>
     requires doing { IsDoingOf (slice_get subject.closed.now.program.words) marks.old doing }
@@ -832,7 +853,7 @@ pub fn follow(
 {
     let mut last = doing;
     let mut left = step.left;
-    'following: while let Doing::Again {
+    'following: while let Transfer::Again {
         word: number,
         stack,
     } = last

@@ -18,7 +18,7 @@ ghost use Rattle.fac_base.specs.EffectView.{inputs_tree};
 ghost use Rattle.fac_base.specs.Effects.{effect_height};
 ghost use Rattle.fac_rows.specs.SeenBindings.{IsBinding};
 
-use crate::doing::{Doing, Executed, count, follow, item_doing};
+use crate::doing::{Executed, Transfer, count, follow, item_doing};
 use crate::refusal::Broken;
 use crate::subject::Subject;
 use fac_abs::{MarkNode, Marks, Reached, Rule};
@@ -887,30 +887,30 @@ impl<'a> Walker<'a> {
     }
 
     // What an item breaks before it counts. The stack is that of what the item does, not the step's.
-    fn item_rule(&mut self, doing: Doing, step: Step) -> Result<Option<Rule>, Memory>
+    fn item_rule(&mut self, doing: Transfer, step: Step) -> Result<Option<Rule>, Memory>
         requires { IsActOf (slice_get self.old.subject.closed.now.program.words) self.old.marks doing }
         ensures subject { self.new.subject ≡ self.old.subject }
         ensures grows { Grows self.old.marks self.new.marks }
         ensures rule { IfOk result (λ rule. IsItemRule self.old.subject self.old.marks doing step rule) }
     {
         match doing {
-            Doing::Breaks(rule) => Ok(Some(rule)),
-            Doing::Ends => Ok(None),
-            Doing::Gives { stack: _ } => Ok(None),
-            Doing::Leaves { base: _, stack: _ } => Ok(None),
-            Doing::Expands { word: _, stack: _ } => Ok(phrase_rule(step.nested)),
-            Doing::Again { word: _, stack: _ } => unreachable!(),
-            Doing::Walks {
+            Transfer::Breaks(rule) => Ok(Some(rule)),
+            Transfer::Ends => Ok(None),
+            Transfer::Gives { stack: _ } => Ok(None),
+            Transfer::Leaves { base: _, stack: _ } => Ok(None),
+            Transfer::Expands { word: _, stack: _ } => Ok(phrase_rule(step.nested)),
+            Transfer::Again { word: _, stack: _ } => unreachable!(),
+            Transfer::Walks {
                 mark,
                 stack,
                 back: _,
             } => self.first_rule(mark, Step { stack, ..step }),
-            Doing::Forks {
+            Transfer::Forks {
                 first,
                 second: _,
                 stack,
             } => self.first_rule(first, Step { stack, ..step }),
-            Doing::Uses { word, inputs, rest } => self.use_rule(
+            Transfer::Uses { word, inputs, rest } => self.use_rule(
                 word,
                 inputs,
                 Step {
@@ -923,7 +923,7 @@ impl<'a> Walker<'a> {
 
     // Walks an item that is counted, with an arm for each doing, as `item_rule` has. The stack is that of what the item does, not the step's.
     #[cycle(walk)]
-    fn walk_counted(&mut self, doing: Doing, step: Step) -> Result<Walked, Memory>
+    fn walk_counted(&mut self, doing: Transfer, step: Step) -> Result<Walked, Memory>
         requires { IsActOf (slice_get self.old.subject.closed.now.program.words) self.old.marks doing }
         ensures subject { self.new.subject ≡ self.old.subject }
         ensures grows { Grows self.old.marks self.new.marks }
@@ -932,32 +932,32 @@ impl<'a> Walker<'a> {
         ensures walks { IfOk result (λ walked. IsWalkOfCounted self.old.subject self.old.marks self.new.marks doing step walked) }
     {
         match doing {
-            Doing::Breaks(rule) => Ok(Walked::Refused(Broken {
+            Transfer::Breaks(rule) => Ok(Walked::Refused(Broken {
                 rule,
                 place: step.place,
             })),
-            Doing::Ends => Ok(Walked::Found(Reached::Dead, step.left)),
-            Doing::Gives { stack } => Ok(Walked::Found(
+            Transfer::Ends => Ok(Walked::Found(Reached::Dead, step.left)),
+            Transfer::Gives { stack } => Ok(Walked::Found(
                 Reached::On {
                     base: step.base,
                     stack,
                 },
                 step.left,
             )),
-            Doing::Leaves { base, stack } => {
+            Transfer::Leaves { base, stack } => {
                 Ok(Walked::Found(Reached::On { base, stack }, step.left))
             }
-            Doing::Expands { word, stack } => self.walk_word(word, Step { stack, ..step }),
-            Doing::Again { word: _, stack: _ } => unreachable!(),
-            Doing::Walks { mark, stack, back } => {
+            Transfer::Expands { word, stack } => self.walk_word(word, Step { stack, ..step }),
+            Transfer::Again { word: _, stack: _ } => unreachable!(),
+            Transfer::Walks { mark, stack, back } => {
                 self.walk_callable(mark, back, Step { stack, ..step })
             }
-            Doing::Forks {
+            Transfer::Forks {
                 first,
                 second,
                 stack,
             } => self.walk_fork(first, second, Step { stack, ..step }),
-            Doing::Uses { word, inputs, rest } => self.walk_use(
+            Transfer::Uses { word, inputs, rest } => self.walk_use(
                 word,
                 inputs,
                 Step {
@@ -970,7 +970,7 @@ impl<'a> Walker<'a> {
 
     // Walks an item, apart from the rest of its phrase. The stack is that of what the item does, not the step's.
     #[cycle(walk)]
-    fn walk_item(&mut self, doing: Doing, step: Step) -> Result<Walked, Memory>
+    fn walk_item(&mut self, doing: Transfer, step: Step) -> Result<Walked, Memory>
         requires { IsActOf (slice_get self.old.subject.closed.now.program.words) self.old.marks doing }
         ensures subject { self.new.subject ≡ self.old.subject }
         ensures grows { Grows self.old.marks self.new.marks }
@@ -989,7 +989,7 @@ impl<'a> Walker<'a> {
 
     // Walks what an item does at first, apart from the rest of its phrase.
     #[cycle(walk)]
-    fn walk_doing(&mut self, doing: Doing, step: Step) -> Result<Walked, Memory>
+    fn walk_doing(&mut self, doing: Transfer, step: Step) -> Result<Walked, Memory>
         requires { IsDoingOf (slice_get self.old.subject.closed.now.program.words) self.old.marks doing }
         ensures subject { self.new.subject ≡ self.old.subject }
         ensures grows { Grows self.old.marks self.new.marks }

@@ -36,8 +36,8 @@ use Rattle.fac_check.specs.inner.OwnEffects.{own_effect}
 use Rattle.fac_check.specs.inner.UndeclaredRecursion.{NumbersFrom}
 use Rattle.fac_check.specs.inner.Alone.{placed_alone, StandsAt}
 use Rattle.fac_check.specs.inner.ItemWalk.{NamesNone, item_rule, counted_item, item_walk}
-use Rattle.fac_check.specs.declared.doing.Doing.{Doing}
-use Rattle.fac_check.specs.declared.doing.Doing.TheVariants.{Breaks, Ends, Gives, Leaves, Expands, Again, Walks, Forks, Uses}
+use Rattle.fac_check.specs.declared.doing.Transfer.{Transfer}
+use Rattle.fac_check.specs.declared.doing.Transfer.TheVariants.{Breaks, Ends, Gives, Leaves, Expands, Again, Walks, Forks, Uses}
 use Rattle.fac_check.specs.declared.subject.Subject.{Subject}
 use Rattle.fac_check.specs.declared.walker.Step.{Step}
 use Rattle.fac_check.specs.declared.walker.Walked.{Walked}
@@ -89,7 +89,7 @@ module _ (N : Naming) (M : MarksSeen) where
   inputs_seen bs (Unbound b) = refused b.rule b.place
 
   -- with the words by their numbers, and the base of the stack
-  abbrev pub doing_seen : (ℕ → Option WordDef) → Option Row → Doing → DoingAtOnce
+  abbrev pub doing_seen : (ℕ → Option WordDef) → Option Row → Transfer → DoingAtOnce
   doing_seen words b (Breaks r) = breaks r
   doing_seen words b Ends = gives dead
   doing_seen words b (Gives s) = gives (on b (stack_of N M s))
@@ -110,7 +110,7 @@ AreMarks M None = Unit {0}
 AreMarks M (Some m) = IsMark M m
 
 -- likewise, and where a word is expanded or used, it is one of these words
-abbrev pub IsDoingOf : (ℕ → Option WordDef) → MarksSeen → Doing → Type 0
+abbrev pub IsDoingOf : (ℕ → Option WordDef) → MarksSeen → Transfer → Type 0
 IsDoingOf words M (Breaks r) = Unit {0}
 IsDoingOf words M Ends = Unit {0}
 IsDoingOf words M (Gives s) = IsStack M s
@@ -122,7 +122,7 @@ IsDoingOf words M (Forks m n s) = IsMark M m × IsMark M n × IsStack M s
 IsDoingOf words M (Uses w i r) = (is_defined (words w) ≡ true) × IsStack M i × IsStack M r
 
 -- likewise, and no word is found by `execute`
-abbrev pub IsActOf : (ℕ → Option WordDef) → MarksSeen → Doing → Type 0
+abbrev pub IsActOf : (ℕ → Option WordDef) → MarksSeen → Transfer → Type 0
 IsActOf words M (Again w s) = ⊥
 IsActOf words M D = IsDoingOf words M D
 
@@ -132,7 +132,7 @@ IsExecuted words M most (Does D n) = IsActOf words M D × (n ≤ most)
 IsExecuted words M most (Stops r) = Unit {0}
 
 -- no word is expanded or used
-abbrev pub IsDoing : MarksSeen → Doing → Type 0
+abbrev pub IsDoing : MarksSeen → Transfer → Type 0
 IsDoing = IsDoingOf (λ w. None)
 
 -- the word with this number alone
@@ -140,15 +140,15 @@ abbrev pub only : ℕ → WordDef → ℕ → Option WordDef
 only w d v = elim (nat_eq v w) [ true ↦ Some d | false ↦ None ]
 
 -- what an item does to stack s, from the marks that were there to those that are
-abbrev pub DoesAs : MarksSeen → MarksSeen → ℕ → Doing → (Option Row → List Mark → DoingAtOnce) → Type 0
+abbrev pub DoesAs : MarksSeen → MarksSeen → ℕ → Transfer → (Option Row → List Mark → DoingAtOnce) → Type 0
 DoesAs old new s result does = (N : Naming) (words : ℕ → Option WordDef) (b : Option Row) → doing_seen N new words b result ≡ does b (stack_of N old s)
 
 -- likewise where that hangs on the program for which a closed one stands
-abbrev pub DoesIn : Closed → MarksSeen → MarksSeen → ℕ → Doing → (Program → Option Row → List Mark → DoingAtOnce) → Type 0
+abbrev pub DoesIn : Closed → MarksSeen → MarksSeen → ℕ → Transfer → (Program → Option Row → List Mark → DoingAtOnce) → Type 0
 DoesIn closed old new s result does = (P : Program) → Closes P closed.program closed.templates → DoesAs old new s result (does P)
 
 -- likewise one that puts a mark on it
-abbrev pub PutsMark : MarksSeen → MarksSeen → ℕ → (Naming → Mark) → Doing → Type 0
+abbrev pub PutsMark : MarksSeen → MarksSeen → ℕ → (Naming → Mark) → Transfer → Type 0
 PutsMark old new s mark result = (N : Naming) (words : ℕ → Option WordDef) (b : Option Row) → doing_seen N new words b result ≡ gives (on b (mark N ∷ stack_of N old s))
 
 -- a rule that an item breaks that needs so many values
@@ -341,21 +341,21 @@ IsWalkOfPhrase subject M L c s W =
     Opens O.program subject.closed.now.templates (items_of (frame_of O.naming M s.frame)) at c t → s.left < f → walked_seen O.naming L W ≡ go_at O f here s.nested t (base_seen O.naming s.base) (stack_of O.naming M s.stack) s.left
 
 -- likewise the walk of what an item does
-abbrev pub IsWalkOfItem : Subject → MarksSeen → MarksSeen → Doing → Step → Walked → Type 0
+abbrev pub IsWalkOfItem : Subject → MarksSeen → MarksSeen → Transfer → Step → Walked → Type 0
 IsWalkOfItem subject M L D s W =
     (O : Opened subject.closed.now.program subject.closed.now.templates subject.own subject.inner) (f : ℕ) → s.left ≤ f → walked_seen O.naming L W ≡ item_walk O.effect (go_at O f) (doing_seen O.naming M (slice_get O.program.words) (base_seen O.naming s.base) D) s.place s.nested s.left
 
 -- likewise the rule that it breaks before it counts, and the walk of one that is counted
-abbrev pub IsItemRule : Subject → MarksSeen → Doing → Step → Option Rule → Type 0
+abbrev pub IsItemRule : Subject → MarksSeen → Transfer → Step → Option Rule → Type 0
 IsItemRule subject M D s r =
     (O : Opened subject.closed.now.program subject.closed.now.templates subject.own subject.inner) → r ≡ item_rule O.effect (doing_seen O.naming M (slice_get O.program.words) (base_seen O.naming s.base) D) s.nested
 
-abbrev pub IsWalkOfCounted : Subject → MarksSeen → MarksSeen → Doing → Step → Walked → Type 0
+abbrev pub IsWalkOfCounted : Subject → MarksSeen → MarksSeen → Transfer → Step → Walked → Type 0
 IsWalkOfCounted subject M L D s W =
     (O : Opened subject.closed.now.program subject.closed.now.templates subject.own subject.inner) (f : ℕ) → s.left < f → walked_seen O.naming L W ≡ counted_item O.effect (go_at O f) (doing_seen O.naming M (slice_get O.program.words) (base_seen O.naming s.base) D) s.place s.nested s.left
 
 -- What an item does, in a program for which the closed one stands.
-abbrev pub seen_in : {C : Program} {templates : List Template} {own : Option ℕ} {inner : ℕ} → Opened C templates own inner → MarksSeen → Step → Doing → DoingAtOnce
+abbrev pub seen_in : {C : Program} {templates : List Template} {own : Option ℕ} {inner : ℕ} → Opened C templates own inner → MarksSeen → Step → Transfer → DoingAtOnce
 seen_in O M s D = doing_seen O.naming M (slice_get O.program.words) (base_seen O.naming s.base) D
 
 -- the walk of a phrase of one item that does this, where what stands behind it would stand here, with so many steps and items
@@ -363,19 +363,19 @@ abbrev pub only_walk : {C : Program} {templates : List Template} {own : Option �
 only_walk O s D next f n = walk_on O.effect (go_at O f) D s.place s.nested next end n
 
 -- By `execute` an item comes to another one: the walk of the first is that of the other, with so many items and at least as many steps.
-pub record ComesTo {C : Program} {templates : List Template} {own : Option ℕ} {inner : ℕ} (O : Opened C templates own inner) (M L : MarksSeen) (s : Step) (D E : Doing) (next : Literal) (f n : ℕ) : Type 0 where
+pub record ComesTo {C : Program} {templates : List Template} {own : Option ℕ} {inner : ℕ} (O : Opened C templates own inner) (M L : MarksSeen) (s : Step) (D E : Transfer) (next : Literal) (f n : ℕ) : Type 0 where
   pub behind_it : Literal
   pub steps : ℕ
   pub enough : n ≤ steps
   pub same : only_walk O s (seen_in O M s D) next f s.left ≡ only_walk O s (seen_in O L s E) behind_it steps n
 
 -- what an item comes to, in each program for which the closed one stands, with at least as many steps as items
-abbrev pub FollowsExecuted : Subject → MarksSeen → MarksSeen → Doing → Step → Executed → Type 0
+abbrev pub FollowsExecuted : Subject → MarksSeen → MarksSeen → Transfer → Step → Executed → Type 0
 FollowsExecuted subject M L D s (Does E n) = (O : Opened subject.closed.now.program subject.closed.now.templates subject.own subject.inner) (next : Literal) (f : ℕ) → s.left ≤ f → ComesTo O M L s D E next f n
 FollowsExecuted subject M L D s (Stops r) = (O : Opened subject.closed.now.program subject.closed.now.templates subject.own subject.inner) (next : Literal) (f : ℕ) → s.left ≤ f → refused r s.place ≡ only_walk O s (seen_in O M s D) next f s.left
 
 -- the walk of an item, followed so
-abbrev pub IsWalkOfDoing : Subject → MarksSeen → MarksSeen → Doing → Step → Walked → Type 0
+abbrev pub IsWalkOfDoing : Subject → MarksSeen → MarksSeen → Transfer → Step → Walked → Type 0
 IsWalkOfDoing subject M L D s W = (O : Opened subject.closed.now.program subject.closed.now.templates subject.own subject.inner) (next : Literal) (f : ℕ) → s.left ≤ f → walked_seen O.naming L W ≡ only_walk O s (seen_in O M s D) next f s.left
 
 -- The walk of the phrase that has an item alone is this; and the item puts nothing for a local in what stands behind it.
@@ -405,7 +405,7 @@ frame_behind (bind k) (m ∷ ms) fs = m ∷ fs
 frame_behind _ ms fs = fs
 
 -- what a closed item does to a stack on a base under a frame, as each item does to which it opens, from wherever it stands
-abbrev pub DoesItem : Subject → MarksSeen → MarksSeen → Bool → Option ℕ → ℕ → ℕ → Item → Doing → Type 0
+abbrev pub DoesItem : Subject → MarksSeen → MarksSeen → Bool → Option ℕ → ℕ → ℕ → Item → Transfer → Type 0
 DoesItem subject M L alone b s g c D =
     (O : Opened subject.closed.now.program subject.closed.now.templates subject.own subject.inner) (at here : Literal) (i : Item) → StandsAt O.program subject.inner O.first alone at here →
     OpensItem O.program subject.closed.now.templates (items_of (frame_of O.naming M g)) at c i → doing_seen O.naming L (slice_get O.program.words) (base_seen O.naming b) D ≡ doing O.program O.word here i (base_seen O.naming b) (stack_of O.naming M s)
@@ -416,7 +416,7 @@ binds (bind k) = true
 binds _ = false
 
 -- A literal of this number is made of the cells of a frame and of so many marks from the stack, the deepest for the first hole.
-abbrev pub MakesLiteral : MarksSeen → MarksSeen → ℕ → ℕ → ℕ → ℕ → Doing → Type 0
+abbrev pub MakesLiteral : MarksSeen → MarksSeen → ℕ → ℕ → ℕ → ℕ → Transfer → Type 0
 MakesLiteral M L s k g n D =
     (N : Naming) (words : ℕ → Option WordDef) (b : Option Row) →
     doing_seen N L words b D ≡ needing n (stack_of N M s) (λ taken rest. gives (on b (limited (lit_mark (N.literal k) (N.phrase k (piled taken (frame_of N M g)))) ∷ rest)))
@@ -427,11 +427,11 @@ Captures M L g ks None = (N : Naming) → items_at ks (items_of (frame_of N M g)
 Captures M L g ks (Some h) = IsFrame L h × ((N : Naming) → items_at ks (items_of (frame_of N M g)) ≡ Some (items_of (frame_of N L h)))
 
 -- likewise a literal array, by its number
-abbrev pub DoesArray : Subject → MarksSeen → MarksSeen → ℕ → ℕ → Doing → Type 0
+abbrev pub DoesArray : Subject → MarksSeen → MarksSeen → ℕ → ℕ → Transfer → Type 0
 DoesArray subject M L s a D = DoesAs M L s D (array_doing (nat_lt a (length subject.closed.now.program.arrays)))
 
 -- likewise the item of a word, by its number
-abbrev pub DoesWord : Subject → MarksSeen → MarksSeen → Option ℕ → ℕ → ℕ → Doing → Type 0
+abbrev pub DoesWord : Subject → MarksSeen → MarksSeen → Option ℕ → ℕ → ℕ → Transfer → Type 0
 DoesWord subject M L b s w D =
     (O : Opened subject.closed.now.program subject.closed.now.templates subject.own subject.inner) → doing_seen O.naming L (slice_get O.program.words) (base_seen O.naming b) D ≡ word_doing O.program O.word w (slice_get O.program.words w) (base_seen O.naming b) (stack_of O.naming M s)
 
@@ -440,23 +440,23 @@ abbrev pub NamesWhereOwn : Naming → Option ℕ → ℕ → Signature → Type 
 NamesWhereOwn N own w e = own ≡ Some w → NamesRows N e
 
 -- likewise that of a word that is closed so
-abbrev pub DoesWordSo : Closed → MarksSeen → MarksSeen → Option ℕ → Option ℕ → ℕ → ℕ → WordDef → Doing → Type 0
+abbrev pub DoesWordSo : Closed → MarksSeen → MarksSeen → Option ℕ → Option ℕ → ℕ → ℕ → WordDef → Transfer → Type 0
 DoesWordSo closed M L own b s w c D =
     (P : Program) (d : WordDef) → Closes P closed.program closed.templates → w ≢ P.top → slice_get P.words w ≡ Some d → IsWhole P → ClosesWord P w d c → (N : Naming) → NamesWhereOwn N own w c.effect → doing_seen N L (slice_get P.words) (base_seen N b) D ≡ word_doing P own w (Some d) (base_seen N b) (stack_of N M s)
 
 -- a word that is defined by a phrase: an inline one is expanded, unless it is a row word, and every other one goes by its effect
-abbrev pub DoesDefined : MarksSeen → MarksSeen → Option ℕ → Option ℕ → ℕ → ℕ → WordDef → Doing → Type 0
+abbrev pub DoesDefined : MarksSeen → MarksSeen → Option ℕ → Option ℕ → ℕ → ℕ → WordDef → Transfer → Type 0
 DoesDefined M L own b s w c D =
     (P : Program) (N : Naming) (words : ℕ → Option WordDef) → effect_of (words w) ≡ c.effect → NamesWhereOwn N own w c.effect → doing_seen N L words (base_seen N b) D ≡ inline_doing P own c.inline w c (phrase_of (words w)) (base_seen N b) (stack_of N M s)
 
 -- the own recursive call of the word with this effect
-abbrev pub DoesOwnCall : MarksSeen → MarksSeen → Option ℕ → ℕ → Signature → Doing → Type 0
+abbrev pub DoesOwnCall : MarksSeen → MarksSeen → Option ℕ → ℕ → Signature → Transfer → Type 0
 DoesOwnCall M L b s e D = (N : Naming) (words : ℕ → Option WordDef) → NamesRows N e → doing_seen N L words (base_seen N b) D ≡ own_doing e (base_seen N b) (stack_of N M s)
 
 -- a use of the row word with this number and effect, where it isn't the one that is checked
-abbrev pub DoesUse : MarksSeen → MarksSeen → ℕ → ℕ → Signature → Doing → Type 0
+abbrev pub DoesUse : MarksSeen → MarksSeen → ℕ → ℕ → Signature → Transfer → Type 0
 DoesUse M L s w e D = (N : Naming) (words : ℕ → Option WordDef) (b : Option Row) → effect_of (words w) ≡ e → doing_seen N L words b D ≡ row_doing e b (stack_of N M s)
 
 -- a primitive, where this is how many values its row takes and leaves
-abbrev pub DoesPrimitive : MarksSeen → MarksSeen → ℕ → ℕ → Height → Doing → Type 0
+abbrev pub DoesPrimitive : MarksSeen → MarksSeen → ℕ → ℕ → Height → Transfer → Type 0
 DoesPrimitive M L s k h D = (p : Primitive) → prim_numbered k ≡ Some p → h.ins ≡ length p.word.ins → h.outs ≡ outputs_of p.word → DoesAs M L s D (prim_doing (Some p))

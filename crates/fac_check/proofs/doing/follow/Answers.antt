@@ -1,7 +1,7 @@
 use Rattle.std.proofs.Common.{subst, arith}
 use Rattle.std.specs.Prelude.{slice_get}
 use Rattle.fac_abs.proofs.SeenLemmas.{grows_refl, grows_trans}
-use Rattle.fac_check.specs.declared.doing.Doing.{Doing}
+use Rattle.fac_check.specs.declared.doing.Transfer.{Transfer}
 use Rattle.fac_check.specs.inner.Walking.{ComesTo}
 use Rattle.fac_check.proofs.ExecutedItems.{comes_first, comes_on, comes_to_end, act_there}
 use Rattle.fac_check.proofs.doing.follow.Goals as goal
@@ -25,7 +25,7 @@ following-preserved c =
       there = c.in_ok-last-in-Some.ensures.there;
       within = omega (arith, i.within, c.in-Some.ensures);
       follows = λ O next f l.
-          let before = subst (λ (D : Doing). ComesTo O M L c.args.step c.args.doing D next f c.following.left) c.in-Again.is (i.follows O next f l) in
+          let before = subst (λ (D : Transfer). ComesTo O M L c.args.step c.args.doing D next f c.following.left) c.in-Again.is (i.follows O next f l) in
           comes_on O M c.args.step c.args.doing next f L c.in-Again.number c.in-Again.stack c.following.left before K c.in_ok-last-in-Some.last c.in-Some.rest c.in-Some.ensures (c.in_ok-last-in-Some.ensures.does O);
     }
 
@@ -34,7 +34,7 @@ returns-in-None-clause-follows c = λ O next f l.
     let M = c.args.marks.now in
     let L = c.following.marks in
     let i = c.following.invariant in
-    let before = subst (λ (D : Doing). ComesTo O M L c.args.step c.args.doing D next f c.following.left) c.in-Again.is (i.follows O next f l) in
+    let before = subst (λ (D : Transfer). ComesTo O M L c.args.step c.args.doing D next f c.following.left) c.in-Again.is (i.follows O next f l) in
     comes_to_end O M c.args.step c.args.doing next f L c.in-Again.number c.in-Again.stack c.following.left before c.in-None.ensures
 
 pub returns-clause-there : goal.returns-clause-there
