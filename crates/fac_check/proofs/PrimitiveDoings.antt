@@ -3,7 +3,7 @@ use Rattle.std.proofs.Common.{◌≡◌, ℕ, List, length, Bool, true, false, O
 use Rattle.fac_lang.specs.Phrases.{Mark}
 use Rattle.fac_lang.specs.PrimitiveWords.{outputs_of}
 use Rattle.fac_lang.specs.Primitives.{Primitive, prim_numbered, primitive_does, IsOperationOf}
-use Rattle.fac_lang.specs.Operations.{TableOperation, Doing as Does, simple_doing, one_doing, two_doing, three_doing, writing_doing, operation_does}
+use Rattle.fac_lang.specs.Operations.{TableOperation, PrimitiveMeaning as Does, simple_doing, one_doing, two_doing, three_doing, writing_doing, operation_does}
 use Rattle.fac_lang.specs.declared.primitive_table.Operation.TheVariants as operation
 use Rattle.fac_lang.specs.declared.primitive_table.Storing.{Storing}
 use Rattle.fac_lang.specs.declared.primitive_table.Storing.TheVariants as storing
