@@ -15,9 +15,9 @@ use Rattle.fac_source.specs.declared.tree.Parent.{Parent}
 use Rattle.fac_source.specs.declared.tree.Form.{Form}
 use Rattle.fac_parse.specs.declared.context.Context.{Context}
 use Rattle.fac_source.specs.declared.form_table.Slot.{Slot}
-use Rattle.fac_parse.specs.declared.rows.Naming.{Naming}
-use Rattle.fac_parse.specs.declared.rows.Marked.{Marked}
-use Rattle.fac_parse.specs.declared.rows.Taking.{Taking}
+use Rattle.fac_parse.specs.declared.form_parts.Naming.{Naming}
+use Rattle.fac_parse.specs.declared.form_parts.Marked.{Marked}
+use Rattle.fac_parse.specs.declared.form_parts.Taking.{Taking}
 use Rattle.fac_effect.specs.declared.spelling.Spelling.{Spelling}
 use Rattle.fac_effect.specs.declared.spelling.Spelling.TheVariants.{Fixed, Semi, Name}
 use Rattle.fac_effect.specs.declared.effect_reader.EffectReader.{EffectReader}

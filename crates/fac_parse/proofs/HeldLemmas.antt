@@ -7,7 +7,7 @@ use Rattle.fac_parse.specs.declared.reader.At.{At}
 use Rattle.fac_parse.specs.declared.reader.At.TheVariants as at
 use Rattle.fac_parse.specs.declared.reader.Head.{Head}
 use Rattle.fac_parse.specs.declared.reader.Reader.{Reader}
-use Rattle.fac_parse.specs.declared.rows.Taking.{Taking}
+use Rattle.fac_parse.specs.declared.form_parts.Taking.{Taking}
 use Rattle.fac_parse.specs.declared.run.Run.{Run}
 use Rattle.fac_effect.specs.declared.spelling.Spelling.{Spelling}
 use Rattle.fac_parse.specs.inner.Reader.{top, begins, is_semi, grow, begin_or_add, end_or_add, top_step, items_step, row_items, in_state, begun_at, contexts_of, half_of, held_of, open_of, state_of, Goes, Holds}

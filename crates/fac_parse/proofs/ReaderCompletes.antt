@@ -22,16 +22,16 @@ use Rattle.fac_source.specs.declared.tree.Form.{Form}
 use Rattle.fac_parse.specs.declared.context.Context.{Context}
 use Rattle.fac_parse.specs.declared.context.Around.{Around}
 use Rattle.fac_parse.specs.declared.context.Around.TheVariants as around
-use Rattle.fac_parse.specs.declared.rows.Taking.{Taking}
-use Rattle.fac_parse.specs.declared.rows.Taking.TheVariants.{Values, Locals}
+use Rattle.fac_parse.specs.declared.form_parts.Taking.{Taking}
+use Rattle.fac_parse.specs.declared.form_parts.Taking.TheVariants.{Values, Locals}
 use Rattle.fac_source.specs.declared.tree.Term.{Term}
 use Rattle.fac_effect.specs.LocalNames.{all_may_stand, name_locals}
 use Rattle.fac_effect.proofs.LocalNameLemmas.{inputs_are_named, locals_go_on, names_append}
 use Rattle.fac_source.specs.declared.form_table.Slot.{Slot}
 use Rattle.fac_source.specs.declared.form_table.Slot.TheVariants as slot
-use Rattle.fac_parse.specs.declared.rows.Naming.{Naming}
-use Rattle.fac_parse.specs.declared.rows.Naming.TheVariants as naming
-use Rattle.fac_parse.specs.declared.rows.Marked.TheVariants as marked
+use Rattle.fac_parse.specs.declared.form_parts.Naming.{Naming}
+use Rattle.fac_parse.specs.declared.form_parts.Naming.TheVariants as naming
+use Rattle.fac_parse.specs.declared.form_parts.Marked.TheVariants as marked
 use Rattle.fac_source.specs.declared.tree.Literal.TheVariants.{True}
 use Rattle.fac_effect.specs.declared.spelling.Spelling.TheVariants.{Fixed, Semi, Literal, Name}
 use Rattle.fac_effect.specs.declared.effect_reader.EffectReader.{EffectReader}

@@ -11,8 +11,8 @@ use Rattle.fac_source.specs.declared.token.Token.{Token}
 use Rattle.fac_source.specs.declared.tree.Element.{Element}
 use Rattle.fac_source.specs.declared.tree.Bracket.{Bracket}
 use Rattle.fac_source.specs.declared.tree.Bracket.TheVariants.{Quotation, Array, Fry}
-use Rattle.fac_parse.specs.declared.rows.Taking.{Taking}
-use Rattle.fac_parse.specs.declared.rows.Taking.TheVariants.{Values, Locals}
+use Rattle.fac_parse.specs.declared.form_parts.Taking.{Taking}
+use Rattle.fac_parse.specs.declared.form_parts.Taking.TheVariants.{Values, Locals}
 use Rattle.fac_source.specs.declared.tree.Callee.{Callee}
 use Rattle.fac_source.specs.declared.tree.DefinitionMark.{DefinitionMark}
 use Rattle.fac_source.specs.declared.tree.DefinitionMark.TheVariants as mark
@@ -26,10 +26,10 @@ use Rattle.fac_source.specs.declared.tree.Form.{Form}
 use Rattle.fac_parse.specs.declared.context.Context.{Context}
 use Rattle.fac_source.specs.declared.form_table.Slot.{Slot}
 use Rattle.fac_source.specs.declared.form_table.Slot.TheVariants as slot
-use Rattle.fac_parse.specs.declared.rows.Naming.{Naming}
-use Rattle.fac_parse.specs.declared.rows.Naming.TheVariants as naming
-use Rattle.fac_parse.specs.declared.rows.Marked.{Marked}
-use Rattle.fac_parse.specs.declared.rows.Marked.TheVariants as marked
+use Rattle.fac_parse.specs.declared.form_parts.Naming.{Naming}
+use Rattle.fac_parse.specs.declared.form_parts.Naming.TheVariants as naming
+use Rattle.fac_parse.specs.declared.form_parts.Marked.{Marked}
+use Rattle.fac_parse.specs.declared.form_parts.Marked.TheVariants as marked
 use Rattle.fac_effect.specs.declared.spelling.Spelling.{Spelling}
 use Rattle.fac_source.specs.declared.tree.Literal.TheVariants.{True, False}
 use Rattle.fac_effect.specs.declared.spelling.Spelling.TheVariants.{Begins, Fixed, Semi, OpensBracket, ClosesBracket, OpensLocals, Bar, Binds, Hole, CalledHole, Inline, Recursive, NextMethod, Wraps, EffectCall, Literal, Name}

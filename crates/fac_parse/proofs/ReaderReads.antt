@@ -25,10 +25,10 @@ use Rattle.fac_source.specs.declared.tree.Form.TheVariants.{Row, Items}
 use Rattle.fac_parse.specs.declared.context.Context.{Context}
 use Rattle.fac_source.specs.declared.form_table.Slot.{Slot}
 use Rattle.fac_source.specs.declared.form_table.Slot.TheVariants as slot
-use Rattle.fac_parse.specs.declared.rows.Naming.{Naming}
-use Rattle.fac_parse.specs.declared.rows.Naming.TheVariants as naming
-use Rattle.fac_parse.specs.declared.rows.Marked.{Marked}
-use Rattle.fac_parse.specs.declared.rows.Marked.TheVariants as marked
+use Rattle.fac_parse.specs.declared.form_parts.Naming.{Naming}
+use Rattle.fac_parse.specs.declared.form_parts.Naming.TheVariants as naming
+use Rattle.fac_parse.specs.declared.form_parts.Marked.{Marked}
+use Rattle.fac_parse.specs.declared.form_parts.Marked.TheVariants as marked
 use Rattle.fac_effect.specs.declared.spelling.Spelling.{Spelling}
 use Rattle.fac_effect.specs.declared.spelling.Spelling.TheVariants.{Begins, Fixed, Semi, OpensBracket, ClosesBracket, OpensLocals, Bar, Binds, Hole, CalledHole, Inline, Recursive, NextMethod, Wraps, EffectCall, Literal, Name}
 use Rattle.fac_base.specs.declared.height.Height.{Height}
@@ -47,8 +47,8 @@ use Rattle.fac_effect.proofs.RowlessLemmas.{rowless_is_whole}
 use Rattle.fac_effect.proofs.LocalNameLemmas.{inputs_are_named}
 use Rattle.fac_source.specs.declared.tree.Bracket.{Bracket}
 use Rattle.fac_source.specs.declared.tree.Bracket.TheVariants.{Quotation, Array, Fry}
-use Rattle.fac_parse.specs.declared.rows.Taking.{Taking}
-use Rattle.fac_parse.specs.declared.rows.Taking.TheVariants.{Values, Locals}
+use Rattle.fac_parse.specs.declared.form_parts.Taking.{Taking}
+use Rattle.fac_parse.specs.declared.form_parts.Taking.TheVariants.{Values, Locals}
 use Rattle.fac_effect.specs.WrittenEffects.{IsEffect}
 use Rattle.fac_source.specs.FormRows.{kind_begun, head_of, slots_of}
 use Rattle.fac_effect.specs.Spellings.{wrap_text, call_text, opening_text, token_spelling, plain_token, spelling_of, has_integer_form, word_spelling, sign_spelling, reserved_spelling}

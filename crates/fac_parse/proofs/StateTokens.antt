@@ -15,15 +15,15 @@ use Rattle.fac_source.specs.declared.tree.Form.{Form}
 use Rattle.fac_source.specs.declared.tree.Form.TheVariants.{Row, Items}
 use Rattle.fac_source.specs.declared.form_table.Slot.{Slot}
 use Rattle.fac_source.specs.declared.form_table.Slot.TheVariants as slot
-use Rattle.fac_parse.specs.declared.rows.Naming.{Naming}
-use Rattle.fac_parse.specs.declared.rows.Naming.TheVariants as naming
-use Rattle.fac_parse.specs.declared.rows.Marked.{Marked}
-use Rattle.fac_parse.specs.declared.rows.Marked.TheVariants as marked
+use Rattle.fac_parse.specs.declared.form_parts.Naming.{Naming}
+use Rattle.fac_parse.specs.declared.form_parts.Naming.TheVariants as naming
+use Rattle.fac_parse.specs.declared.form_parts.Marked.{Marked}
+use Rattle.fac_parse.specs.declared.form_parts.Marked.TheVariants as marked
 use Rattle.fac_effect.specs.EffectReading.{reads as reading, after}
 use Rattle.fac_effect.specs.LocalNames.{name_locals}
 use Rattle.fac_effect.specs.RowlessEffects.{behind_opens, have_no_row}
-use Rattle.fac_parse.specs.declared.rows.Taking.{Taking}
-use Rattle.fac_parse.specs.declared.rows.Taking.TheVariants.{Values, Locals}
+use Rattle.fac_parse.specs.declared.form_parts.Taking.{Taking}
+use Rattle.fac_parse.specs.declared.form_parts.Taking.TheVariants.{Values, Locals}
 use Rattle.fac_effect.specs.Spellings.{wrap_text, call_text, plain_token}
 use denote.Enum.Declared.{tag_of}
 use Rattle.fac_source.specs.contracts.tree.FormKind.{the_type}

@@ -8,7 +8,7 @@ use Rattle.fac_parse.specs.declared.reader.At.{At}
 use Rattle.fac_parse.specs.declared.reader.At.TheVariants as at
 use Rattle.fac_parse.specs.declared.reader.Head.{Head}
 use Rattle.fac_parse.specs.declared.reader.Reader.{Reader}
-use Rattle.fac_parse.specs.declared.rows.Taking.{Taking}
+use Rattle.fac_parse.specs.declared.form_parts.Taking.{Taking}
 use Rattle.fac_parse.specs.inner.Reader.{effect_step, items_step, open_step, step, begun_at, contexts_of, half_of, open_of, state_of, Goes}
 
 pub effect_token : (head : Head) (k : Taking) (r now : Reader) (s : Spelling) (t : Token) (answer : Result Bool Memory) → r.at ≡ at.Effect head k → s ≡ token_spelling t.kind → Goes (effect_step r.forms (begun_at head r.parts) k r.names r.effect s t) (state_of now) answer → Goes (step (state_of r) t) (state_of now) answer

@@ -29,10 +29,10 @@ use Rattle.fac_parse.specs.declared.reader.Why.TheVariants.{End, Other}
 use Rattle.fac_parse.specs.declared.context.Context.{Context}
 use Rattle.fac_source.specs.declared.form_table.Slot.{Slot}
 use Rattle.fac_source.specs.declared.form_table.Slot.TheVariants as slot
-use Rattle.fac_parse.specs.declared.rows.Naming.{Naming}
-use Rattle.fac_parse.specs.declared.rows.Naming.TheVariants as naming
-use Rattle.fac_parse.specs.declared.rows.Marked.{Marked}
-use Rattle.fac_parse.specs.declared.rows.Marked.TheVariants as marked
+use Rattle.fac_parse.specs.declared.form_parts.Naming.{Naming}
+use Rattle.fac_parse.specs.declared.form_parts.Naming.TheVariants as naming
+use Rattle.fac_parse.specs.declared.form_parts.Marked.{Marked}
+use Rattle.fac_parse.specs.declared.form_parts.Marked.TheVariants as marked
 use Rattle.fac_base.specs.Signatures.{Signature}
 use Rattle.fac_base.specs.Effects.{effect_height}
 use Rattle.fac_effect.specs.Spellings.{key_text, wrap_text, call_text, opening_text, closing_text, plain_token, token_text, token_spelling}

@@ -2,11 +2,11 @@
 #![tactic(auto)]
 
 mod context;
+mod form_parts;
 mod laws;
 mod levels;
 mod parser;
 mod reader;
-mod rows;
 mod run;
 
 pub use laws::{one_place, one_tree, some_place, tree_or_none};

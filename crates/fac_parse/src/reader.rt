@@ -12,7 +12,7 @@ ghost use Rattle.fac_source.specs.declared.tree.Part.TheVariants as part;
 ghost use Rattle.fac_effect.specs.Spellings.{token_spelling};
 ghost use Rattle.fac_effect.specs.EffectReading.{reads as reading, whole, after};
 
-use crate::rows::{Marked, Naming, Taking};
+use crate::form_parts::{Marked, Naming, Taking};
 use crate::run::{Growth, Run, Unfinished};
 use fac_base::limits::MOST_SLOTS;
 use fac_base::{Boxed, List, Memory, Place};

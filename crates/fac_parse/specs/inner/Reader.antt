@@ -22,14 +22,14 @@ use Rattle.fac_source.specs.declared.tree.Form.TheVariants.{Row, Items}
 use Rattle.fac_parse.specs.declared.context.Context.{Context}
 use Rattle.fac_source.specs.declared.form_table.Slot.{Slot}
 use Rattle.fac_source.specs.declared.form_table.Slot.TheVariants as slot
-use Rattle.fac_parse.specs.declared.rows.Naming.{Naming}
-use Rattle.fac_parse.specs.declared.rows.Naming.TheVariants as naming
-use Rattle.fac_parse.specs.declared.rows.Marked.{Marked}
-use Rattle.fac_parse.specs.declared.rows.Marked.TheVariants as marked
+use Rattle.fac_parse.specs.declared.form_parts.Naming.{Naming}
+use Rattle.fac_parse.specs.declared.form_parts.Naming.TheVariants as naming
+use Rattle.fac_parse.specs.declared.form_parts.Marked.{Marked}
+use Rattle.fac_parse.specs.declared.form_parts.Marked.TheVariants as marked
 use Rattle.fac_effect.specs.declared.spelling.Spelling.{Spelling}
 use Rattle.fac_effect.specs.declared.spelling.Spelling.TheVariants.{Begins, Fixed, Semi, OpensBracket, ClosesBracket, Inline, Recursive, NextMethod, OpensLocals, Bar, Binds, Hole, CalledHole, Wraps, EffectCall, Literal, Name}
-use Rattle.fac_parse.specs.declared.rows.Taking.{Taking}
-use Rattle.fac_parse.specs.declared.rows.Taking.TheVariants.{Values, Locals}
+use Rattle.fac_parse.specs.declared.form_parts.Taking.{Taking}
+use Rattle.fac_parse.specs.declared.form_parts.Taking.TheVariants.{Values, Locals}
 use Rattle.fac_parse.specs.declared.levels.Levels.{Levels}
 use Rattle.fac_parse.specs.declared.run.Run.{Run}
 use Rattle.fac_parse.specs.declared.run.Unfinished.{Unfinished}

@@ -1,4 +1,4 @@
-//! What the parts of a row are, where they stand.
+//! What the parts of a form are, where they stand.
 
 /// What a name is of, where it stands.
 #[derive(Clone, Copy, Debug)]
