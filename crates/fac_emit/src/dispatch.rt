@@ -5,7 +5,7 @@ ghost use Rattle.fac_emit.specs.ProgramTables.{method_row, generics_from};
 ghost use Rattle.fac_emit.specs.ProgramCode.{code_place};
 ghost use Rattle.fac_emit.specs.inner.Dispatch.{class_in, generic_rows};
 
-use crate::rows::place_of;
+use crate::word_rows::place_of;
 use fac_base::{List, Memory};
 use fac_code::{GenericRow, MethodRow, WordRow};
 use fac_generic::Tables;

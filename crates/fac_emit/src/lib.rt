@@ -8,10 +8,10 @@ mod dispatch;
 mod emission;
 mod emitter;
 mod numbers;
-mod rows;
 mod sequence;
 mod tables;
 mod texts;
+mod word_rows;
 
 pub use asked::asks_effects;
 pub use compiler::compile;
