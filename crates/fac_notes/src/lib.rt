@@ -4,8 +4,8 @@
 
 mod laws;
 mod line;
+mod note_table;
 mod report;
-mod rows;
 pub mod status;
 mod word_names;
 

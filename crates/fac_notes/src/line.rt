@@ -3,7 +3,7 @@ ghost use Rattle.std.specs.Prelude.{◌≡◌, ◌++◌, IfOk, OnOk};
 ghost use Rattle.fac_notes.specs.Notes.{line_of, file_name as name_of_file, place_text, value_text, words_text};
 ghost use Rattle.fac_notes.specs.Notes.{bytes_line as bytes_line_of, syntax_line as syntax_line_of, name_line as name_line_of, check_line as check_line_of, error_line as error_line_of, trap_line as trap_line_of, too_long_line as too_long_line_of};
 
-use crate::rows::{byte_fault, name_kind, push_number, push_rule, why};
+use crate::note_table::{byte_fault, name_kind, push_number, push_rule, why};
 use crate::word_names::push_name;
 use crate::{ByteFault, Report};
 use fac_base::{List, Memory, Name, Text};
