@@ -13,7 +13,7 @@ mod operands;
 mod pairs;
 mod part;
 mod parts;
-mod rows;
+mod table_bytes;
 mod tables;
 
 pub use decoding::{DecodeFault, decode};
