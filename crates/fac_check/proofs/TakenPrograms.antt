@@ -27,7 +27,7 @@ use Rattle.fac_locals.specs.Literals.{Quoted, quoted_phrase, literal_numbered, f
 use Rattle.fac_abs.proofs.EqualMarks.{and_first, and_second}
 use Rattle.fac_abs.proofs.SeenLemmas.{both, is_below, below_is}
 use Rattle.fac_check.specs.inner.UndeclaredRecursion.{named_word, made_template, one_if, number_from, are_below, are_from, item_makes, phrase_makes, template_makes, level_makes}
-use Rattle.fac_check.specs.inner.Taken.{takes_item, takes_phrase, takes_template, takes_sort, takes_word, takes_all}
+use Rattle.fac_check.specs.inner.Walkable.{takes_item, takes_phrase, takes_template, takes_sort, takes_word, takes_all}
 use Rattle.fac_check.proofs.BuiltWords.{HasBuiltNumber, built_number}
 use Rattle.fac_check.proofs.LiteralNumbers.{template_of_words, made_there}
 use Rattle.fac_check.proofs.NamedWords.{number_below}

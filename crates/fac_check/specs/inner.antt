@@ -1,5 +1,5 @@
 -- What only the contracts of inner functions cite.
-pub mod Taken
+pub mod Walkable
 pub mod ItemWalk
 pub mod OwnEffects
 pub mod KnownClasses

@@ -10,7 +10,7 @@ ghost use Rattle.fac_abs.specs.RowVariables.{effect_leaving};
 ghost use Rattle.fac_base.specs.EffectView.{inputs_tree};
 ghost use Rattle.fac_check.specs.Verdicts.{any_quoted, end_of, kept_word, no_generic_effect};
 ghost use Rattle.fac_check.specs.inner.BrokenRules.{IsOrdinaryBroken, IsRowBroken, IsTopBroken, IsInlineBroken, IsPhraseBroken, IsWordBroken, bad_rows_so, generic_rule, is_past_sort};
-ghost use Rattle.fac_check.specs.inner.Taken.{takes_all, takes_phrase, takes_word};
+ghost use Rattle.fac_check.specs.inner.Walkable.{takes_all, takes_phrase, takes_word};
 ghost use Rattle.fac_check.specs.inner.Walking.{IsWalked, walked_seen};
 
 use crate::recursion::is_inline;

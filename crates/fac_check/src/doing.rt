@@ -16,7 +16,7 @@ ghost use Rattle.fac_check.specs.declared.subject.Subject.{Subject};
 ghost use Rattle.fac_locals.specs.Closed.{Closes};
 ghost use Rattle.fac_check.specs.Flow.{by_height as takes_and_leaves, marks_moved, mark_made, core_doing, next_doing, is_own, gives};
 ghost use Rattle.fac_check.specs.inner.KnownClasses.{IsTupleWord, generic_word, makes_counted, tuple_slots, word_in};
-ghost use Rattle.fac_check.specs.inner.Taken.{takes_all, takes_item, takes_word};
+ghost use Rattle.fac_check.specs.inner.Walkable.{takes_all, takes_item, takes_word};
 ghost use Rattle.fac_check.specs.inner.Alone.{literal_number};
 ghost use Rattle.fac_check.specs.inner.Walking.{IsDoing, IsDoingOf, IsExecuted, FollowsExecuted, only, has_phrase, Captures, MakesLiteral, binds, DoesAs, PutsMark, DoesArray, PopsTwo, PopsBranches, lacks};
 ghost use Rattle.fac_check.specs.inner.Walking.{DoesIn, DoesItem, DoesWord, DoesWordSo, DoesDefined, DoesUse, DoesOwnCall, DoesPrimitive};

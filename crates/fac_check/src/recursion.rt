@@ -1,7 +1,7 @@
 //! The rule of undeclared recursion.
 ghost use Rattle.std.specs.Prelude.{◌≡◌, ◌++◌, ◌<◌, true, length, IfOk, OnOk, slice_get};
 ghost use Rattle.fac_lang.specs.PhraseView.{what_item};
-ghost use Rattle.fac_check.specs.inner.Taken.{takes_all, takes_item, takes_phrase, takes_word};
+ghost use Rattle.fac_check.specs.inner.Walkable.{takes_all, takes_item, takes_phrase, takes_word};
 ghost use Rattle.fac_check.specs.inner.UndeclaredRecursion.{named_word, made_template, inline_phrase, inline_word, left_out, are_below};
 ghost use Rattle.fac_check.specs.inner.UndeclaredRecursion.{item_names, phrase_names, template_names, level_names, item_makes, phrase_makes, template_makes, level_makes};
 ghost use Rattle.fac_check.specs.inner.UndeclaredRecursion.{AddsTemplates, AddsNames, LedBy, LedByPhrase, AreEdges};

@@ -9,7 +9,7 @@ ghost use Rattle.fac_lang.specs.PhraseView.{what_item};
 ghost use Rattle.fac_abs.specs.MarkTrees.{Naming};
 ghost use Rattle.fac_lang.specs.Phrases.{any};
 ghost use Rattle.fac_check.specs.Flow.{phrase_rule as rule_of_phrase, join, marks_on, marks_back};
-ghost use Rattle.fac_check.specs.inner.Taken.{takes_all, takes_item, takes_phrase};
+ghost use Rattle.fac_check.specs.inner.Walkable.{takes_all, takes_item, takes_phrase};
 ghost use Rattle.fac_check.specs.inner.Alone.{TellsLiteral};
 ghost use Rattle.fac_check.specs.inner.Walking.{IsDoingOf, IsActOf, is_defined, IsWalked, IsWithin, IsBelow, AreMarks, Admits, Enters, IsItemRule, IsWalkOfCounted, walked_seen, marks_of_option};
 ghost use Rattle.fac_check.specs.inner.Walking.{IsWalkOf, IsWalkOfPhrase, IsWalkOfItem, IsWalkOfDoing, IsWalkOfOne, NamesLocal, frame_behind, literal_walk, word_walk, curried_walk, part_walk, composed_walk, mark_walk, callable_walk, fork_walk};

@@ -5,7 +5,7 @@ use Rattle.fac_base.specs.declared.place.Place.{Place}
 use Rattle.fac_abs.proofs.EqualMarks.{and_first}
 use Rattle.fac_check.specs.Verdicts.{no_generic_effect}
 use Rattle.fac_check.specs.inner.BrokenRules.{generic_rule}
-use Rattle.fac_check.specs.inner.Taken.{takes_sort}
+use Rattle.fac_check.specs.inner.Walkable.{takes_sort}
 use Rattle.fac_check.proofs.ClosedSorts.{plain_sort, opens_body, opens_method}
 use Rattle.fac_check.proofs.WordItems.{ok_maps}
 use Rattle.fac_check.proofs.VerdictLemmas.{body_verdict_is, method_verdict_is, generic_verdict_is, no_phrase_verdict, bad_rows_are, rows_refused}

@@ -2,7 +2,7 @@ use Rattle.std.proofs.Common.{◌≡◌, ◌+◌, ◌∷◌, true, length, drop,
 use Rattle.std.proofs.lemmas.List.{drop_more}
 use Rattle.fac_lang.specs.declared.phrase.Item.{Item as PlacedItem}
 use Rattle.fac_lang.specs.PhraseView.{items_phrase}
-use Rattle.fac_check.specs.inner.Taken.{takes_phrase}
+use Rattle.fac_check.specs.inner.Walkable.{takes_phrase}
 use Rattle.fac_check.proofs.TakenPrograms.{first_taken, others_taken}
 use Rattle.fac_check.proofs.recursion.add_names.Goals as goal
 

@@ -1,6 +1,6 @@
 use Rattle.std.proofs.Common.{◌≡◌, true, ◌++◌, length, drop}
 use Rattle.fac_lang.specs.PhraseView.{items_phrase}
-use Rattle.fac_check.specs.inner.Taken.{takes_phrase}
+use Rattle.fac_check.specs.inner.Walkable.{takes_phrase}
 use Rattle.fac_check.specs.inner.UndeclaredRecursion.{phrase_names}
 use Rattle.fac_check.proofs.recursion.add_names.Given as goal
 

@@ -3,7 +3,7 @@ use Rattle.fac_abs.specs.Marks.{unknowns}
 use Rattle.fac_lang.specs.declared.phrase.Template.{Template}
 use Rattle.fac_check.specs.declared.subject.Subject.{Subject}
 use Rattle.fac_check.specs.declared.walker.Step.{Step}
-use Rattle.fac_check.specs.inner.Taken.{takes_phrase}
+use Rattle.fac_check.specs.inner.Walkable.{takes_phrase}
 use Rattle.fac_check.specs.inner.Walking.{IsWalkOfPhrase}
 use Rattle.fac_check.proofs.NamedLiterals.{template_named}
 use Rattle.fac_check.proofs.LiteralsShow.{shows_cells}

@@ -3,7 +3,7 @@ use Rattle.std.proofs.Common.{◌≡◌, true, None, ◌∙◌, length, ap, sym,
 use Rattle.fac_abs.specs.Marks.{unknowns}
 use Rattle.fac_check.specs.declared.subject.Subject.{Subject}
 use Rattle.fac_check.specs.declared.walker.Step.{Step}
-use Rattle.fac_check.specs.inner.Taken.{takes_phrase}
+use Rattle.fac_check.specs.inner.Walkable.{takes_phrase}
 use Rattle.fac_check.specs.inner.Walking.{IsWalkOfPhrase}
 use Rattle.fac_locals.specs.Literals.{first_of_word}
 use Rattle.fac_check.proofs.NamedLiterals.{words_named}

@@ -22,7 +22,7 @@ use Rattle.fac_abs.specs.SeenMarks.{mark_of, frame_of, stack_of, base_seen, reac
 use Rattle.fac_abs.specs.declared.rule.Rule.TheVariants.{NotKnown}
 use Rattle.fac_check.specs.Flow.{refused, and_then, walk_mark, walk_inputs, walk_use, inside, join, counted, unless_broken}
 use Rattle.fac_check.specs.inner.ItemWalk.{counted_item}
-use Rattle.fac_check.specs.inner.Taken.{takes_phrase}
+use Rattle.fac_check.specs.inner.Walkable.{takes_phrase}
 use Rattle.fac_check.specs.inner.Walking.{go_at, body_phrase, doing_seen, walked_seen, IsActOf, IsExecuted, FollowsExecuted, IsWithin, IsBelow, AreBound, AreWithin, IsWalked, IsWalkOfOne, IsWalkOfPhrase, items_of}
 use Rattle.fac_check.specs.declared.walker.Step.{Step}
 use Rattle.fac_check.specs.declared.walker.Walked.TheVariants.{Found}

@@ -3,7 +3,7 @@ use Rattle.fac_lang.specs.PhraseView.{items_phrase}
 use Rattle.fac_lang.specs.Phrases.{Literal, Phrase}
 use Rattle.fac_locals.specs.Frames.{Opens}
 use Rattle.fac_abs.specs.SeenMarks.{Grows, IsFrame, IsStack, frame_of, stack_of, base_seen}
-use Rattle.fac_check.specs.inner.Taken.{takes_phrase}
+use Rattle.fac_check.specs.inner.Walkable.{takes_phrase}
 use Rattle.fac_base.specs.EffectView.{inputs_tree}
 use Rattle.fac_rows.specs.SeenBindings.{IsBinding, binding_seen}
 use Rattle.fac_check.specs.Flow.{walk_inputs}
