@@ -13,7 +13,7 @@ use Rattle.fac_items.specs.Readings.{read_form, read_forms, with_items}
 use Rattle.fac_names.specs.Forms.{Reading, scoped, take, take_file}
 use Rattle.fac_names.specs.FromFlat.{form_of, row}
 use Rattle.fac_items.specs.FromElements.{nested}
-use Rattle.fac_names.specs.Taken.{take_flat, take_front}
+use Rattle.fac_names.specs.TakenForms.{take_flat, take_front}
 use Rattle.fac_names.specs.inner.Taking.{take_all}
 
 -- the next form of those that are left

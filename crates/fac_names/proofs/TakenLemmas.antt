@@ -10,7 +10,7 @@ use Rattle.fac_source.specs.declared.refusal.ResolveFault.{ResolveFault}
 use Rattle.fac_vocab.specs.Scopes.{begun}
 use Rattle.fac_names.specs.Forms.{Reading, scoped}
 use Rattle.fac_names.specs.Resolution.{Resolves, first_reading}
-use Rattle.fac_names.specs.Taken.{HasTaken, take_flat, take_front, taken}
+use Rattle.fac_names.specs.TakenForms.{HasTaken, take_flat, take_front, taken}
 use Rattle.fac_names.specs.declared.resolver.Resolver.{Resolver}
 use Rattle.fac_names.specs.inner.Ended.{EndsReading}
 use Rattle.fac_names.specs.inner.State.{reading_of}

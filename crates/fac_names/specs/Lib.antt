@@ -4,7 +4,7 @@ pub mod WrittenInputs
 pub mod FromFlat
 pub mod KnownWords
 pub mod Resolution
-pub mod Taken
+pub mod TakenForms
 pub mod Signs
 pub mod Laws
 pub mod inner

@@ -11,7 +11,7 @@ ghost use Rattle.fac_names.specs.FromFlat.{first_node, form_of, is_inline, is_re
 ghost use Rattle.std.specs.Option.{option_copied};
 ghost use Rattle.fac_names.specs.inner.Named.{option_tok};
 ghost use Rattle.fac_names.specs.inner.State.{reading_of};
-ghost use Rattle.fac_names.specs.Taken.{take_flat};
+ghost use Rattle.fac_names.specs.TakenForms.{take_flat};
 
 use crate::accessors::accessors;
 use crate::bodies::{define, maker, method, take_items};

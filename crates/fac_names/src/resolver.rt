@@ -4,7 +4,7 @@ ghost use Rattle.fac_lang.specs.Whole.{IsWhole};
 ghost use Rattle.fac_source.specs.declared.tree.Form.{Form};
 ghost use Rattle.fac_parse.specs.Trees.{AreForms, AreWellFormed};
 ghost use Rattle.fac_names.specs.Resolution.{Resolves, first_reading, settled_draft};
-ghost use Rattle.fac_names.specs.Taken.{HasTaken};
+ghost use Rattle.fac_names.specs.TakenForms.{HasTaken};
 ghost use Rattle.fac_names.specs.inner.Ended.{EndsReading};
 ghost use Rattle.fac_names.specs.inner.State.{reading_of};
 

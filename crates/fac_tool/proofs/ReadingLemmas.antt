@@ -12,7 +12,7 @@ use Rattle.fac_parse.specs.declared.reader.ParseFault.TheVariants as parse
 use Rattle.fac_parse.specs.declared.parser.Parser.{Parser}
 use Rattle.fac_parse.specs.Handed.{HandsOut}
 use Rattle.fac_names.specs.declared.resolver.Resolver.{Resolver}
-use Rattle.fac_names.specs.Taken.{HasTaken}
+use Rattle.fac_names.specs.TakenForms.{HasTaken}
 use Rattle.fac_prelude.specs.PreludeText.{prelude_text}
 use Rattle.fac_notes.specs.declared.report.ByteFault.{ByteFault}
 use Rattle.fac_notes.specs.declared.report.ByteFault.TheVariants as byte

@@ -6,7 +6,7 @@ ghost use Rattle.fac_lang.specs.Whole.{IsWhole};
 ghost use Rattle.fac_check.specs.Judged.{OfEach, StandsForWhole, refusal_if, refusal_seen};
 ghost use Rattle.fac_check.specs.Verdicts.{verdict};
 ghost use Rattle.fac_names.specs.Resolution.{resolved};
-ghost use Rattle.fac_names.specs.Taken.{HasTaken};
+ghost use Rattle.fac_names.specs.TakenForms.{HasTaken};
 ghost use Rattle.fac_parse.specs.Trees.{AreWellFormed};
 ghost use Rattle.fac_tool.specs.Answer.{OnAccepted, on_resolved, on_verdict, own_definitions};
 ghost use Rattle.fac_tool.specs.inner.Stops.{SameNames, StandsFor, StandsForSafe};

@@ -6,7 +6,7 @@ ghost use Rattle.fac_source.specs.declared.tree.Form.{Form as FormSeen};
 ghost use Rattle.fac_token.specs.Tokens.{Tokenizes};
 ghost use Rattle.fac_parse.specs.Trees.{AreForms};
 ghost use Rattle.fac_parse.specs.Handed.{HasHandedOut, calls_left};
-ghost use Rattle.fac_names.specs.Taken.{HasTaken};
+ghost use Rattle.fac_names.specs.TakenForms.{HasTaken};
 ghost use Rattle.fac_prelude.specs.PreludeText.{prelude_text};
 ghost use Rattle.fac_notes.specs.declared.report.Report.TheVariants.{Bytes as bytes_report};
 ghost use Rattle.fac_tool.specs.inner.StepEnds.{fault_ending, tree_ending, reported as reported_ending};

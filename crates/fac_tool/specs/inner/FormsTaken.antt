@@ -10,7 +10,7 @@ use Rattle.fac_parse.specs.declared.parser.Parser.{Parser}
 use Rattle.fac_parse.specs.Handed.{HasHandedOut}
 use Rattle.fac_parse.specs.Trees.{Reads}
 use Rattle.fac_names.specs.declared.resolver.Resolver.{Resolver}
-use Rattle.fac_names.specs.Taken.{HasTaken}
+use Rattle.fac_names.specs.TakenForms.{HasTaken}
 use Rattle.fac_names.specs.Resolution.{resolved}
 use Rattle.fac_tool.specs.declared.ended.Ended.{Ended}
 use Rattle.fac_tool.specs.declared.accepting.NamedProgram.{NamedProgram}

@@ -1,7 +1,7 @@
 use Rattle.std.proofs.Common.{◌≡◌, fold, length}
 use Rattle.std.specs.Vec.Iter.{into_iter_items, into_iter_len}
 use Rattle.fac_parse.specs.Trees.{AreForms}
-use Rattle.fac_names.specs.Taken.{take_flat}
+use Rattle.fac_names.specs.TakenForms.{take_flat}
 use Rattle.fac_names.specs.inner.State.{reading_of}
 use Rattle.fac_names.proofs.files.take_forms.Given as goal
 
