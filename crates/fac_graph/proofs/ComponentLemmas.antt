@@ -6,8 +6,8 @@ use Rattle.std.proofs.lemmas.Bool.{or_right, or_cases}
 use Rattle.std.proofs.lemmas.List.{append-nil, length-take-le}
 use Rattle.fac_graph.specs.Paths.{one_of, IsOneOf, successors, LeadsTo, by_edge, and_edge}
 use Rattle.fac_graph.specs.inner.Components.{IsClosed, Reaches, Decides, is_seen, is_done, standing_or_done, done_at, IsSettled, NoneBetween, Source, Explores, last_of, behind_place, Joins, own_edge, comes_back, all_done, KeepsSeen}
-use Rattle.fac_graph.specs.declared.components.Visit.{Visit}
-use Rattle.fac_graph.specs.declared.components.Visit.TheVariants.{Unseen, Open, Done}
+use Rattle.fac_graph.specs.declared.components.VisitState.{VisitState}
+use Rattle.fac_graph.specs.declared.components.VisitState.TheVariants.{Unseen, Open, Done}
 use Rattle.fac_graph.specs.declared.components.Component.{Component}
 use Rattle.fac_graph.proofs.NumberLists.{same_number, in_one, only_one, at_either, some_same, yes_or_no, under, in_front, at_last, at_end, at_part, last_there, set_here, set_other, set_same, set_keeps, set_back, drop_left, drop_right, drop_either, none_left, in_drop, Found, drop_at, take_at, at_take, at_get, there, at_or_behind}
 use Rattle.fac_graph.proofs.PathLemmas.{reaches_itself, reaches_on, reaches_both, pair_leads_back}
@@ -28,21 +28,21 @@ same_flag a b e = cc
 same_place : (p q : ℕ) → Open p ≡ Open q → p ≡ q
 same_place p q e = cc
 
-not_done : (s : Visit) → s ≡ Unseen → is_done (Some s) ≡ true → ⊥
-not_done s is e = absurd (let clash : false ≡ true = sym (ap (λ (t : Visit). is_done (Some t)) is) ∙ e in cc)
+not_done : (s : VisitState) → s ≡ Unseen → is_done (Some s) ≡ true → ⊥
+not_done s is e = absurd (let clash : false ≡ true = sym (ap (λ (t : VisitState). is_done (Some t)) is) ∙ e in cc)
 
 -- what a node's standing, or that it isn't there, says
-pub is_unseen : (o : Option Visit) (s : Visit) → s ≡ standing_or_done o → s ≡ Unseen → o ≡ Some Unseen
+pub is_unseen : (o : Option VisitState) (s : VisitState) → s ≡ standing_or_done o → s ≡ Unseen → o ≡ Some Unseen
 is_unseen None s e is = absurd (done_not_unseen false (sym e ∙ is))
 is_unseen (Some t) s e is = ap Some (sym e ∙ is)
 
-pub is_open : (o : Option Visit) (s : Visit) (q : ℕ) → s ≡ standing_or_done o → s ≡ Open q → o ≡ Some (Open q)
+pub is_open : (o : Option VisitState) (s : VisitState) (q : ℕ) → s ≡ standing_or_done o → s ≡ Open q → o ≡ Some (Open q)
 is_open None s q e is = absurd (done_not_open false q (sym e ∙ is))
 is_open (Some t) s q e is = ap Some (sym e ∙ is)
 
-pub is_over : (o : Option Visit) (s : Visit) (b : Bool) → s ≡ standing_or_done o → s ≡ Done b → is_done o ≡ true
+pub is_over : (o : Option VisitState) (s : VisitState) (b : Bool) → s ≡ standing_or_done o → s ≡ Done b → is_done o ≡ true
 is_over None s b e is = refl
-is_over (Some t) s b e is = ap (λ (r : Visit). is_done (Some r)) (sym e ∙ is)
+is_over (Some t) s b e is = ap (λ (r : VisitState). is_done (Some r)) (sym e ∙ is)
 
 -- two numbers are the same, or not
 pub same_or_other : (v w : ℕ) → (v ≡ w) ⊎ (v ≡ w → ⊥)
@@ -59,7 +59,7 @@ not_behind : (p q : ℕ) → nat_lt p q ≡ false → q ≤ p
 not_behind p q e = grind arith
 
 -- components in their order
-in_order_by : (edges : List (List ℕ)) (S : List Visit) (path : List ℕ) (components : List Component) (pending : List ℕ) → Explores edges S path components pending → (i j : ℕ) (c d : Component) → (i < j) ⊎ (j ≤ i) → i ≤ j → slice_get components i ≡ Some c → slice_get components j ≡ Some d → (c.first ≤ d.first) × (c.pending ≤ d.pending)
+in_order_by : (edges : List (List ℕ)) (S : List VisitState) (path : List ℕ) (components : List Component) (pending : List ℕ) → Explores edges S path components pending → (i j : ℕ) (c d : Component) → (i < j) ⊎ (j ≤ i) → i ≤ j → slice_get components i ≡ Some c → slice_get components j ≡ Some d → (c.first ≤ d.first) × (c.pending ≤ d.pending)
 in_order_by edges S path components pending h i j c d (inl lt) le ci dj =
     let o = h.ordered i j c d lt ci dj in
     (omega (arith, o.0), o.1)
@@ -68,21 +68,21 @@ in_order_by edges S path components pending h i j c d (inr ge) le ci dj =
     let same : c ≡ d = some_same c d (sym ci ∙ ap (slice_get components) here ∙ dj) in
     (subst (λ (x : Component). c.first ≤ x.first) same (omega arith), subst (λ (x : Component). c.pending ≤ x.pending) same (omega arith))
 
-pub in_order : (edges : List (List ℕ)) (S : List Visit) (path : List ℕ) (components : List Component) (pending : List ℕ) → Explores edges S path components pending → (i j : ℕ) (c d : Component) → i ≤ j → slice_get components i ≡ Some c → slice_get components j ≡ Some d → (c.first ≤ d.first) × (c.pending ≤ d.pending)
+pub in_order : (edges : List (List ℕ)) (S : List VisitState) (path : List ℕ) (components : List Component) (pending : List ℕ) → Explores edges S path components pending → (i j : ℕ) (c d : Component) → i ≤ j → slice_get components i ≡ Some c → slice_get components j ≡ Some d → (c.first ≤ d.first) × (c.pending ≤ d.pending)
 in_order edges S path components pending h i j c d le ci dj = in_order_by edges S path components pending h i j c d (at_or_behind j i) le ci dj
 
 -- A node is opened.
-module _ (edges : List (List ℕ)) (S : List Visit) (path : List ℕ) (components : List Component) (pending ws : List ℕ) (w : ℕ) (h : Explores edges S path components (pending ++ ws)) (unseen : slice_get S w ≡ Some Unseen) (only : (v : ℕ) → IsOneOf v ws → v ≡ w) (to_w : (p u : ℕ) → slice_get path p ≡ Some u → Reaches edges u w) (low : (i : ℕ) (c : Component) → slice_get components i ≡ Some c → c.pending ≤ length pending) where
+module _ (edges : List (List ℕ)) (S : List VisitState) (path : List ℕ) (components : List Component) (pending ws : List ℕ) (w : ℕ) (h : Explores edges S path components (pending ++ ws)) (unseen : slice_get S w ≡ Some Unseen) (only : (v : ℕ) → IsOneOf v ws → v ≡ w) (to_w : (p u : ℕ) → slice_get path p ≡ Some u → Reaches edges u w) (low : (i : ℕ) (c : Component) → slice_get components i ≡ Some c → c.pending ≤ length pending) where
   abbrev n : ℕ
   n = length path
 
   abbrev new : Component
   new = record { first = length path; pending = length pending }
 
-  abbrev after : List Visit
+  abbrev after : List VisitState
   after = set S w (Open n)
 
-  keeps : (v : ℕ) (s : Visit) → slice_get S v ≡ Some s → (s ≡ Unseen → ⊥) → slice_get after v ≡ Some s
+  keeps : (v : ℕ) (s : VisitState) → slice_get S v ≡ Some s → (s ≡ Unseen → ⊥) → slice_get after v ≡ Some s
   keeps v s e other = set_keeps S w v Unseen (Open n) s unseen e other
 
   -- a node that is done is another one
@@ -210,7 +210,7 @@ module _ (edges : List (List ℕ)) (S : List Visit) (path : List ℕ) (component
       seen_by (inr other) = ap is_seen (set_other S w v (Open n) other) ∙ e
 
 -- A node that was pending is followed: from the end of what is pending.
-module _ (edges : List (List ℕ)) (S : List Visit) (path : List ℕ) (all : List Component) (pending : List ℕ) (w : ℕ) (h : Explores edges S path all (pending ++ w ∷ [])) (low : (i : ℕ) (c : Component) → slice_get all i ≡ Some c → c.pending ≤ length pending) where
+module _ (edges : List (List ℕ)) (S : List VisitState) (path : List ℕ) (all : List Component) (pending : List ℕ) (w : ℕ) (h : Explores edges S path all (pending ++ w ∷ [])) (low : (i : ℕ) (c : Component) → slice_get all i ≡ Some c → c.pending ≤ length pending) where
   -- all nodes of the path lead to it
   pub leads_to : (p u : ℕ) → slice_get path p ≡ Some u → Reaches edges u w
   leads_to p u pu =
@@ -275,28 +275,28 @@ module _ (edges : List (List ℕ)) (S : List Visit) (path : List ℕ) (all : Lis
     followed_open = followed kept j.joined j.whole (λ i c ci. inr (inl (place, is_open_at, kept_low i c ci))) (λ p q u v pu qv none. joined_leads p q u v pu qv none (at_or_behind p place)) (λ none. joined_ends none (at_or_behind (length all) 0))
 
 -- nodes that are done
-done_length : (b : Bool) (ws : List ℕ) (S : List Visit) → length (all_done b ws S) ≡ length S
+done_length : (b : Bool) (ws : List ℕ) (S : List VisitState) → length (all_done b ws S) ≡ length S
 done_length b [] S = refl
 done_length b (w ∷ ws) S = done_length b ws (set S w (Done b)) ∙ length-set S w (Done b)
 
-done_stays : (b : Bool) (ws : List ℕ) (S : List Visit) (v : ℕ) → slice_get S v ≡ Some (Done b) → slice_get (all_done b ws S) v ≡ Some (Done b)
+done_stays : (b : Bool) (ws : List ℕ) (S : List VisitState) (v : ℕ) → slice_get S v ≡ Some (Done b) → slice_get (all_done b ws S) v ≡ Some (Done b)
 done_stays b [] S v e = e
 done_stays b (w ∷ ws) S v e = done_stays b ws (set S w (Done b)) v (set_same S w v (Done b) e)
 
-done_here : (b : Bool) (ws : List ℕ) (S : List Visit) (v : ℕ) → v < length S → IsOneOf v ws → slice_get (all_done b ws S) v ≡ Some (Done b)
+done_here : (b : Bool) (ws : List ℕ) (S : List VisitState) (v : ℕ) → v < length S → IsOneOf v ws → slice_get (all_done b ws S) v ≡ Some (Done b)
 done_here b [] S v lt h = absurd cc
 done_here b (w ∷ ws) S v lt h = elim (or_cases (nat_eq v w) (one_of v ws) h) [
   | inl p ↦ let found = there S v lt in let here = set_here S v found.0 (Done b) found.1 in done_stays b ws (set S w (Done b)) v (ap (λ (k : ℕ). slice_get (set S k (Done b)) v) (sym (same_number v w p)) ∙ here)
   | inr p ↦ done_here b ws (set S w (Done b)) v (omega (arith, lt, length-set S w (Done b))) p
 ]
 
-done_other : (b : Bool) (ws : List ℕ) (S : List Visit) (v : ℕ) → (IsOneOf v ws → ⊥) → slice_get (all_done b ws S) v ≡ slice_get S v
+done_other : (b : Bool) (ws : List ℕ) (S : List VisitState) (v : ℕ) → (IsOneOf v ws → ⊥) → slice_get (all_done b ws S) v ≡ slice_get S v
 done_other b [] S v other = refl
 done_other b (w ∷ ws) S v other =
     done_other b ws (set S w (Done b)) v (λ h. other (or_right (nat_eq v w) (one_of v ws) h)) ∙ set_other S w v (Done b) (λ same. other (subst (λ (x : ℕ). IsOneOf v (x ∷ ws)) same (in_one v ws)))
 
 -- The last component is closed.
-module _ (edges : List (List ℕ)) (S : List Visit) (path : List ℕ) (components : List Component) (top : Component) (pending : List ℕ) (h : Explores edges S path (components ++ top ∷ []) pending) (few : length pending ≤ top.pending) where
+module _ (edges : List (List ℕ)) (S : List VisitState) (path : List ℕ) (components : List Component) (top : Component) (pending : List ℕ) (h : Explores edges S path (components ++ top ∷ []) pending) (few : length pending ≤ top.pending) where
   abbrev start : ℕ
   start = top.first
 
@@ -374,7 +374,7 @@ module _ (edges : List (List ℕ)) (S : List Visit) (path : List ℕ) (component
   closing_decides : (p u : ℕ) → slice_get path p ≡ Some u → start ≤ p → Decides edges u (comes_back edges path start)
   closing_decides p u pu le = decides_by p u (comes_back edges path start) pu le (many_or_one (length path) (comes_back edges path start) (nat_lt 1 (length path - start)) (own_edge edges (slice_get path start)) refl refl start_low)
 
-  abbrev closed_standings : List Visit
+  abbrev closed_standings : List VisitState
   closed_standings = all_done (comes_back edges path start) closing S
 
   in_closing : (p u : ℕ) → slice_get path p ≡ Some u → start ≤ p → IsOneOf u closing

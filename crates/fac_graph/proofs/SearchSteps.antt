@@ -5,25 +5,25 @@ use Rattle.std.proofs.lemmas.Bool.{and_from}
 use Rattle.std.proofs.lemmas.List.{append-nil, length-replicate}
 use Rattle.fac_graph.specs.Paths.{IsOneOf, list_or_none, successors, AreLeadingBack}
 use Rattle.fac_graph.specs.inner.Components.{are_below, Reaches, is_seen, is_done, Explores, IsExplored, last_of, Joins, Opens, Closes, comes_back, all_done, to_open, all_to_open, KeepsSeen, Steps, MayFollow, Follows, IsIdle, all_finished, IsOver, Visits}
-use Rattle.fac_graph.specs.declared.components.Visit.{Visit}
-use Rattle.fac_graph.specs.declared.components.Visit.TheVariants.{Unseen, Open, Done}
+use Rattle.fac_graph.specs.declared.components.VisitState.{VisitState}
+use Rattle.fac_graph.specs.declared.components.VisitState.TheVariants.{Unseen, Open, Done}
 use Rattle.fac_graph.specs.declared.components.Component.{Component}
 use Rattle.fac_graph.specs.declared.components.Search.{Search}
 use Rattle.fac_graph.proofs.NumberLists.{only_one, some_same, under, last_there, set_here, there, each_below, last_or_before, none_there}
 use Rattle.fac_graph.proofs.ComponentLemmas.{in_order, opened, opened_seen, leads_to, followed_done, followed_open, closed, closed_seen}
 
 -- how many steps are left
-left_opened : (S : List Visit) (edges : List (List ℕ)) (w q : ℕ) → slice_get S w ≡ Some Unseen → length S ≡ length edges → all_to_open (set S w (Open q)) edges + suc (length (successors edges w)) ≡ all_to_open S edges
+left_opened : (S : List VisitState) (edges : List (List ℕ)) (w q : ℕ) → slice_get S w ≡ Some Unseen → length S ≡ length edges → all_to_open (set S w (Open q)) edges + suc (length (successors edges w)) ≡ all_to_open S edges
 left_opened [] edges w q e same = absurd cc
 left_opened (s ∷ S) [] w q e same = absurd (omega (arith, same))
 left_opened (s ∷ S) (vs ∷ edges) zero q e same =
-    let here : to_open s vs ≡ suc (length vs) = ap (λ (t : Visit). to_open t vs) (some_same s Unseen e) in
+    let here : to_open s vs ≡ suc (length vs) = ap (λ (t : VisitState). to_open t vs) (some_same s Unseen e) in
     omega (arith, here)
 left_opened (s ∷ S) (vs ∷ edges) (suc w) q e same =
     let rest = left_opened S edges w q e (omega (arith, same)) in
     omega (arith, rest)
 
-left_set : (S : List Visit) (edges : List (List ℕ)) (w : ℕ) (b : Bool) → all_to_open (set S w (Done b)) edges ≤ all_to_open S edges
+left_set : (S : List VisitState) (edges : List (List ℕ)) (w : ℕ) (b : Bool) → all_to_open (set S w (Done b)) edges ≤ all_to_open S edges
 left_set [] edges w b = omega arith
 left_set (s ∷ S) [] zero b = omega arith
 left_set (s ∷ S) [] (suc w) b = omega arith
@@ -32,17 +32,17 @@ left_set (s ∷ S) (vs ∷ edges) (suc w) b =
     let rest = left_set S edges w b in
     omega (arith, rest)
 
-left_done : (S : List Visit) (edges : List (List ℕ)) (ws : List ℕ) (b : Bool) → all_to_open (all_done b ws S) edges ≤ all_to_open S edges
+left_done : (S : List VisitState) (edges : List (List ℕ)) (ws : List ℕ) (b : Bool) → all_to_open (all_done b ws S) edges ≤ all_to_open S edges
 left_done S edges [] b = omega arith
 left_done S edges (w ∷ ws) b =
     let rest = left_done (set S w (Done b)) edges ws b in
     let one = left_set S edges w b in
     omega (arith, rest, one)
 
-explores_same : (edges : List (List ℕ)) (S S' : List Visit) (path path' : List ℕ) (components components' : List Component) (pending pending' : List ℕ) → S' ≡ S → path' ≡ path → components' ≡ components → pending' ≡ pending → Explores edges S path components pending → Explores edges S' path' components' pending'
+explores_same : (edges : List (List ℕ)) (S S' : List VisitState) (path path' : List ℕ) (components components' : List Component) (pending pending' : List ℕ) → S' ≡ S → path' ≡ path → components' ≡ components → pending' ≡ pending → Explores edges S path components pending → Explores edges S' path' components' pending'
 explores_same edges S S' path path' components components' pending pending' a b c d h = rw (a, b, c, d) h
 
-seen_same : (S T T' : List Visit) → T' ≡ T → KeepsSeen S T → KeepsSeen S T'
+seen_same : (S T T' : List VisitState) → T' ≡ T → KeepsSeen S T → KeepsSeen S T'
 seen_same S T T' e h = rw e h
 
 -- a node that wasn't met is opened
@@ -51,7 +51,7 @@ opens_explored edges before after ws w h unseen only to_w low o = record {
   explored = explores_same edges _ after.standings.items _ after.path.items _ after.components.items _ after.pending.items o.standings_are o.path_is o.components_are o.pending_is (opened edges before.standings.items before.path.items before.components.items before.pending.items ws w h unseen only to_w low);
   fewer = omega (
     arith,
-    ap (λ (S : List Visit). all_to_open S edges) o.standings_are,
+    ap (λ (S : List VisitState). all_to_open S edges) o.standings_are,
     left_opened before.standings.items edges w (length before.path.items) unseen h.counted,
     ap length o.components_are,
     length-append before.components.items (record { first = length before.path.items; pending = length before.pending.items } ∷ []),
@@ -69,14 +69,14 @@ follows_unseen edges before after w m unseen o =
 pub follows_open : (edges : List (List ℕ)) (before after : Search) (w place : ℕ) → MayFollow edges before w → slice_get before.standings.items w ≡ Some (Open place) → after.standings.items ≡ before.standings.items → after.path.items ≡ before.path.items → after.pending.items ≡ before.pending.items → Joins place before.components.items after.components.items → Follows edges before after
 follows_open edges before after w place m is_open a b d j = record {
   explored = explores_same edges before.standings.items after.standings.items before.path.items after.path.items after.components.items after.components.items before.pending.items after.pending.items a b refl d (followed_open edges before.standings.items before.path.items before.components.items before.pending.items w m.explored m.low place is_open after.components.items j);
-  fewer = omega (arith, ap (λ (S : List Visit). all_to_open S edges) a, ap length d, ap length j.whole, length-append after.components.items j.joined);
+  fewer = omega (arith, ap (λ (S : List VisitState). all_to_open S edges) a, ap length d, ap length j.whole, length-append after.components.items j.joined);
   kept = seen_same before.standings.items before.standings.items after.standings.items a (λ v e. e);
 }
 
 pub follows_done : (edges : List (List ℕ)) (before after : Search) (w : ℕ) → MayFollow edges before w → is_done (slice_get before.standings.items w) ≡ true → after.standings.items ≡ before.standings.items → after.path.items ≡ before.path.items → after.components.items ≡ before.components.items → after.pending.items ≡ before.pending.items → Follows edges before after
 follows_done edges before after w m is_done_at a p k d = record {
   explored = explores_same edges before.standings.items after.standings.items before.path.items after.path.items before.components.items after.components.items before.pending.items after.pending.items a p k d (followed_done edges before.standings.items before.path.items before.components.items before.pending.items w m.explored m.low is_done_at);
-  fewer = omega (arith, ap (λ (S : List Visit). all_to_open S edges) a, ap length d, ap length k);
+  fewer = omega (arith, ap (λ (S : List VisitState). all_to_open S edges) a, ap length d, ap length k);
   kept = seen_same before.standings.items before.standings.items after.standings.items a (λ v e. e);
 }
 
@@ -95,7 +95,7 @@ closes_at edges before after top h few c same = record {
   explored = explores_same edges _ after.standings.items _ after.path.items after.components.items after.components.items before.pending.items after.pending.items c.standings_are c.path_is refl c.pending_is (closed edges before.standings.items before.path.items after.components.items top before.pending.items h few);
   fewer = omega (
     arith,
-    ap (λ (S : List Visit). all_to_open S edges) c.standings_are,
+    ap (λ (S : List VisitState). all_to_open S edges) c.standings_are,
     left_done before.standings.items edges (drop top.first before.path.items) (comes_back edges before.path.items top.first),
     ap length c.pending_is,
     ap length c.top_is,
@@ -147,7 +147,7 @@ visiting_begins edges before now w idle unseen o =
     record {
       explored = f.explored;
       kept = f.kept;
-      seen = ap (λ (S : List Visit). is_seen (slice_get S w)) o.standings_are ∙ ap is_seen (set_here before.standings.items w Unseen (Open (length before.path.items)) unseen);
+      seen = ap (λ (S : List VisitState). is_seen (slice_get S w)) o.standings_are ∙ ap is_seen (set_here before.standings.items w Unseen (Open (length before.path.items)) unseen);
     }
 
 pub visiting_step : (edges : List (List ℕ)) (before now after : Search) (w : ℕ) → Visiting edges w before now → Steps edges now after → Visiting edges w before after
@@ -161,11 +161,11 @@ pub visits_none : (edges : List (List ℕ)) (s : Search) (w : ℕ) → IsIdle ed
 visits_none edges s w idle met = record { idle = idle; kept = λ v e. e; seen = met }
 
 -- all nodes were met up to this one
-abbrev pub SeenBelow : ℕ → List Visit → Type 0
+abbrev pub SeenBelow : ℕ → List VisitState → Type 0
 SeenBelow n standings = (v : ℕ) → v < n → is_seen (slice_get standings v) ≡ true
 
 -- nodes are visited one by one
-pub seen_none : (S : List Visit) → SeenBelow 0 S
+pub seen_none : (S : List VisitState) → SeenBelow 0 S
 seen_none S v lt = absurd (omega (arith, lt))
 
 pub seen_more : (edges : List (List ℕ)) (before after : Search) (w : ℕ) → SeenBelow w before.standings.items → Visits edges w before after → SeenBelow (w + 1) after.standings.items
@@ -174,11 +174,11 @@ seen_more edges before after w below visits v lt = elim (last_or_before v w lt) 
   | inr p ↦ subst (λ (x : ℕ). is_seen (slice_get after.standings.items x) ≡ true) (sym p) visits.seen
 ]
 
-finished_each : (S : List Visit) → ((v : ℕ) (s : Visit) → slice_get S v ≡ Some s → is_done (Some s) ≡ true) → all_finished S ≡ true
+finished_each : (S : List VisitState) → ((v : ℕ) (s : VisitState) → slice_get S v ≡ Some s → is_done (Some s) ≡ true) → all_finished S ≡ true
 finished_each [] all = refl
 finished_each (s ∷ S) all = and_from (is_done (Some s)) (all_finished S) (all 0 s refl) (finished_each S (λ v t e. all (suc v) t e))
 
-done_by : (s : Visit) → is_seen (Some s) ≡ true → ((q : ℕ) → s ≡ Open q → ⊥) → is_done (Some s) ≡ true
+done_by : (s : VisitState) → is_seen (Some s) ≡ true → ((q : ℕ) → s ≡ Open q → ⊥) → is_done (Some s) ≡ true
 done_by Unseen e none = absurd cc
 done_by (Open q) e none = absurd (none q refl)
 done_by (Done b) e none = refl
@@ -192,7 +192,7 @@ all_visited edges s n idle below le =
     }
 
 -- a search that has not begun
-unseen_at : (n v : ℕ) (s : Visit) → slice_get (replicate n Unseen) v ≡ Some s → s ≡ Unseen
+unseen_at : (n v : ℕ) (s : VisitState) → slice_get (replicate n Unseen) v ≡ Some s → s ≡ Unseen
 unseen_at zero v s e = absurd cc
 unseen_at (suc n) zero s e = some_same s Unseen (sym e)
 unseen_at (suc n) (suc v) s e = unseen_at n v s e
@@ -240,7 +240,7 @@ flags_length (c ∷ flags) = ap suc (flags_length flags)
 pub over_decides : (edges : List (List ℕ)) (s : Search) (flags : List Bool) → IsOver edges s → s.standings.items ≡ map Done flags → AreLeadingBack edges flags
 over_decides edges s flags over are = record {
   same_length = sym (ap length are ∙ flags_length flags) ∙ over.explored.counted;
-  each = λ w b e. over.explored.decided w b (ap (λ (S : List Visit). slice_get S w) are ∙ flag_there flags w b e);
+  each = λ w b e. over.explored.decided w b (ap (λ (S : List VisitState). slice_get S w) are ∙ flag_there flags w b e);
 }
 
 -- what follows from a call's fact

@@ -2,14 +2,14 @@
 ghost use Rattle.std.specs.Prelude.{◌≡◌, ◌<◌, true, length, map, IfOk, OnOk, slice_get, Some};
 ghost use Rattle.fac_graph.specs.Paths.{AreLeadingBack, one_of, successors};
 ghost use Rattle.fac_graph.specs.inner.Components.{Opens, Joins, Closes, IsExplored, IsIdle, IsOver, Steps, Follows, MayFollow, Visits, all_done, all_finished, are_below, behind_place, comes_back, is_done, last_of, standing_or_done};
-ghost use Rattle.fac_graph.specs.declared.components.Visit.TheVariants.{Unseen, Done};
+ghost use Rattle.fac_graph.specs.declared.components.VisitState.TheVariants.{Unseen, Done};
 
 use fac_base::{List, Memory};
 use std::alloc::Global;
 
 // How far a search has come with a node.
 #[derive(Clone, Copy)]
-enum Visit {
+enum VisitState {
     // It wasn't met.
     Unseen,
     // It is at this place of the path.
@@ -29,7 +29,7 @@ struct Component {
 // What a search has found.
 #[derive(Drop)]
 struct Search {
-    standings: Vec<Visit>,
+    standings: Vec<VisitState>,
     // The open nodes, in the order in which they were met.
     path: Vec<u32>,
     // The components of the path.
@@ -67,7 +67,7 @@ fn open(search: &mut Search, edges: &List<List<u32>>, node: u32) -> Result<(), M
 {
     let first = search.path.len();
     let pending = search.pending.len();
-    search.standings[node as usize] = Visit::Open(first);
+    search.standings[node as usize] = VisitState::Open(first);
     search.path.push(node)?;
     search.components.push(Component { first, pending })?;
     search
@@ -106,12 +106,12 @@ fn join(components: &mut Vec<Component>, place: usize)
 }
 
 // The standing of a node. A number that isn't a node's is done, since it leads nowhere.
-fn standing_of(standings: &[Visit], node: u32) -> Visit
+fn standing_of(standings: &[VisitState], node: u32) -> VisitState
     ensures { result ≡ standing_or_done (slice_get standings.now node) }
 {
     match standings.get(node as usize) {
         Some(standing) => *standing,
-        None => Visit::Done(false),
+        None => VisitState::Done(false),
     }
 }
 
@@ -121,12 +121,12 @@ fn follow(search: &mut Search, edges: &List<List<u32>>, node: u32) -> Result<(),
     ensures { OnOk result (Follows edges.now search.old search.new) }
 {
     match standing_of(search.standings.as_slice(), node) {
-        Visit::Unseen => open(search, edges, node),
-        Visit::Open(place) => {
+        VisitState::Unseen => open(search, edges, node),
+        VisitState::Open(place) => {
             join(&mut search.components, place);
             Ok(())
         }
-        Visit::Done(_) => Ok(()),
+        VisitState::Done(_) => Ok(()),
     }
 }
 
@@ -139,13 +139,13 @@ fn leads_back(edges: &List<List<u32>>, path: &[u32], first: usize) -> bool
 }
 
 // Finishes nodes.
-fn finish(standings: &mut Vec<Visit>, nodes: &[u32], back: bool)
+fn finish(standings: &mut Vec<VisitState>, nodes: &[u32], back: bool)
     requires { are_below (length standings.old.items) nodes.now ≡ true }
     ensures { standings.new.items ≡ all_done back nodes.now standings.old.items }
 {
     for node in nodes {
         let next = *node as usize;
-        standings[next] = Visit::Done(back);
+        standings[next] = VisitState::Done(back);
     }
 }
 
@@ -198,9 +198,9 @@ fn visit(search: &mut Search, edges: &List<List<u32>>, node: u32) -> Result<(), 
     ensures { OnOk result (Visits edges.now node search.old search.new) }
 {
     match standing_of(search.standings.as_slice(), node) {
-        Visit::Unseen => explore(search, edges, node),
-        Visit::Open(_) => Ok(()),
-        Visit::Done(_) => Ok(()),
+        VisitState::Unseen => explore(search, edges, node),
+        VisitState::Open(_) => Ok(()),
+        VisitState::Done(_) => Ok(()),
     }
 }
 
@@ -216,18 +216,18 @@ fn visit_all(search: &mut Search, edges: &List<List<u32>>) -> Result<(), Memory>
 }
 
 // Whether a node that is done leads back to itself. slots.rt has the same for its standings, which are of another type.
-fn flag_of(standing: Visit) -> bool
+fn flag_of(standing: VisitState) -> bool
     requires { is_done (Some standing) ≡ true }
     ensures { standing ≡ Done result }
 {
     match standing {
-        Visit::Done(back) => back,
+        VisitState::Done(back) => back,
         _ => unreachable!(),
     }
 }
 
 // For each node whether it leads back to itself.
-fn flags_of(alloc: Global, standings: &[Visit]) -> Result<List<bool>, Memory>
+fn flags_of(alloc: Global, standings: &[VisitState]) -> Result<List<bool>, Memory>
     requires { all_finished standings.now ≡ true }
     ensures { IfOk result (λ flags. standings.now ≡ map Done flags) }
 {
@@ -245,7 +245,7 @@ pub fn leading_back(alloc: Global, edges: &List<List<u32>>) -> Result<List<bool>
     ensures { IfOk result (AreLeadingBack edges.now) }
 {
     let mut search = Search {
-        standings: vec![in alloc; Visit::Unseen; edges.as_slice().len()]?,
+        standings: vec![in alloc; VisitState::Unseen; edges.as_slice().len()]?,
         path: Vec::new(alloc),
         components: Vec::new(alloc),
         pending: Vec::new(alloc),

@@ -1,8 +1,8 @@
 -- The components of nodes that lead to one another, as a search along a path finds them.
 use Rattle.std.specs.Prelude.{◌≡◌, ◌<◌, ◌≤◌, ◌++◌, ◌+◌, ◌-◌, ◌⊎◌, ◌↔◌, ℕ, suc, List, [], ◌∷◌, length, drop, take, set, Bool, true, false, nat_lt, ◌&&◌, ◌||◌, Option, Some, None, slice_get}
 use Rattle.fac_graph.specs.Paths.{one_of, IsOneOf, successors, LeadsTo}
-use Rattle.fac_graph.specs.declared.components.Visit.{Visit}
-use Rattle.fac_graph.specs.declared.components.Visit.TheVariants.{Unseen, Open, Done}
+use Rattle.fac_graph.specs.declared.components.VisitState.{VisitState}
+use Rattle.fac_graph.specs.declared.components.VisitState.TheVariants.{Unseen, Open, Done}
 use Rattle.fac_graph.specs.declared.components.Component.{Component}
 use Rattle.fac_graph.specs.declared.components.Search.{Search}
 
@@ -24,25 +24,25 @@ abbrev pub Decides : List (List ℕ) → ℕ → Bool → Type 0
 Decides edges u b = (b ≡ true) ↔ LeadsTo edges u u
 
 -- whether a node was met; a number that isn't a node's counts as one that was
-abbrev pub is_seen : Option Visit → Bool
+abbrev pub is_seen : Option VisitState → Bool
 is_seen (Some Unseen) = false
 is_seen _ = true
 
 -- whether a node is done; a number that isn't a node's counts as one that is
-abbrev pub is_done : Option Visit → Bool
+abbrev pub is_done : Option VisitState → Bool
 is_done None = true
 is_done (Some (Done b)) = true
 is_done _ = false
 
-abbrev pub standing_or_done : Option Visit → Visit
+abbrev pub standing_or_done : Option VisitState → VisitState
 standing_or_done None = Done false
 standing_or_done (Some s) = s
 
-abbrev pub done_at : List Visit → ℕ → Bool
+abbrev pub done_at : List VisitState → ℕ → Bool
 done_at standings v = is_done (slice_get standings v)
 
 -- Node v is done, or is on the path from this place on, or is pending from this number on.
-abbrev pub IsSettled : List Visit → List ℕ → ℕ → ℕ → ℕ → Type 0
+abbrev pub IsSettled : List VisitState → List ℕ → ℕ → ℕ → ℕ → Type 0
 IsSettled standings pending first number v = (done_at standings v ≡ true) ⊎ (((q : ℕ) × (slice_get standings v ≡ Some (Open q)) × (first ≤ q)) ⊎ IsOneOf v (drop number pending))
 
 -- No component begins behind place q up to place p.
@@ -62,7 +62,7 @@ pub record Source (edges : List (List ℕ)) (path : List ℕ) (components : List
 -- whether they lead back to themselves. The successors of a node of the path are settled, seen from its component and from each one before it. A
 -- node of the path reaches all behind it, and those before it in its component. Each pending node has its source. The components begin one
 -- behind the other, the first where the path begins.
-pub record Explores (edges : List (List ℕ)) (standings : List Visit) (path : List ℕ) (components : List Component) (pending : List ℕ) : Type 0 where
+pub record Explores (edges : List (List ℕ)) (standings : List VisitState) (path : List ℕ) (components : List Component) (pending : List ℕ) : Type 0 where
   pub counted : length standings ≡ length edges
   pub open_is : (v q : ℕ) → slice_get standings v ≡ Some (Open q) → slice_get path q ≡ Some v
   pub path_is : (q v : ℕ) → slice_get path q ≡ Some v → slice_get standings v ≡ Some (Open q)
@@ -112,7 +112,7 @@ abbrev pub comes_back : List (List ℕ) → List ℕ → ℕ → Bool
 comes_back edges path first = nat_lt 1 (length path - first) || own_edge edges (slice_get path first)
 
 -- these nodes are done
-abbrev pub all_done : Bool → List ℕ → List Visit → List Visit
+abbrev pub all_done : Bool → List ℕ → List VisitState → List VisitState
 all_done back [] standings = standings
 all_done back (u ∷ us) standings = all_done back us (set standings u (Done back))
 
@@ -125,11 +125,11 @@ pub record Closes (edges : List (List ℕ)) (first : ℕ) (before after : Search
   pub pending_is : after.pending.items ≡ before.pending.items
 
 -- how many steps are left at most: those that open a node with its successors, those that follow a pending node, and those that close a component
-abbrev pub to_open : Visit → List ℕ → ℕ
+abbrev pub to_open : VisitState → List ℕ → ℕ
 to_open Unseen vs = suc (length vs)
 to_open _ vs = 0
 
-abbrev pub all_to_open : List Visit → List (List ℕ) → ℕ
+abbrev pub all_to_open : List VisitState → List (List ℕ) → ℕ
 all_to_open [] edges = 0
 all_to_open (s ∷ standings) [] = 0
 all_to_open (s ∷ standings) (vs ∷ edges) = to_open s vs + all_to_open standings edges
@@ -138,7 +138,7 @@ abbrev pub steps_left : List (List ℕ) → Search → ℕ
 steps_left edges s = all_to_open s.standings.items edges + length s.pending.items + length s.components.items
 
 -- nodes that were met stay so
-abbrev pub KeepsSeen : List Visit → List Visit → Type 0
+abbrev pub KeepsSeen : List VisitState → List VisitState → Type 0
 KeepsSeen before after = (v : ℕ) → is_seen (slice_get before v) ≡ true → is_seen (slice_get after v) ≡ true
 
 -- a step of a search
@@ -164,7 +164,7 @@ pub record IsIdle (edges : List (List ℕ)) (s : Search) : Type 0 where
   pub no_component : s.components.items ≡ []
 
 -- whether all nodes are done
-abbrev pub all_finished : List Visit → Bool
+abbrev pub all_finished : List VisitState → Bool
 all_finished [] = true
 all_finished (s ∷ standings) = is_done (Some s) && all_finished standings
 

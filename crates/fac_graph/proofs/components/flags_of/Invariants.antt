@@ -1,6 +1,6 @@
 use Rattle.std.proofs.Common.{◌≡◌, drop, take, map, true}
 use Rattle.fac_graph.specs.inner.Components.{all_finished}
-use Rattle.fac_graph.specs.declared.components.Visit.TheVariants.{Done}
+use Rattle.fac_graph.specs.declared.components.VisitState.TheVariants.{Done}
 use Rattle.fac_graph.proofs.components.flags_of.Given as goal
 
 abbrev pub invariant-loop-standing : goal.invariant-loop-standing

@@ -1,6 +1,6 @@
 use Rattle.std.proofs.Common.{◌≡◌, List, Bool, map, sym, ◌∙◌}
 use Rattle.fac_graph.specs.Paths.{AreLeadingBack}
-use Rattle.fac_graph.specs.declared.components.Visit.TheVariants.{Done}
+use Rattle.fac_graph.specs.declared.components.VisitState.TheVariants.{Done}
 use Rattle.fac_graph.proofs.SearchSteps.{if_ok, over_decides}
 use Rattle.fac_graph.proofs.components.leading_back.Goals as goal
 
