@@ -40,7 +40,18 @@ BODIES = [
     ("`1 [ drop ] curry call`", "1 [ drop ] curry call", "", 6),
     ("`[ ] [ ] compose call`", "[ ] [ ] compose call", "", 6),
     ("`0 { 1 2 } nth drop`", "0 { 1 2 } nth drop", "", 4),
-    ("a slot read of a tuple, with `dup` and `drop`", "b get-a", "TUPLE: box a ; : b ( -- box ) 5 box boa ; : get-a ( box -- ) a>> drop ; ", 0),
+]
+
+# The same with a tuple below the number, and what is done with it there; `over drop` is subtracted.
+TUPLE = "TUPLE: box a b ; GENERIC: same ( box -- box ) M: box same ; "
+WITH_TUPLE = ": turn ( box n -- ) dup 0 = [ 2drop ] [ %s 1 - turn ] if ; recursive "
+TUPLE_BODIES = [
+    ("a read of a tuple's first slot", "over a>> drop", 1),
+    ("a read of its second slot", "over b>> drop", 1),
+    ("`5` and a write of its first slot", "over 5 >>a drop", 2),
+    ("a generic call, and the `ret` of its method", "over same drop", 2),
+    ("a class test", "over box? drop", 1),
+    ("a tuple that is made of two literals, and `drop`", "over drop 1 2 box boa drop", 5),
 ]
 
 
@@ -63,10 +74,9 @@ def counted(folder, text, wanted):
     return int(re.search(r"Collected : (\d+)", done.stderr)[1])
 
 
-def turns(folder, body, head):
+def turns(folder, text, given=""):
     few, many = 200, 2200
-    text = head + LOOP % body
-    return (counted(folder, f"{text}{many} turn", "") - counted(folder, f"{text}{few} turn", "")) / (many - few)
+    return (counted(folder, f"{text}{given} {many} turn", "") - counted(folder, f"{text}{given} {few} turn", "")) / (many - few)
 
 
 def main():
@@ -89,11 +99,16 @@ def main():
         print(f"| a turn of `times` | {whole:.0f} | {whole / 31:.1f} |", flush=True)
         whole = (counted(folder, "0 2200 <iota> [ + ] each .", "2418900\n") - counted(folder, "0 200 <iota> [ + ] each .", "19900\n")) / 2000
         print(f"| a turn of `each` | {whole:.0f} | {whole / 33:.1f} |", flush=True)
-        none = turns(folder, "", "")
+        none = turns(folder, LOOP % "")
         print(f"| a turn with nothing in it | {none:.0f} | |", flush=True)
         for what, body, head, count in BODIES:
-            took = turns(folder, body, head) - none
-            print(f"| {what} | {took:.0f} | {f'{took / count:.1f}' if count else ''} |", flush=True)
+            took = turns(folder, head + LOOP % body) - none
+            print(f"| {what} | {took:.0f} | {took / count:.1f} |", flush=True)
+        box = "1 2 box boa"
+        none = turns(folder, TUPLE + WITH_TUPLE % "over drop", box)
+        for what, body, count in TUPLE_BODIES:
+            took = turns(folder, TUPLE + WITH_TUPLE % body, box) - none
+            print(f"| {what} | {took:.0f} | {took / count:.1f} |", flush=True)
 
 
 main()
