@@ -125,7 +125,7 @@ ROWS = [
     Row(
         "An instruction (`unbind`)",
         r"\b[Uu]nbind\b",
-        also=[r"\bBoa\b", r"\bCallEffect\b", r"\bFry\b", r"\bc_boa\b", r"is_on_class", r"\bc_bind\b|instr_refers|\bCallw\b|\bg_(bind|push)\b"],
+        also=[r"\bBoa\b", r"\bGet\b|\bIsa\b", r"\bCallEffect\b", r"\bFry\b", r"\bc_boa\b", r"is_on_class", r"\bc_bind\b|instr_refers|\bCallw\b|\bg_(bind|push)\b"],
     ),
     Row(
         "What an instruction costs (`unbind`)",
