@@ -2,9 +2,13 @@
 """Measures programs that loop, call and change arrays and tuples all the time, and the same work in gforth and Lua, where these are
 installed, and in CPython.
 
-    python3 bench/programs.py [PROGRAM]
+    python3 bench/programs.py [--counts] [PROGRAM]
 
-PROGRAM is the built program, by default crates/factorc/out/factorc. `times` runs an empty quotation five million times; in gforth it is an
+PROGRAM is the built program, by default crates/factorc/out/factorc. With `--counts` no time is taken: all numbers are smaller, and for each
+program it tells how many instructions of the processor it takes beside those of an empty one, by valgrind's callgrind, and how many times
+as many as each of the others.
+
+`times` runs an empty quotation five million times; in gforth it is an
 empty word that is executed, and in Lua an empty function. The recursive Fibonacci tests for its least numbers at each call, and calls
 itself twice for all others.
 
@@ -28,22 +32,28 @@ answers wrongly, also where it takes other ticks than are told here, and where `
 `called`.
 """
 
+import pathlib
+import re
 import shutil
+import subprocess
 import sys
 import tempfile
 
 import speed
 
-TURNS = 5_000_000
-NUMBER = 32
-ELEMENTS = 500_000
-STRINGS = 10_000
-PLACES = 1_000_000
+IS_COUNTING = "--counts" in sys.argv
+SHARE = 100 if IS_COUNTING else 1
+
+TURNS = 5_000_000 // SHARE
+NUMBER = 22 if IS_COUNTING else 32
+ELEMENTS = 500_000 // SHARE
+STRINGS = 10_000 // SHARE
+PLACES = 1_000_000 // SHARE
 STEPS = (3, 7, 11)
-CALLS = 3_000_000
+CALLS = 3_000_000 // SHARE
 CLASSES = "abcd"
-CLOSURES = 1_000_000
-PARTS = 1_000_000
+CLOSURES = 1_000_000 // SHARE
+PARTS = 1_000_000 // SHARE
 MOST_RATIO_OF_TESTS = 1.5
 
 
@@ -469,7 +479,46 @@ def shortest(words, make, folder):
     return min(speed.measure(words, make, None, folder)[1])
 
 
+# A program that does nothing but print 7.
+EMPTY = {"factorc": "USING: prettyprint ; 7 .", "gforth": "7 0 .r cr bye", "lua5.4": "print(7)", "python3": "print(7)"}
+
+
+def counted(words, text, answer, folder):
+    """How many instructions these words take on a source of this text, which prints this number. A wrong answer ends the script."""
+    source, told = pathlib.Path(folder, "source"), pathlib.Path(folder, "told")
+    source.write_text(text + "\n", encoding="ascii")
+    tool = ["valgrind", "--tool=callgrind", f"--callgrind-out-file={folder}/out", f"--log-file={told}"]
+    done = subprocess.run([*tool, *words, str(source)], capture_output=True, text=True)
+    if done.stdout != f"{answer}\n":
+        sys.exit(f"{words}: {done.stdout!r} and not {answer}")
+    return int(re.search(r"Collected : (\d+)", told.read_text())[1])
+
+
+def count():
+    """Tells the instructions of each program."""
+    program = speed.program_or(speed.DEFAULT)
+    tools = {"factorc": [program, "run"], **{name: [path] for name, path in OTHERS.items() if path}}
+    print(f"{'program':<12}{'in':<10}{'instructions':>16}{'factorc takes':>18}")
+    with tempfile.TemporaryDirectory() as folder:
+        starts = {name: counted(words, EMPTY[name], 7, folder) for name, words in tools.items()}
+        for name, answer, _, texts in PROGRAMS:
+            for tool, words in tools.items():
+                if tool in texts:
+                    took = counted(words, texts[tool], answer, folder) - starts[tool]
+                    if tool == "factorc":
+                        own, told = took, ""
+                    else:
+                        told = f"{own / took:.1f} times as many"
+                    print(f"{name:<12}{tool:<10}{took:>16,}{told:>24}", flush=True)
+        for tool, start in starts.items():
+            print(f"{'empty':<12}{tool:<10}{start:>16,}", flush=True)
+    return 0
+
+
 def main():
+    if IS_COUNTING:
+        sys.argv.remove("--counts")
+        return count()
     program = speed.program_or(speed.DEFAULT)
     print(f"{'program':<12}{'in':<10}{'shortest':>12}{'ticks':>14}{'ticks per second':>20}")
     took = {}
