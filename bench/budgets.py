@@ -1,0 +1,89 @@
+#!/usr/bin/env python3
+"""Runs programs made at random with every budget, from the source and from the image, beside the model of the language in bench/model.py.
+
+    python3 bench/budgets.py [PROGRAM] [--programs N] [--seed S] [--jobs J]
+
+PROGRAM is the built program, by default crates/factorc/out/factorc. Of the kinds of bench/compare.py, those that make runs, it makes programs
+until N of them, 2,000 by default, end by themselves within 60 ticks. Each is built into an image, and run by `run` and by `exec` with every budget
+from no tick to one more than it takes. Status, output and note have to be the model's each time. The same seed S, 1 by default, gives the same
+programs. J processes share the work, as many as there are processors by default.
+
+It ends with status 1 where an answer differs, or a run takes too long or is ended by a signal, and keeps the files of each such case in a folder.
+"""
+import argparse
+import multiprocessing
+import os
+import random
+import sys
+import tempfile
+
+import compare
+import model
+import speed
+from kinds import Case, run_of
+
+MOST_TICKS = 60
+
+
+def cases_of(seed):
+    """Runs of programs made at random, one kind after the other by its share."""
+    chance = random.Random(f"budgets {seed}")
+    kinds, shares = zip(*((kind, share) for kind, share, needs in compare.ALL_KINDS if model.BUILT.issuperset(needs)))
+    while True:
+        made = chance.choices(kinds, shares)[0](chance)
+        yield made if isinstance(made, Case) else run_of(made)
+
+
+def compared(part):
+    """Compares so many programs of a seed, and tells how many runs that took and what differed."""
+    program, seed, wanted = part
+    runs, programs, failed = 0, 0, []
+    with tempfile.TemporaryDirectory() as folder:
+        comparison = compare.Comparison(program, folder, seed)
+        for case in cases_of(seed):
+            if programs == wanted or len(failed) >= compare.MOST_FAILURES:
+                break
+            command = model.read_words(case.words)
+            if command is None or command.name != "run":
+                continue
+            try:
+                whole = model.answer(case.words, case.files, MOST_TICKS, case.given)
+            except model.Stuck:
+                continue
+            if whole.status not in (model.DONE, model.ERROR):
+                continue
+            programs += 1
+            made = Case(["build", *command.files, "-o", "image"], case.files, b"")
+            built = comparison.run(made)
+            if built[0]:
+                failed.append(f"{comparison.keep(case, f'{seed}-{programs}')}: isn't built: {compare.shortened(built)}")
+                continue
+            for ticks in range(whole.ticks + 2):
+                limited = compare.with_budget(case, command, ticks)
+                answer = model.answer(limited.words, limited.files, given=limited.given)
+                for one in (limited, Case(["exec", "--steps", str(ticks), "image"], {}, case.given)):
+                    runs += 1
+                    told = comparison.difference(one, answer)
+                    if told is not None:
+                        failed.append(f"{comparison.keep(case, f'{seed}-{programs}-{runs}')}: {one.words} {told}")
+            os.remove(os.path.join(folder, "image"))
+    return programs, runs, failed
+
+
+def main():
+    words = argparse.ArgumentParser(usage=__doc__)
+    words.add_argument("program", nargs="?", default=speed.DEFAULT)
+    words.add_argument("--programs", type=int, default=2_000)
+    words.add_argument("--seed", type=int, default=1)
+    words.add_argument("--jobs", type=int, default=os.cpu_count())
+    given = words.parse_args()
+    program = speed.built(given.program)
+    parts = [(program, f"{given.seed} {job}", (given.programs + job) // given.jobs) for job in range(given.jobs)]
+    with multiprocessing.Pool(given.jobs) as pool:
+        ended = pool.map(compared, parts)
+    print(f"{sum(part[0] for part in ended)} programs, {sum(part[1] for part in ended)} runs with every budget")
+    return speed.finish([line for part in ended for line in part[2]])
+
+
+if __name__ == "__main__":
+    sys.exit(main())
