@@ -1,0 +1,95 @@
+#!/usr/bin/env python3
+"""Measures how much memory programs take that make callables and texts all the time and drop them, and tests that it follows what is alive.
+
+    python3 bench/memory.py [--small] [PROGRAM]
+
+PROGRAM is the built program, by default crates/factorc/out/factorc. Each row runs a program and tells the greatest memory that the process
+had, by /proc, beside the most that it may have. With `--small` each row has a tenth of the turns. The script ends with status 1 where a
+program answers wrongly or takes more than it may.
+
+Arrays and tuples stay until the end of a run, so no row makes many of them.
+"""
+import os
+import pathlib
+import re
+import subprocess
+import sys
+import tempfile
+import time
+
+ROOT = pathlib.Path(__file__).resolve().parent.parent
+IS_SMALL = "--small" in sys.argv
+WORDS = [word for word in sys.argv[1:] if word != "--small"]
+PROGRAM = WORDS[0] if WORDS else str(ROOT / "crates/factorc/out/factorc")
+SHARE = 10 if IS_SMALL else 1
+
+USING = "USING: kernel math prettyprint sequences strings math.parser arrays combinators io ;\n"
+MIB = 1 << 20
+
+# The bytes that an element of an array takes.
+VALUE = 32
+
+
+def turns(count):
+    return count // SHARE
+
+
+def rows():
+    """What each row shows, its program, its input, its output, and the most bytes that it may take."""
+    loops, elements, lines = turns(5_000_000), turns(1_000_000), turns(10_000_000)
+    line = b"a line of a log, long enough to be no short text\n"
+    yield "`times` of an empty quotation", f"{loops} [ ] times", b"", "", 10 * MIB
+    yield "`times` of a quotation that `curry` made", f"0 {loops} 1 [ + ] curry times .", b"", f"{loops}\n", 10 * MIB
+    yield "`each` of such a one", f"0 {elements} <iota> 1 [ * + ] curry each .", b"", f"{elements * (elements - 1) // 2}\n", 10 * MIB
+    yield "`map` of such a one", f"{elements} <iota> 3 [ * ] curry map length .", b"", f"{elements}\n", 10 * MIB + 4 * VALUE * elements
+    yield "`filter` of such a one", f"{elements} <iota> 2 [ mod 0 = ] curry filter length .", b"", f"{elements // 2}\n", 10 * MIB + 6 * VALUE * elements
+    yield "lines that are read and dropped", "0 [ readln dup ] [ drop 1 + ] while drop .", line * lines, f"{lines}\n", 20 * MIB
+    yield "strings that `append` makes", f'"" {lines} [ drop "some text " "and more of it" append ] times print', b"", "some text and more of it\n", 20 * MIB
+    yield "numbers that are written as text and read again", f"0 {elements} [ number>string string>number 1 + ] times .", b"", f"{elements}\n", 10 * MIB
+    yield "a chain of callables that is called and dropped", f"0 {turns(1_000_000)} [ [ 1 + ] [ 2 + ] compose [ 3 + ] compose call ] times .", b"", f"{turns(1_000_000) * 6}\n", 10 * MIB
+
+
+def peak_of(child):
+    """The greatest memory of a process so far, in bytes, or 0 where it has ended."""
+    try:
+        with open(f"/proc/{child.pid}/status", encoding="utf-8") as file:
+            found = re.search(r"VmHWM:\s+(\d+) kB", file.read())
+    except OSError:
+        return 0
+    return int(found[1]) << 10 if found else 0
+
+
+def run(folder, text, given):
+    """Runs a program, and gives its status, its output and its greatest memory."""
+    source, lines, written = folder / "a.factor", folder / "input", folder / "output"
+    source.write_text(USING + text + "\n", encoding="utf-8")
+    lines.write_bytes(given)
+    with open(lines, "rb") as stdin, open(written, "wb") as stdout:
+        child = subprocess.Popen([PROGRAM, "run", "--steps", "1000000000000", str(source)], stdin=stdin, stdout=stdout)
+        peak = 0
+        while child.poll() is None:
+            peak = max(peak, peak_of(child))
+            time.sleep(0.005)
+    return child.returncode, written.read_text(encoding="utf-8"), peak
+
+
+def main():
+    failed = 0
+    with tempfile.TemporaryDirectory() as name:
+        folder = pathlib.Path(name)
+        for shows, text, given, wanted, most in rows():
+            began = os.times()
+            status, output, peak = run(folder, text, given)
+            ended = os.times()
+            seconds = ended.children_user - began.children_user
+            right = status == 0 and output == wanted
+            fits = peak <= most
+            failed += not (right and fits)
+            said = "" if right else f"  answers wrongly: {status} {output[:60]!r}"
+            said += "" if fits else "  TOO MUCH"
+            print(f"{shows:52} {peak / MIB:8.1f} MiB of {most / MIB:6.1f}  {seconds:6.2f} s{said}", flush=True)
+    return 1 if failed else 0
+
+
+if __name__ == "__main__":
+    sys.exit(main())
