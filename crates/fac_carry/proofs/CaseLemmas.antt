@@ -29,7 +29,7 @@ use Rattle.fac_carry.specs.MachineView.{Templates, value_view, values_view, worl
 use Rattle.fac_carry.specs.WholeValues as whole
 use Rattle.fac_carry.specs.Symbols.{Sym, here, off, k_phrase, Task, do_phrase, Needs, heres, AllHere, ins, outs, count}
 use Rattle.fac_carry.proofs.RunLaws.{free}
-use Rattle.fac_carry.proofs.SymbolicStacks.{Left, l_phrase, r_here, r_off, r_phrase, Lies, lies_more, Keeps, keeps_none, keeps_phrase, Has, has, too_short, needed, all_here, trim, lies_pile}
+use Rattle.fac_carry.proofs.SymbolicStacks.{Left, l_phrase, r_here, r_aside, a_off, n_phrase, Lies, lies_more, Keeps, keeps_none, keeps_phrase, Has, has, too_short, needed, all_here, trim, lies_pile}
 use Rattle.fac_carry.proofs.GivenValues.{IsLong, IsCounted, prim_counted}
 use Rattle.fac_carry.proofs.WholeValueLemmas.{pile_whole, cells_whole, made, made_view, made_whole}
 use Rattle.fac_carry.proofs.SamePrimitives.{Same, prim_same}
@@ -101,7 +101,7 @@ module _ (Y : Setting) where
   g_make f F last d S K pc q r ks e et eh ec go R base ms rs vs L w (suc n) le ok lv l h = one ms vs ok lv l
     where
       one : (ms : List MValue) (vs : List Value) → Fine F rs ms w → Live Y L (state vs (V w)) → Lies T (off (k_phrase (T q (values_view T ks))) ∷ S) ms vs → Follows Y last R base (at F pc ms rs R w) (suc n) (owing (V w) d n (left Y L (state vs (V w))))
-      one ms vs ok lv (lies_more {vs = us} (r_off r_phrase) l) =
+      one ms vs ok lv (lies_more {vs = us} (r_aside (a_off n_phrase)) l) =
           let s = at F pc ms rs R w in
           let m = made q ks in
           let row = ap (λ o. or_trap o t_kind s n (λ u. or_trap (cells_at u.cells F) t_frame s n (λ ws. goes_on (at F (pc + 1) (made q ws ∷ ms) rs R w) n))) et in
@@ -118,7 +118,7 @@ module _ (Y : Setting) where
       let st = state vs (V w) in
       let st' = state (fun (of_phrase b) ∷ vs) (V w) in
       owe Y last R base (at F pc ms rs R w) n (V w) d n (left Y (l_phrase (then (quot b) p t) ∷ L1) st) (left Y (l_phrase t ∷ L1) st') st (Some (quot b)) refl refl (λ m. first_goes Y (quot b) p t L1 st st' m refl)
-      (go R base ms rs (fun (of_phrase b) ∷ vs) (l_phrase t ∷ L1) w n le ok (live_goes Y (quot b) p t L1 st st' refl lv) (lies_more (r_off r_phrase) l) (keeps_phrase h))
+      (go R base ms rs (fun (of_phrase b) ∷ vs) (l_phrase t ∷ L1) w n le ok (live_goes Y (quot b) p t L1 st st' refl lv) (lies_more (r_aside (a_off n_phrase)) l) (keeps_phrase h))
 
   -- an instruction that pushes a value
   pub g_push : (f : ℕ) (F : List MValue) (last : Option Instr) (i : Item) (p : Place) (t : Phrase) (S : List Sym) (K : List Task) (pc : ℕ) (x : Instr) (m : MValue) → (AllWhole F → Whole m) → slice_get M.code pc ≡ Some x →

@@ -5,22 +5,20 @@
 -- meaning's list, L what is left of the meaning, w the machine's world, n its ticks and f a bound on them.
 use Rattle.std.proofs.Common.{◌≡◌, ◌≢◌, ℕ, zero, suc, ◌+◌, ◌≤◌, ◌<◌, List, [], ◌∷◌, ◌++◌, length, Option, Some, None, refl, ap, sym, subst, ◌∙◌, append_assoc}
 use Rattle.std.specs.Prelude.{slice_get}
-use Rattle.fac_base.specs.declared.height.Height.{Height}
 use Rattle.fac_base.specs.declared.place.Place.{Place}
 use Rattle.fac_lang.specs.declared.program.Program.{Program}
-use Rattle.fac_lang.specs.Phrases.{Phrase, then, Item, Value, plain, fun, Callable, of_phrase, cur, both}
+use Rattle.fac_lang.specs.Phrases.{Phrase, then, Item, Value, plain, fun, Callable}
 use Rattle.fac_lang.specs.World.{World, State, Error, push, push_each}
 use Rattle.fac_lang.specs.Eval.{Result, Done, Failed, Spent, Stuck, then_do, Act, wrong, goes, runs, Run, run_callable, go_on}
-use Rattle.fac_base.specs.HeightArithmetic.{curried_height, composed_height, fits}
-use Rattle.fac_lang.specs.Meaning.{names, word_fits, act}
+use Rattle.fac_base.specs.HeightArithmetic.{fits}
+use Rattle.fac_lang.specs.Meaning.{act}
 use Rattle.fac_lang.proofs.Laws.{Within}
 use Rattle.fac_code.specs.declared.image.Instr.{Instr}
 use Rattle.fac_code.specs.declared.image.Instr.TheVariants.{Ret}
 use Rattle.fac_code.specs.declared.image.Image.{Image}
 use Rattle.fac_code.specs.declared.image.TemplateRow.{TemplateRow}
-use Rattle.fac_code.specs.ImageNames.{image_names}
 use Rattle.fac_store.specs.MachineValues.{MValue, Kept, kept_list}
-use Rattle.fac_machine.specs.Machine.{Machine, Leads, Entry, resume, put_back, enter, failed, spent, Step, goes_on, ends, fits_in, row_height, fetched, step, Ends}
+use Rattle.fac_machine.specs.Machine.{Machine, Leads, Entry, resume, put_back, enter, failed, spent, Step, goes_on, ends, fetched, step, Ends}
 use Rattle.fac_machine.proofs.Leading.{leads_on, leads_step, ends_after, ends_step}
 use Rattle.fac_carry.specs.MachineView.{Templates, kept_view, world_view, state_view, error_view}
 use Rattle.fac_carry.specs.WholeValues as whole

@@ -85,7 +85,7 @@ module _ (Y : Setting) where
   Whole = whole.Whole P M
 
   -- a cell of the frame
-  held_goes : (F : List MValue) (pc k : ℕ) (v : MValue) → slice_get F k ≡ Some v → (ms rs : List MValue) (R : List Entry) (w : World MValue) (n : ℕ) → fetched M (Some (Local k)) (at F pc ms rs R w) (suc n) ≡ goes_on (at F (pc + 1) (v ∷ ms) rs R w) n
+  pub held_goes : (F : List MValue) (pc k : ℕ) (v : MValue) → slice_get F k ≡ Some v → (ms rs : List MValue) (R : List Entry) (w : World MValue) (n : ℕ) → fetched M (Some (Local k)) (at F pc ms rs R w) (suc n) ≡ goes_on (at F (pc + 1) (v ∷ ms) rs R w) n
   held_goes F pc k v ek ms rs R w n = ap (λ (o : Option MValue). or_trap o t_frame (at F pc ms rs R w) n (λ u. goes_on (at F (pc + 1) (u ∷ ms) rs R w) n)) ek
 
   pub g_held : (f : ℕ) (F : List MValue) (last : Option Instr) (k : ℕ) (v : MValue) (p : Place) (t : Phrase) (S : List Sym) (K : List Task) (pc : ℕ) → slice_get M.code pc ≡ Some (Local k) → slice_get F k ≡ Some v →
