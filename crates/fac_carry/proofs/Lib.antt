@@ -20,3 +20,4 @@ pub mod Simulation
 pub mod PlainIsCode
 pub mod HeldFrames
 pub mod CodeRuns
+mod ExamplesOfPutOff

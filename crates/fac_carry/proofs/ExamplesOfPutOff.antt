@@ -1,0 +1,239 @@
+-- Code in which quotations are put off, computed: its derivation, and how the machine and the meaning end.
+use Rattle.std.proofs.Common.{◌≡◌, ℕ, zero, suc, List, [], ◌∷◌, ◌++◌, length, true, false, refl, Option, Some, None, arith}
+use Rattle.std.specs.Prelude.{pos}
+use Rattle.fac_base.specs.declared.height.Height.{Height}
+use Rattle.fac_base.specs.Signatures.{signature, no_inputs, never}
+use Rattle.fac_base.specs.HeightArithmetic.{fits}
+use Rattle.fac_lang.specs.declared.program.Program.{Program}
+use Rattle.fac_lang.specs.declared.program.WordDef.{WordDef}
+use Rattle.fac_lang.specs.declared.program.Sort.{Sort}
+use Rattle.fac_lang.specs.declared.program.Sort.TheVariants.{Prim as prim, Core as core, Body as body}
+use Rattle.fac_lang.specs.declared.core_table.CoreWord.TheVariants.{Call as w_call, Dip as w_dip, If as w_if}
+use Rattle.fac_lang.specs.Phrases.{int, no, Phrase, end, then, Item, lit, quot, word, Value, plain}
+use Rattle.fac_lang.specs.Primitives.{built_count, prim_numbered, prim_fn}
+use Rattle.fac_lang.specs.Eval.{Result, Done}
+use Rattle.fac_lang.specs.Meaning.{nowhere, run, start}
+use Rattle.fac_code.specs.Code.{has_built_code}
+use Rattle.fac_code.specs.References.{refers}
+use Rattle.fac_code.specs.declared.image.Action.{Action}
+use Rattle.fac_code.specs.declared.image.Action.TheVariants as action
+use Rattle.fac_code.specs.declared.image.Image.{Image}
+use Rattle.fac_code.specs.declared.image.Instr.{Instr}
+use Rattle.fac_code.specs.declared.image.Instr.TheVariants.{Halt, Tick, Int, False, Quot, Bind, Local, Unbind, Prim, Callw, Call, Ret, Hold, Back, Jump, Branch}
+use Rattle.fac_code.specs.declared.image.TemplateRow.{TemplateRow}
+use Rattle.fac_code.specs.declared.image.WordRow.{WordRow}
+use Rattle.fac_store.specs.MachineValues.{MValue, m_plain, m_fun, m_lit, none_kept}
+use Rattle.fac_machine.specs.Machine.{End, done, steps, first_world, starting}
+use Rattle.fac_carry.specs.MachineView.{template_phrases, values_view}
+use Rattle.fac_carry.specs.Symbols.{Sym, here, off, kept, k_phrase, k_cur, k_com, Task, do_phrase, top_is, top_none, Needs, needs_none, needs_more, all_none, all_more, Special}
+use Rattle.fac_carry.specs.Expanded.{row_here, row_none, Code, c_last, c_tick, c_jump, c_unbind, c_hold, c_back, c_fetch, c_make, c_end, c_run, c_cur, c_com, c_off, c_move_off, c_curry_off, c_compose_off, c_call_off, c_dip_off, c_if_off, c_expand, c_move, c_curry, c_int, c_false, c_prim, c_word, c_call}
+
+abbrev items : List Item → Phrase
+items [] = end
+items (i ∷ is) = then i nowhere (items is)
+
+abbrev number : ℕ → Item
+number n = lit (int (pos n))
+
+abbrev named : Sort → WordDef
+named s = record { name = record { vocab = []; name = [] }; sort = s; effect = signature None no_inputs never; inline = false; recursive = false; place = nowhere }
+
+-- [ 1 + ] and [ 2 + ]
+abbrev one_more : Phrase
+one_more = items (number 1 ∷ word 0 ∷ [])
+
+abbrev two_more : Phrase
+two_more = items (number 2 ∷ word 0 ∷ [])
+
+-- [ 2 ] dup
+abbrev doubled : Phrase
+doubled = items (quot (items (number 2 ∷ [])) ∷ word 13 ∷ [])
+
+-- `keep` is over [ call ] dip
+abbrev keep : Phrase
+keep = items (word 3 ∷ quot (items (word 1 ∷ [])) ∷ word 2 ∷ [])
+
+-- `bi` is [ keep ] dip call
+abbrev bi : Phrase
+bi = items (quot (items (word 15 ∷ [])) ∷ word 2 ∷ word 1 ∷ [])
+
+-- [ 1 + ] [ 2 + ] bi +
+abbrev applied : Phrase
+applied = items (quot one_more ∷ quot two_more ∷ word 5 ∷ word 0 ∷ [])
+
+-- [ + ] curry 4 swap call
+abbrev curried : Phrase
+curried = items (quot (items (word 0 ∷ [])) ∷ word 7 ∷ number 4 ∷ word 8 ∷ word 1 ∷ [])
+
+-- [ 1 ] [ 2 ] if 3 +
+abbrev joined : Phrase
+joined = items (quot (items (number 1 ∷ [])) ∷ quot (items (number 2 ∷ [])) ∷ word 10 ∷ number 3 ∷ word 0 ∷ [])
+
+-- [ 1 + ] [ 2 + ] compose call
+abbrev composed : Phrase
+composed = items (quot one_more ∷ quot two_more ∷ word 12 ∷ word 1 ∷ [])
+
+-- [ 1 + ] [ call ] curry call
+abbrev inside : Phrase
+inside = items (quot one_more ∷ quot (items (word 1 ∷ [])) ∷ word 7 ∷ word 1 ∷ [])
+
+-- 5 f, with each of these words applied behind it
+abbrev top_phrase : Phrase
+top_phrase = items (number 5 ∷ word 6 ∷ word 9 ∷ word 14 ∷ word 16 ∷ lit no ∷ word 11 ∷ word 4 ∷ [])
+
+-- + call dip over doubled bi applied curry swap curried if joined compose dup composed keep inside, and the top-level phrase
+abbrev program : Program
+program =
+    record {
+      words = named (prim 26) ∷ named (core w_call) ∷ named (core w_dip) ∷ named (prim 3) ∷ named (body doubled) ∷ named (body bi) ∷ named (body applied) ∷ named (prim 16) ∷ named (prim 2) ∷ named (body curried) ∷ named (core w_if) ∷ named (body joined) ∷ named
+          (prim 17) ∷ named (prim 1) ∷ named (body composed) ∷ named (body keep) ∷ named (body inside) ∷ named (body top_phrase) ∷ [];
+      arrays = [];
+      classes = [];
+      top = 17;
+    }
+
+abbrev row : Action → WordRow
+row a = record { vocab = 0; name = 0; action = a; height = None }
+
+abbrev rows : List WordRow
+rows =
+    row (action.Prim 26) ∷ row (action.Core w_call) ∷ row (action.Core w_dip) ∷ row (action.Prim 3) ∷ row (action.Code 35) ∷ row (action.Code 61) ∷ row (action.Code 0) ∷ row (action.Prim 16) ∷ row (action.Prim 2) ∷ row (action.Code 12) ∷ row (action.Core w_if) ∷ row
+    (action.Code 20) ∷ row (action.Prim 17) ∷ row (action.Prim 1) ∷ row (action.Code 29) ∷ row (action.Code 55) ∷ row (action.Code 42) ∷ row (action.Code 46) ∷ []
+
+-- the quotation of `doubled`, the first of the program and the only one that is made
+abbrev template : TemplateRow
+template = record { entry = 40; cells = []; holes = 0; height = None }
+
+-- applied from 0 on, curried from 12, joined from 20, composed from 29, doubled from 35, its quotation from 40, inside from 42, the top-level phrase from
+-- 46, keep from 55, bi from 61
+abbrev code : List Instr
+code =
+    Tick 6 ∷ Prim 1 ∷ Hold ∷ Tick 3 ∷ Int (pos 1) ∷ Prim 26 ∷ Back ∷ Tick 1 ∷ Int (pos 2) ∷ Prim 26 ∷ Prim 26 ∷ Ret ∷
+    Bind ∷ Tick 1 ∷ Int (pos 4) ∷ Local 0 ∷ Tick 2 ∷ Prim 26 ∷ Unbind 1 ∷ Ret ∷
+    Branch 24 ∷ Tick 3 ∷ Int (pos 1) ∷ Jump 26 ∷ Tick 3 ∷ Int (pos 2) ∷ Int (pos 3) ∷ Prim 26 ∷ Ret ∷
+    Tick 5 ∷ Int (pos 1) ∷ Prim 26 ∷ Int (pos 2) ∷ Prim 26 ∷ Ret ∷
+    Quot 0 ∷ Hold ∷ Quot 0 ∷ Back ∷ Ret ∷
+    Int (pos 2) ∷ Ret ∷
+    Tick 6 ∷ Int (pos 1) ∷ Prim 26 ∷ Ret ∷
+    Int (pos 5) ∷ Callw 6 false ∷ Callw 9 false ∷ Callw 14 false ∷ Callw 16 false ∷ False ∷ Callw 11 false ∷ Callw 4 false ∷ Halt ∷
+    Prim 3 ∷ Hold ∷ Tick 2 ∷ Call false ∷ Back ∷ Ret ∷
+    Hold ∷ Tick 2 ∷ Callw 15 false ∷ Back ∷ Call false ∷ Ret ∷ []
+
+is_built : has_built_code code ≡ true
+unfolding built_count
+is_built = refl
+
+is_whole : refers (record { texts = [] ∷ []; arrays = []; kinds = []; sets = []; templates = template ∷ []; words = rows; generics = []; pairs = [] }) code 46 ≡ true
+unfolding built_count
+is_whole = refl
+
+abbrev image : Image
+image = record { arrays = []; kinds = []; sets = []; generics = []; pairs = []; templates = template ∷ []; words = rows; texts = [] ∷ []; code = code; start = 46; built = is_built; refers = is_whole }
+
+-- What both come to with 200 ticks: two callables, 5 and 21, and as many ticks left.
+abbrev z : ℕ → MValue
+z n = m_plain (int (pos n))
+
+abbrev two : MValue
+two = m_fun (m_lit 0 none_kept)
+
+abbrev ended : Option End → Option (List MValue × ℕ)
+ended (Some (done s n)) = Some (s.stack, n)
+ended _ = None
+
+abbrev result_of : Result → Option (List Value × ℕ)
+result_of (Done st n) = Some (st.stack, n)
+result_of _ = None
+
+machine_ends : ended (steps image 200 (starting image [] (first_world image [])) 200) ≡ Some (two ∷ two ∷ z 5 ∷ z 21 ∷ [], 144)
+unfolding prim_fn prim_numbered
+machine_ends = refl
+
+-- the same of the phrase, whose values are those for which the machine's stand
+meaning_ends : result_of (run program fits (λ c. None) 200 top_phrase (start program [])) ≡ Some (values_view (template_phrases program) (two ∷ two ∷ z 5 ∷ z 21 ∷ []), 144)
+unfolding prim_fn prim_numbered template_phrases
+meaning_ends = refl
+
+-- code of a phrase that ends in `ret`
+abbrev Stands : Phrase → ℕ → Type 0
+Stands t a = Code program image (template_phrases program) [] (Some Ret) [] 0 [] (do_phrase t ∷ []) a
+
+-- two values on the stack for a primitive
+take_two : (S : List Sym) → Needs 2 (here ∷ here ∷ S) S
+take_two S = needs_more top_is (needs_more top_is needs_none)
+
+-- Both quotations are put off, and `bi` and `keep` are run in place. `over` of a value and what was put off is `dup`.
+applied_code : Stands applied 0
+unfolding prim_numbered
+applied_code =
+    c_off (c_off (c_expand 5 tt (c_off (c_dip_off 2 refl top_is (row_none refl) (c_run (c_expand 15 tt (
+    c_tick 6 refl (c_move 3 3 2 (0 ∷ 1 ∷ 0 ∷ []) (here ∷ off (k_phrase one_more) ∷ here ∷ []) 1 1 (0 ∷ 0 ∷ []) refl (omega arith, refl) refl (omega arith, refl) refl refl (
+    c_off (c_dip_off 2 refl top_is (row_here refl) (c_run (c_call_off 1 refl (c_run (
+    c_tick 3 refl (c_int (pos 1) refl (c_prim 0 26 _ refl refl refl (take_two []) refl (c_end (c_end (
+    c_back (row_here refl) (c_end (c_end (c_back (row_none refl) (c_call_off 1 refl (c_run (
+    c_tick 1 refl (c_int (pos 2) refl (c_prim 0 26 _ refl refl refl (take_two (here ∷ [])) refl (c_end (c_end (
+    c_prim 0 26 _ refl refl refl (take_two []) refl (c_end (c_last (all_more all_none) refl))))))))))))))))))))))))))))))))
+
+-- The value that is curried goes into the frame, and comes back for the tick of running what `curry` would have made. `swap` has no instruction.
+curried_code : Stands curried 12
+unfolding prim_numbered
+curried_code =
+    c_off (c_curry 7 16 refl refl top_none refl (λ m whole.
+    c_tick 1 refl (c_int (pos 4) refl (
+    c_move_off 8 2 2 (1 ∷ 0 ∷ []) (here ∷ off (k_cur (kept m) (k_phrase (items (word 0 ∷ [])))) ∷ []) refl (omega arith, refl) refl refl (
+    c_call_off 1 refl (c_cur (c_hold (row_none refl) (c_fetch 0 m refl refl (c_back (row_none refl) (c_run (
+    c_tick 2 refl (c_prim 0 26 _ refl refl refl (take_two []) refl (c_end (
+    c_unbind {F = []} (m ∷ []) refl (c_end (c_last (all_more all_none) refl))))))))))))))))
+
+-- The two ways come to one place, with the same stack and nothing owed.
+joined_code : Stands joined 20
+unfolding prim_numbered
+joined_code =
+    c_off (c_off (c_if_off 10 24 refl top_none refl (
+    c_run (c_tick 3 refl (c_int (pos 1) refl (c_end (c_jump 26 refl behind))))) (
+    c_run (c_tick 3 refl (c_int (pos 2) refl (c_end behind))))))
+  where
+    behind : Code program image (template_phrases program) [] (Some Ret) [] 0 (here ∷ []) (do_phrase (items (number 3 ∷ word 0 ∷ [])) ∷ []) 26
+    behind = c_int (pos 3) refl (c_prim 0 26 _ refl refl refl (take_two []) refl (c_end (c_last (all_more all_none) refl)))
+
+-- What `compose` would have made runs part by part.
+composed_code : Stands composed 29
+unfolding prim_numbered
+composed_code =
+    c_off (c_off (c_compose_off 12 17 refl refl (c_call_off 1 refl (c_com (c_run (
+    c_tick 5 refl (c_int (pos 1) refl (c_prim 0 26 _ refl refl refl (needs_more top_is (needs_more top_none needs_none)) refl (c_end (
+    c_back (row_none refl) (c_run (c_int (pos 2) refl (c_prim 0 26 _ refl refl refl (take_two []) refl (c_end (
+    c_end (c_last (all_more all_none) refl))))))))))))))))
+
+abbrev two_off : Sym
+two_off = off (k_phrase (items (number 2 ∷ [])))
+
+-- A quotation that was put off is made where its value is needed, here twice for two ticks that are owed, the first one above the second.
+doubled_code : Stands doubled 35
+unfolding prim_numbered template_phrases
+doubled_code =
+    c_off (c_move_off 13 1 1 (0 ∷ 0 ∷ []) (two_off ∷ two_off ∷ []) refl (omega arith, refl) refl refl (c_end (
+    c_make 0 template [] refl refl refl refl (c_hold (row_here refl) (c_make 0 template [] refl refl refl refl (c_back (row_here refl) (
+    c_last (all_more (all_more all_none)) refl)))))))
+
+-- What is curried may itself be put off.
+inside_code : Stands inside 42
+unfolding prim_numbered
+inside_code =
+    c_off (c_off (c_curry_off 7 16 refl refl refl (c_call_off 1 refl (c_cur (c_run (c_call_off 1 refl (c_run (
+    c_tick 6 refl (c_int (pos 1) refl (c_prim 0 26 _ refl refl refl (needs_more top_is (needs_more top_none needs_none)) refl (c_end (
+    c_end (c_end (c_last (all_more all_none) refl))))))))))))))
+
+-- a callable of the machine is called inside what was put off
+keep_code : Stands keep 55
+unfolding prim_numbered
+keep_code =
+    c_prim 3 3 _ refl refl refl (needs_more top_none (needs_more top_none needs_none)) refl (c_off (c_dip_off 2 refl top_is (row_here refl) (c_run (
+    c_tick 2 refl (c_call 1 refl (all_more (all_more all_none)) refl (c_end (c_back (row_here refl) (c_end (c_last (all_more all_none) refl)))))))))
+
+bi_code : Stands bi 61
+unfolding prim_numbered
+bi_code =
+    c_off (c_dip_off 2 refl top_none (row_here refl) (c_run (
+    c_tick 2 refl (c_word 15 55 (record { below = omega arith; runs = tt; row = row (action.Code 55); there = refl; does = refl }) all_none refl (c_end (
+    c_back (row_here refl) (c_call 1 refl (all_more all_none) refl (c_end (c_last all_none refl)))))))))
