@@ -21,3 +21,4 @@ pub mod PlainIsCode
 pub mod HeldFrames
 pub mod CodeRuns
 mod ExamplesOfPutOff
+pub mod Reaching
