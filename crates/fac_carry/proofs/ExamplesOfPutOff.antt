@@ -1,6 +1,6 @@
 -- Code in which quotations are put off, computed: its derivation, and how the machine and the meaning end.
-use Rattle.std.proofs.Common.{◌≡◌, ℕ, zero, suc, List, [], ◌∷◌, ◌++◌, length, true, false, refl, Option, Some, None, arith}
-use Rattle.std.specs.Prelude.{pos}
+use Rattle.std.proofs.Common.{◌≡◌, ℕ, zero, suc, ◌+◌, ◌<◌, List, [], ◌∷◌, ◌++◌, length, true, false, refl, ap, sym, subst, ◌∙◌, Option, Some, None, arith}
+use Rattle.std.specs.Prelude.{pos, slice_get}
 use Rattle.fac_base.specs.declared.height.Height.{Height}
 use Rattle.fac_base.specs.Signatures.{signature, no_inputs, never}
 use Rattle.fac_base.specs.HeightArithmetic.{fits}
@@ -12,7 +12,7 @@ use Rattle.fac_lang.specs.declared.core_table.CoreWord.TheVariants.{Call as w_ca
 use Rattle.fac_lang.specs.Phrases.{int, no, Phrase, end, then, Item, lit, quot, word, Value, plain}
 use Rattle.fac_lang.specs.Primitives.{built_count, prim_numbered, prim_fn}
 use Rattle.fac_lang.specs.Eval.{Result, Done}
-use Rattle.fac_lang.specs.Meaning.{nowhere, run, start}
+use Rattle.fac_lang.specs.Meaning.{nowhere, sort_of, word_phrase, is_top_phrase, run, start}
 use Rattle.fac_code.specs.Code.{has_built_code}
 use Rattle.fac_code.specs.References.{refers}
 use Rattle.fac_code.specs.declared.image.Action.{Action}
@@ -22,11 +22,12 @@ use Rattle.fac_code.specs.declared.image.Instr.{Instr}
 use Rattle.fac_code.specs.declared.image.Instr.TheVariants.{Halt, Tick, Int, False, Quot, Bind, Local, Unbind, Prim, Callw, Call, Ret, Hold, Back, Jump, Branch}
 use Rattle.fac_code.specs.declared.image.TemplateRow.{TemplateRow}
 use Rattle.fac_code.specs.declared.image.WordRow.{WordRow}
-use Rattle.fac_store.specs.MachineValues.{MValue, m_plain, m_fun, m_lit, none_kept}
+use Rattle.fac_store.specs.MachineValues.{MValue, m_plain, m_fun, m_lit, Kept, none_kept, kept as kept_more, kept_list}
 use Rattle.fac_machine.specs.Machine.{End, done, steps, first_world, starting}
-use Rattle.fac_carry.specs.MachineView.{template_phrases, values_view}
+use Rattle.fac_carry.specs.MachineView.{template_phrases, values_view, kept_view}
+use Rattle.fac_carry.specs.Stands.{RunsPhrase, HasCode, HasAction, a_prim, a_core, a_code}
 use Rattle.fac_carry.specs.Symbols.{Sym, here, off, kept, k_phrase, k_cur, k_com, Task, do_phrase, top_is, top_none, Needs, needs_none, needs_more, all_none, all_more, Special}
-use Rattle.fac_carry.specs.Expanded.{row_here, row_none, Code, c_last, c_tick, c_jump, c_unbind, c_hold, c_back, c_fetch, c_make, c_end, c_run, c_cur, c_com, c_off, c_move_off, c_curry_off, c_compose_off, c_call_off, c_dip_off, c_if_off, c_expand, c_move, c_curry, c_int, c_false, c_prim, c_word, c_call}
+use Rattle.fac_carry.specs.Expanded.{row_here, row_none, Code, c_last, c_tick, c_jump, c_unbind, c_hold, c_back, c_fetch, c_make, c_end, c_run, c_cur, c_com, c_off, c_move_off, c_curry_off, c_compose_off, c_call_off, c_dip_off, c_if_off, c_expand, c_move, c_curry, c_int, c_false, c_prim, c_word, c_call, ExpandedCode}
 
 abbrev items : List Item → Phrase
 items [] = end
@@ -237,3 +238,86 @@ bi_code =
     c_off (c_dip_off 2 refl top_none (row_here refl) (c_run (
     c_tick 2 refl (c_word 15 55 (record { below = omega arith; runs = tt; row = row (action.Code 55); there = refl; does = refl }) all_none refl (c_end (
     c_back (row_here refl) (c_call 1 refl (all_more all_none) refl (c_end (c_last all_none refl)))))))))
+
+template_code : Stands (items (number 2 ∷ [])) 40
+template_code = c_int (pos 2) refl (c_end (c_last (all_more all_none) refl))
+
+-- a word whose row has its code
+in_code : (w a : ℕ) → w < 17 → RunsPhrase (sort_of program w) → slice_get rows w ≡ Some (row (action.Code a)) → HasCode program image w a
+in_code w a lt runs e = record { below = lt; runs = runs; row = row (action.Code a); there = e; does = refl }
+
+-- the top-level phrase, whose words are called
+phrase_code : Code program image (template_phrases program) [] (Some Halt) [] 0 [] (do_phrase top_phrase ∷ []) 46
+phrase_code =
+    c_int (pos 5) refl (c_word 6 0 (in_code 6 0 (omega arith) tt refl) (all_more all_none) refl (
+    c_word 9 12 (in_code 9 12 (omega arith) tt refl) all_none refl (c_word 14 29 (in_code 14 29 (omega arith) tt refl) all_none refl (c_word 16 42 (in_code 16 42 (omega arith) tt refl) all_none refl (
+    c_false refl (c_word 11 20 (in_code 11 20 (omega arith) tt refl) (all_more all_none) refl (c_word 4 35 (in_code 4 35 (omega arith) tt refl) all_none refl (
+    c_end (c_last all_none refl)))))))))
+
+-- the code of a word is at the place that its row has
+placed : (t : Phrase) (k a : ℕ) (r : WordRow) → Stands t k → Some (row (action.Code k)) ≡ Some r → r.action ≡ action.Code a → Stands t a
+placed t k a r c there does =
+    let same : row (action.Code k) ≡ r = cc in
+    let codes : action.Code k ≡ action.Code a = ap (λ (r : WordRow). r.action) same ∙ does in
+    let places : k ≡ a = cc in
+    subst (λ b. Stands t b) places c
+
+each_word : (w a : ℕ) → HasCode program image w a → Stands (word_phrase program w) a
+each_word zero a h = absurd h.runs
+each_word (suc zero) a h = absurd h.runs
+each_word (suc (suc zero)) a h = absurd h.runs
+each_word (suc (suc (suc zero))) a h = absurd h.runs
+each_word (suc (suc (suc (suc zero)))) a h = placed doubled 35 a h.row doubled_code h.there h.does
+each_word (suc (suc (suc (suc (suc zero))))) a h = placed bi 61 a h.row bi_code h.there h.does
+each_word (suc (suc (suc (suc (suc (suc zero)))))) a h = placed applied 0 a h.row applied_code h.there h.does
+each_word (suc (suc (suc (suc (suc (suc (suc zero))))))) a h = absurd h.runs
+each_word (suc (suc (suc (suc (suc (suc (suc (suc zero)))))))) a h = absurd h.runs
+each_word (suc (suc (suc (suc (suc (suc (suc (suc (suc zero))))))))) a h = placed curried 12 a h.row curried_code h.there h.does
+each_word (suc (suc (suc (suc (suc (suc (suc (suc (suc (suc zero)))))))))) a h = absurd h.runs
+each_word (suc (suc (suc (suc (suc (suc (suc (suc (suc (suc (suc zero))))))))))) a h = placed joined 20 a h.row joined_code h.there h.does
+each_word (suc (suc (suc (suc (suc (suc (suc (suc (suc (suc (suc (suc zero)))))))))))) a h = absurd h.runs
+each_word (suc (suc (suc (suc (suc (suc (suc (suc (suc (suc (suc (suc (suc zero))))))))))))) a h = absurd h.runs
+each_word (suc (suc (suc (suc (suc (suc (suc (suc (suc (suc (suc (suc (suc (suc zero)))))))))))))) a h = placed composed 29 a h.row composed_code h.there h.does
+each_word (suc (suc (suc (suc (suc (suc (suc (suc (suc (suc (suc (suc (suc (suc (suc zero))))))))))))))) a h = placed keep 55 a h.row keep_code h.there h.does
+each_word (suc (suc (suc (suc (suc (suc (suc (suc (suc (suc (suc (suc (suc (suc (suc (suc zero)))))))))))))))) a h = placed inside 42 a h.row inside_code h.there h.does
+each_word (suc (suc (suc (suc (suc (suc (suc (suc (suc (suc (suc (suc (suc (suc (suc (suc (suc w))))))))))))))))) a h = let lt = h.below in absurd (omega (arith, lt))
+
+each_template : (q : ℕ) (r : TemplateRow) (k : Kept) → slice_get (template ∷ []) q ≡ Some r → length (kept_list k) ≡ length r.cells + r.holes →
+    Code program image (template_phrases program) [] (Some Ret) (kept_list k) 0 [] (do_phrase (template_phrases program q (kept_view (template_phrases program) k)) ∷ []) r.entry
+unfolding template_phrases
+each_template zero r none_kept e size =
+    let same : template ≡ r = cc in subst (λ (u : TemplateRow). Code program image (template_phrases program) [] (Some Ret) [] 0 [] (do_phrase (items (number 2 ∷ [])) ∷ []) u.entry) same template_code
+each_template zero r (kept_more v k) e size =
+    let same : template ≡ r = cc in
+    let none = subst (λ (u : TemplateRow). suc (length (kept_list k)) ≡ length u.cells + u.holes) (sym same) size in
+    absurd (omega (arith, none))
+each_template (suc q) r k e size = absurd (cc)
+
+each_action : (w : ℕ) (d : WordDef) → slice_get program.words w ≡ Some d → is_top_phrase program w ≡ false → HasAction program image w
+unfolding built_count
+each_action zero d e past = record { row = row (action.Prim 26); there = refl; acts = a_prim 26 refl refl refl }
+each_action (suc zero) d e past = record { row = row (action.Core w_call); there = refl; acts = a_core w_call refl }
+each_action (suc (suc zero)) d e past = record { row = row (action.Core w_dip); there = refl; acts = a_core w_dip refl }
+each_action (suc (suc (suc zero))) d e past = record { row = row (action.Prim 3); there = refl; acts = a_prim 3 refl refl refl }
+each_action (suc (suc (suc (suc zero)))) d e past = record { row = row (action.Code 35); there = refl; acts = a_code 35 (in_code 4 35 (omega arith) tt refl) }
+each_action (suc (suc (suc (suc (suc zero))))) d e past = record { row = row (action.Code 61); there = refl; acts = a_code 61 (in_code 5 61 (omega arith) tt refl) }
+each_action (suc (suc (suc (suc (suc (suc zero)))))) d e past = record { row = row (action.Code 0); there = refl; acts = a_code 0 (in_code 6 0 (omega arith) tt refl) }
+each_action (suc (suc (suc (suc (suc (suc (suc zero))))))) d e past = record { row = row (action.Prim 16); there = refl; acts = a_prim 16 refl refl refl }
+each_action (suc (suc (suc (suc (suc (suc (suc (suc zero)))))))) d e past = record { row = row (action.Prim 2); there = refl; acts = a_prim 2 refl refl refl }
+each_action (suc (suc (suc (suc (suc (suc (suc (suc (suc zero))))))))) d e past = record { row = row (action.Code 12); there = refl; acts = a_code 12 (in_code 9 12 (omega arith) tt refl) }
+each_action (suc (suc (suc (suc (suc (suc (suc (suc (suc (suc zero)))))))))) d e past = record { row = row (action.Core w_if); there = refl; acts = a_core w_if refl }
+each_action (suc (suc (suc (suc (suc (suc (suc (suc (suc (suc (suc zero))))))))))) d e past = record { row = row (action.Code 20); there = refl; acts = a_code 20 (in_code 11 20 (omega arith) tt refl) }
+each_action (suc (suc (suc (suc (suc (suc (suc (suc (suc (suc (suc (suc zero)))))))))))) d e past = record { row = row (action.Prim 17); there = refl; acts = a_prim 17 refl refl refl }
+each_action (suc (suc (suc (suc (suc (suc (suc (suc (suc (suc (suc (suc (suc zero))))))))))))) d e past = record { row = row (action.Prim 1); there = refl; acts = a_prim 1 refl refl refl }
+each_action (suc (suc (suc (suc (suc (suc (suc (suc (suc (suc (suc (suc (suc (suc zero)))))))))))))) d e past = record { row = row (action.Code 29); there = refl; acts = a_code 29 (in_code 14 29 (omega arith) tt refl) }
+each_action (suc (suc (suc (suc (suc (suc (suc (suc (suc (suc (suc (suc (suc (suc (suc zero))))))))))))))) d e past = record { row = row (action.Code 55); there = refl; acts = a_code 55 (in_code 15 55 (omega arith) tt refl) }
+each_action (suc (suc (suc (suc (suc (suc (suc (suc (suc (suc (suc (suc (suc (suc (suc (suc zero)))))))))))))))) d e past = record { row = row (action.Code 42); there = refl; acts = a_code 42 (in_code 16 42 (omega arith) tt refl) }
+each_action (suc (suc (suc (suc (suc (suc (suc (suc (suc (suc (suc (suc (suc (suc (suc (suc (suc zero))))))))))))))))) d e past = absurd (cc)
+each_action (suc (suc (suc (suc (suc (suc (suc (suc (suc (suc (suc (suc (suc (suc (suc (suc (suc (suc w)))))))))))))))))) d e past = absurd (cc)
+
+-- So the code of the image stands for the program.
+expanded : ExpandedCode program image
+expanded = record {
+  called = record { words = each_word; templates = λ q r k e size whole. each_template q r k e size; actions = each_action };
+  phrase = phrase_code;
+}
