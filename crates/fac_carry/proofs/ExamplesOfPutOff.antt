@@ -1,7 +1,6 @@
 -- Code in which quotations are put off, computed: its derivation, and how the machine and the meaning end.
-use Rattle.std.proofs.Common.{◌≡◌, ℕ, zero, suc, ◌+◌, ◌<◌, List, [], ◌∷◌, ◌++◌, length, true, false, refl, ap, sym, subst, ◌∙◌, Option, Some, None, arith}
+use Rattle.std.proofs.Common.{◌≡◌, ℕ, zero, suc, ◌+◌, ◌<◌, List, [], ◌∷◌, length, true, false, refl, ap, sym, subst, ◌∙◌, Option, Some, None, arith}
 use Rattle.std.specs.Prelude.{pos, slice_get}
-use Rattle.fac_base.specs.declared.height.Height.{Height}
 use Rattle.fac_base.specs.Signatures.{signature, no_inputs, never}
 use Rattle.fac_base.specs.HeightArithmetic.{fits}
 use Rattle.fac_lang.specs.declared.program.Program.{Program}
@@ -9,7 +8,7 @@ use Rattle.fac_lang.specs.declared.program.WordDef.{WordDef}
 use Rattle.fac_lang.specs.declared.program.Sort.{Sort}
 use Rattle.fac_lang.specs.declared.program.Sort.TheVariants.{Prim as prim, Core as core, Body as body}
 use Rattle.fac_lang.specs.declared.core_table.CoreWord.TheVariants.{Call as w_call, Dip as w_dip, If as w_if}
-use Rattle.fac_lang.specs.Phrases.{int, no, Phrase, end, then, Item, lit, quot, word, Value, plain}
+use Rattle.fac_lang.specs.Phrases.{int, no, Phrase, end, then, Item, lit, quot, word, Value}
 use Rattle.fac_lang.specs.Primitives.{built_count, prim_numbered, prim_fn}
 use Rattle.fac_lang.specs.Eval.{Result, Done}
 use Rattle.fac_lang.specs.Meaning.{nowhere, sort_of, word_phrase, is_top_phrase, run, start}
@@ -24,10 +23,11 @@ use Rattle.fac_code.specs.declared.image.TemplateRow.{TemplateRow}
 use Rattle.fac_code.specs.declared.image.WordRow.{WordRow}
 use Rattle.fac_store.specs.MachineValues.{MValue, m_plain, m_fun, m_lit, Kept, none_kept, kept as kept_more, kept_list}
 use Rattle.fac_machine.specs.Machine.{End, done, steps, first_world, starting}
-use Rattle.fac_carry.specs.MachineView.{template_phrases, values_view, kept_view}
+use Rattle.fac_carry.specs.MachineView.{Templates, template_phrases, values_view, kept_view}
 use Rattle.fac_carry.specs.Stands.{RunsPhrase, HasCode, HasAction, a_prim, a_core, a_code}
-use Rattle.fac_carry.specs.Symbols.{Sym, here, off, kept, k_phrase, k_cur, k_com, Task, do_phrase, top_is, top_none, Needs, needs_none, needs_more, all_none, all_more, Special}
+use Rattle.fac_carry.specs.Symbols.{Sym, Known, here, off, kept, k_phrase, k_cur, do_phrase, top_is, top_none, Needs, needs_none, needs_more, all_none, all_more}
 use Rattle.fac_carry.specs.Expanded.{row_here, row_none, Code, c_last, c_tick, c_jump, c_unbind, c_hold, c_back, c_fetch, c_make, c_end, c_run, c_cur, c_com, c_off, c_move_off, c_curry_off, c_compose_off, c_call_off, c_dip_off, c_if_off, c_expand, c_move, c_curry, c_int, c_false, c_prim, c_word, c_call, ExpandedCode}
+use Rattle.fac_carry.proofs.Reaching.{Stage, stage, arrived, by, by_each, only, called, kept_runs, stands}
 
 abbrev items : List Item → Phrase
 items [] = end
@@ -155,6 +155,9 @@ meaning_ends : result_of (run program fits (λ c. None) 200 top_phrase (start pr
 unfolding prim_fn prim_numbered template_phrases
 meaning_ends = refl
 
+abbrev texts : Templates
+texts = template_phrases program
+
 -- code of a phrase that ends in `ret`
 abbrev Stands : Phrase → ℕ → Type 0
 Stands t a = Code program image (template_phrases program) [] (Some Ret) [] 0 [] (do_phrase t ∷ []) a
@@ -175,16 +178,41 @@ applied_code =
     c_tick 1 refl (c_int (pos 2) refl (c_prim 0 26 _ refl refl refl (take_two (here ∷ [])) refl (c_end (c_end (
     c_prim 0 26 _ refl refl refl (take_two []) refl (c_end (c_last (all_more all_none) refl))))))))))))))))))))))))))))))))
 
+abbrev plus : Known
+plus = k_phrase (items (word 0 ∷ []))
+
 -- The value that is curried goes into the frame, and comes back for the tick of running what `curry` would have made. `swap` has no instruction.
 curried_code : Stands curried 12
 unfolding prim_numbered
 curried_code =
     c_off (c_curry 7 16 refl refl top_none refl (λ m whole.
     c_tick 1 refl (c_int (pos 4) refl (
-    c_move_off 8 2 2 (1 ∷ 0 ∷ []) (here ∷ off (k_cur (kept m) (k_phrase (items (word 0 ∷ [])))) ∷ []) refl (omega arith, refl) refl refl (
+    c_move_off 8 2 2 (1 ∷ 0 ∷ []) (here ∷ off (k_cur (kept m) plus) ∷ []) refl (omega arith, refl) refl refl (
     c_call_off 1 refl (c_cur (c_hold (row_none refl) (c_fetch 0 m refl refl (c_back (row_none refl) (c_run (
     c_tick 2 refl (c_prim 0 26 _ refl refl refl (take_two []) refl (c_end (
     c_unbind {F = []} (m ∷ []) refl (c_end (c_last (all_more all_none) refl))))))))))))))))
+
+-- the same by the steps of an emitter
+curried_reached : Stands curried 12
+unfolding prim_numbered
+curried_reached =
+    stands program image texts (by_each program image texts {y = bound} (λ Γ last K c. c_off (c_curry 7 16 refl refl top_none refl c)) (λ m whole.
+    by program image texts {y = swapped m} (λ Γ last K c. c_tick 1 refl (c_int (pos 4) refl (c_move_off 8 2 2 (1 ∷ 0 ∷ []) (here ∷ off (k_cur (kept m) plus) ∷ []) refl (omega arith, refl) refl refl c)))
+    (called program image texts 1 (k_cur (kept m) plus) refl
+    (kept_runs program image texts plus 0 m refl refl (by program image texts {y = summed m} (λ Γ last K c. c_run (c_tick 2 refl (c_prim 0 26 _ refl refl refl (take_two []) refl (c_end c)))) (arrived program image texts (summed m) refl)))
+    (only program image texts (do_phrase end ∷ []) (summed m)
+    (by program image texts {y = stage [] 0 (here ∷ []) [] 19} (λ Γ last K c. c_unbind {F = []} (m ∷ []) refl (c_end c))
+    (arrived program image texts (stage [] 0 (here ∷ []) [] 19) (record { nothing = refl; paid = refl; here_all = all_more all_none; there = refl })))))))
+  where
+    -- behind `curry`, before `call`, and where it is run
+    bound : MValue → Stage
+    bound m = stage (m ∷ []) 1 (off (k_cur (kept m) plus) ∷ []) (do_phrase (items (number 4 ∷ word 8 ∷ word 1 ∷ [])) ∷ []) 13
+
+    swapped : MValue → Stage
+    swapped m = stage (m ∷ []) 1 (off (k_cur (kept m) plus) ∷ here ∷ []) (do_phrase (items (word 1 ∷ [])) ∷ []) 15
+
+    summed : MValue → Stage
+    summed m = stage (m ∷ []) 0 (here ∷ []) [] 18
 
 -- The two ways come to one place, with the same stack and nothing owed.
 joined_code : Stands joined 20

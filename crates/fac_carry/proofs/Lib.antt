@@ -20,5 +20,5 @@ pub mod Simulation
 pub mod PlainIsCode
 pub mod HeldFrames
 pub mod CodeRuns
-mod ExamplesOfPutOff
 pub mod Reaching
+mod ExamplesOfPutOff
