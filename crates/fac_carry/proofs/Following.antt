@@ -255,6 +255,22 @@ module _ (Y : Setting) where
       left (l_phrase (then i p t) ∷ L) st (suc m) ≡ then_do (run_callable run c st' m) (λ s k. left (l_phrase t ∷ L) (push_each put s) k)
   first_runs i p t L st st' c put m e = first_is i p t L st m (runs c st' put) e ∙ then_again (run_callable run c st' m) (λ s k. run t (push_each put s) k) (left L)
 
+  -- items whose tick is owed, by what they do at once
+  pub owed_goes : (last : Option Instr) (R : List Entry) (base : List MValue) (s : Machine) (N d n : ℕ) (i : Item) (p : Place) (t : Phrase) (L : List Left) (st st' : State Value) → A i st ≡ goes st' →
+      Follows last R base s N (owing st.world (suc d) n (left (l_phrase t ∷ L) st')) → Follows last R base s N (owing st.world d n (left (l_phrase (then i p t) ∷ L) st))
+  owed_goes last R base s N d n i p t L st st' e h = owe last R base s N st.world d n (left (l_phrase (then i p t) ∷ L) st) (left (l_phrase t ∷ L) st') st (Some i) refl refl (λ m. first_goes i p t L st st' m e) h
+
+  pub owed_runs : (last : Option Instr) (R : List Entry) (base : List MValue) (s : Machine) (N d n : ℕ) (i : Item) (p : Place) (t : Phrase) (L : List Left) (st st' : State Value) (c : Callable) (put : List Value) → A i st ≡ runs c st' put →
+      Follows last R base s N (owing st.world (suc d) n (λ m. then_do (run_callable run c st' m) (λ u k. left (l_phrase t ∷ L) (push_each put u) k))) → Follows last R base s N (owing st.world d n (left (l_phrase (then i p t) ∷ L) st))
+  owed_runs last R base s N d n i p t L st st' c put e h =
+      owe last R base s N st.world d n (left (l_phrase (then i p t) ∷ L) st) (λ m. then_do (run_callable run c st' m) (λ u k. left (l_phrase t ∷ L) (push_each put u) k)) st (Some i) refl refl (λ m. first_runs i p t L st st' c put m e) h
+
+  -- no tick is left for an instruction
+  pub owed_none : (last : Option Instr) (R : List Entry) (base : List MValue) (s : Machine) (d : ℕ) (go : ℕ → Result) (st : State Value) (i : Option Item) (x : Instr) → slice_get M.code s.pc ≡ Some x → fetched M (Some x) (record s { job = None }) zero ≡ ends (spent (record s { job = None })) →
+      V s.world ≡ st.world → go zero ≡ Spent st i → Follows last R base (record s { job = None }) zero (owing st.world d zero go)
+  owed_none last R base s zero go st i x e none same z = rw z (spent_here last R base s st i x e none same)
+  owed_none last R base s (suc d) go st i x e none same z = spent_here last R base s (record { stack = []; world = st.world }) None x e none same
+
   pub live_is : (i : Item) (p : Place) (t : Phrase) (L : List Left) (st : State Value) (a : Act) → A i st ≡ a → Live (l_phrase (then i p t) ∷ L) st → (m : ℕ) → then_do (go_on run a t m) (left L) ≢ Stuck
   live_is i p t L st a e lv m is = lv (suc m) (first_is i p t L st m a e ∙ is)
 

@@ -34,7 +34,7 @@ use Rattle.fac_carry.proofs.SymbolicStacks.{Left, l_phrase, l_back, l_call, a_of
 use Rattle.fac_carry.proofs.WholeValueLemmas.{get_whole, pile_whole, more_whole, parts_whole}
 use Rattle.fac_carry.proofs.SamePrimitives.{seen_same}
 use Rattle.fac_carry.proofs.ShuffleLemmas.{both_by, piled_by, numbered, fn_is, meaning_shuffles, meaning_lacks, machine_shuffles, Outcome, is_moved, is_lacking, outcome}
-use Rattle.fac_carry.proofs.Following.{owing, state, at, left, Follows, step_before, fetch, spent_here, owe, Live, Go, first_goes, first_runs, live_goes, live_runs, wrong_here}
+use Rattle.fac_carry.proofs.Following.{owing, state, at, left, Follows, step_before, fetch, spent_here, owe, Live, Go, owed_goes, owed_runs, owed_none, live_goes, live_runs, wrong_here}
 use Rattle.fac_carry.proofs.CaseLemmas.{prim_acts, prim_goes}
 use Rattle.fac_carry.proofs.CallLemmas.{phrase_runs, core_is}
 use Rattle.fac_carry.proofs.FrameCases.{held_goes}
@@ -155,16 +155,6 @@ module _ (Y : Setting) where
       owe Y last R base (at F pc ms rs R w) n (V w) d n (left Y (l_call ∷ L1) (state (fun (both c c2) ∷ us) (V w))) (left Y later (state (fun c ∷ us) (V w))) (state us (V w)) None refl refl same
       (go R base ms rs (fun c ∷ us) later w n le ok (λ m is. lv (suc m) (same m ∙ is)) (lies_more (r_aside (a_off hk)) l) (keeps_call (keeps_aside (a_off he) (keeps_call h))))
 
-  -- items whose tick is owed, by what they do at once
-  owed_goes : (last : Option Instr) (R : List Entry) (base : List MValue) (s : Machine) (N d n : ℕ) (i : Item) (p : Place) (t : Phrase) (L : List Left) (st st' : State Value) → A i st ≡ goes st' →
-      Follows Y last R base s N (owing st.world (suc d) n (left Y (l_phrase t ∷ L) st')) → Follows Y last R base s N (owing st.world d n (left Y (l_phrase (then i p t) ∷ L) st))
-  owed_goes last R base s N d n i p t L st st' e h = owe Y last R base s N st.world d n (left Y (l_phrase (then i p t) ∷ L) st) (left Y (l_phrase t ∷ L) st') st (Some i) refl refl (λ m. first_goes Y i p t L st st' m e) h
-
-  owed_runs : (last : Option Instr) (R : List Entry) (base : List MValue) (s : Machine) (N d n : ℕ) (i : Item) (p : Place) (t : Phrase) (L : List Left) (st st' : State Value) (c : Callable) (put : List Value) → A i st ≡ runs c st' put →
-      Follows Y last R base s N (owing st.world (suc d) n (λ m. then_do (run_callable run c st' m) (λ u k. left Y (l_phrase t ∷ L) (push_each put u) k))) → Follows Y last R base s N (owing st.world d n (left Y (l_phrase (then i p t) ∷ L) st))
-  owed_runs last R base s N d n i p t L st st' c put e h =
-      owe Y last R base s N st.world d n (left Y (l_phrase (then i p t) ∷ L) st) (λ m. then_do (run_callable run c st' m) (λ u k. left Y (l_phrase t ∷ L) (push_each put u) k)) st (Some i) refl refl (λ m. first_runs Y i p t L st st' c put m e) h
-
   -- a word of a primitive does what the primitive of its number does
   word_does : (wd k : ℕ) (m : PrimitiveMeaning) (st : State Value) → sort_of P wd ≡ Some (prim_sort k) → doing_numbered k ≡ Some m → A (word wd) st ≡ does wd (by_inputs meaning_values (names P) m.takes m.does) st
   word_does wd k m st es em = let q = numbered k m em in prim_acts Y wd k q.0 st es q.1 ∙ ap (λ (fn : Fn Value). does wd fn st) (fn_is meaning_values (names P) q.0 m q.2)
@@ -186,7 +176,7 @@ module _ (Y : Setting) where
           let st = state vs (V w) in
           let st' = state m.values (V w) in
           let acts = shuffle_acts wd k n ks vs m.values (V w) es is m.does in
-          owed_goes last R base (at F pc ms rs R w) b d b (word wd) p t L1 st st' acts
+          owed_goes Y last R base (at F pc ms rs R w) b d b (word wd) p t L1 st st' acts
           (go R base ms rs m.values (l_phrase t ∷ L1) w b le ok (live_goes Y (word wd) p t L1 st st' acts lv) (subst (λ us. Lies T (pile ys (below n S)) us m.values) (m.stays stay) m.lies) (keeps_phrase h))
 
   -- what a shuffle leaves of whole values is whole
@@ -202,12 +192,6 @@ module _ (Y : Setting) where
   shuffled_whole (suc n) ks xs [] us hx hm e = absurd (cc)
   shuffled_whole (suc n) ks xs (m ∷ ms) us hx hm e = shuffled_whole n ks (m ∷ xs) ms us (hm.0, hx) hm.1 e
 
-  -- no tick is left for an instruction
-  owed_none : (last : Option Instr) (R : List Entry) (base : List MValue) (s : Machine) (d : ℕ) (go : ℕ → Result) (st : State Value) (i : Option Item) (x : Instr) → slice_get M.code s.pc ≡ Some x → fetched M (Some x) (record s { job = None }) zero ≡ ends (spent (record s { job = None })) →
-      V s.world ≡ st.world → go zero ≡ Spent st i → Follows Y last R base (record s { job = None }) zero (owing st.world d zero go)
-  owed_none last R base s zero go st i x e none same z = rw z (spent_here Y last R base s st i x e none same)
-  owed_none last R base s (suc d) go st i x e none same z = spent_here Y last R base s (record { stack = []; world = st.world }) None x e none same
-
   -- a shuffle of the machine
   shuffle_goes : (F : List MValue) (pc j m : ℕ) (js : List ℕ) (ms us rs : List MValue) (R : List Entry) (w : World MValue) (n : ℕ) → IsShuffle j m js → slice_get M.code pc ≡ Some (prim_instr j) → shuffled m js [] ms ≡ Some us →
       stepping (at F pc ms rs R w) (suc n) ≡ goes_on (at F (pc + 1) us rs R w) n
@@ -221,7 +205,7 @@ module _ (Y : Setting) where
   pub g_move : (f : ℕ) (F : List MValue) (last : Option Instr) (d wd k n : ℕ) (ks : List ℕ) (ys : List Sym) (j m : ℕ) (js : List ℕ) (p : Place) (t : Phrase) (S : List Sym) (K : List Task) (pc : ℕ) → sort_of P wd ≡ Some (prim_sort k) → IsShuffle k n ks →
       chosen ks (tops n S []) ≡ Some ys → IsShuffle j m js → AreShuffled (tops n S []) ks m js → slice_get M.code pc ≡ Some (prim_instr j) → Go Y f F last d (pile ys (below n S)) (do_phrase t ∷ K) (pc + 1) → Go Y f F last d S (do_phrase (then (word wd) p t) ∷ K) pc
   g_move f F last d wd k n ks ys j m js p t S K pc es is ey ij moves e go R base ms rs vs L w zero le ok lv l (keeps_phrase {L = L1} h) =
-      owed_none last R base (at F pc ms rs R w) d (left Y (l_phrase (then (word wd) p t) ∷ L1) (state vs (V w))) (state vs (V w)) (Some (word wd)) (prim_instr j) e refl refl refl
+      owed_none Y last R base (at F pc ms rs R w) d (left Y (l_phrase (then (word wd) p t) ∷ L1) (state vs (V w))) (state vs (V w)) (Some (word wd)) (prim_instr j) e refl refl refl
   g_move f F last d wd k n ks ys j m js p t S K pc es is ey ij moves e go R base ms rs vs L w (suc b) le ok lv l (keeps_phrase {L = L1} h) = one (outcome T n ks S ys ms vs ey l)
     where
       one : Outcome T n ks S ys ms vs → Follows Y last R base (at F pc ms rs R w) (suc b) (owing (V w) d (suc b) (left Y (l_phrase (then (word wd) p t) ∷ L1) (state vs (V w))))
@@ -233,7 +217,7 @@ module _ (Y : Setting) where
           let acts = shuffle_acts wd k n ks vs o.values (V w) es is o.does in
           let does = o.moves m js moves in
           let ok1 : Fine F rs o.stack w = record { cells = ok.cells; held = ok.held; values = shuffled_whole m js [] ms o.stack tt ok.values does; objects = ok.objects } in
-          owed_goes last R base s (suc b) d (suc b) (word wd) p t L1 st st' acts
+          owed_goes Y last R base s (suc b) d (suc b) (word wd) p t L1 st st' acts
           (step_before Y last R base s (at F (pc + 1) o.stack rs R w) (suc b) b _ (shuffle_goes F pc j m js ms o.stack rs R w b ij e does)
           (go R base o.stack rs o.values (l_phrase t ∷ L1) w b (omega (arith, le)) ok1 (live_goes Y (word wd) p t L1 st st' acts lv) o.lies (keeps_phrase h)))
 
@@ -248,7 +232,7 @@ module _ (Y : Setting) where
       let st = state (fun q ∷ v ∷ us) (V w) in
       let st' = state (fun (cur v q) ∷ us) (V w) in
       let acts : A (word wd) st ≡ goes st' = curry_acts wd k (fun q ∷ v ∷ us) (V w) (goes st') es ik refl in
-      owed_goes last R base (at F pc ms rs R w) n d n (word wd) p t L1 st st' acts
+      owed_goes Y last R base (at F pc ms rs R w) n d n (word wd) p t L1 st st' acts
       (go R base ms rs (fun (cur v q) ∷ us) (l_phrase t ∷ L1) w n le ok (live_goes Y (word wd) p t L1 st st' acts lv) (lies_more (r_aside (a_off (n_cur hk a.0))) (subst (λ qs. Lies T S qs us) a.1 l)) (keeps_phrase h))
 
   pub g_compose_off : (f : ℕ) (F : List MValue) (last : Option Instr) (d wd k : ℕ) (c e : Known) (p : Place) (t : Phrase) (S : List Sym) (K : List Task) (pc : ℕ) → sort_of P wd ≡ Some (prim_sort k) → IsCompose k →
@@ -257,13 +241,13 @@ module _ (Y : Setting) where
       let st = state (fun q2 ∷ fun q ∷ us) (V w) in
       let st' = state (fun (both q q2) ∷ us) (V w) in
       let acts : A (word wd) st ≡ goes st' = word_does wd k _ st es ik in
-      owed_goes last R base (at F pc ms rs R w) n d n (word wd) p t L1 st st' acts
+      owed_goes Y last R base (at F pc ms rs R w) n d n (word wd) p t L1 st st' acts
       (go R base ms rs (fun (both q q2) ∷ us) (l_phrase t ∷ L1) w n le ok (live_goes Y (word wd) p t L1 st st' acts lv) (lies_more (r_aside (a_off (n_com hk he))) l) (keeps_phrase h))
 
   pub g_curry : (f : ℕ) (F : List MValue) (last : Option Instr) (d wd k : ℕ) (c : Known) (p : Place) (t : Phrase) (S S1 : List Sym) (K : List Task) (pc : ℕ) → sort_of P wd ≡ Some (prim_sort k) → IsCurry k → Top S here S1 → slice_get M.code pc ≡ Some Bind →
       ((m : MValue) → Whole m → Go Y f (F ++ m ∷ []) last d (off (k_cur (kept m) c) ∷ S1) (do_phrase t ∷ K) (pc + 1)) → Go Y f F last d (off c ∷ S) (do_phrase (then (word wd) p t) ∷ K) pc
   g_curry f F last d wd k c p t S S1 K pc es ik top e go R base ms rs vs L w zero le ok lv l (keeps_phrase {L = L1} h) =
-      owed_none last R base (at F pc ms rs R w) d (left Y (l_phrase (then (word wd) p t) ∷ L1) (state vs (V w))) (state vs (V w)) (Some (word wd)) Bind e refl refl refl
+      owed_none Y last R base (at F pc ms rs R w) d (left Y (l_phrase (then (word wd) p t) ∷ L1) (state vs (V w))) (state vs (V w)) (Some (word wd)) Bind e refl refl refl
   g_curry f F last d wd k c p t S S1 K pc es ik top e go R base ms rs vs L w (suc b) le ok lv (lies_more {vs = us} (r_aside (a_off {c = q} hk)) l) (keeps_phrase {L = L1} h) = one ms us ok lv (take_here T S S1 ms us top l)
     where
       one : (ms : List MValue) (us : List Value) → Fine F rs ms w → Live Y (l_phrase (then (word wd) p t) ∷ L1) (state (fun q ∷ us) (V w)) → OnTop T S1 ms us →
@@ -275,7 +259,7 @@ module _ (Y : Setting) where
           let st' = state (fun (cur (value_view T m) q) ∷ us1) (V w) in
           let acts : A (word wd) st ≡ goes st' = curry_acts wd k (fun q ∷ value_view T m ∷ us1) (V w) (goes st') es ik refl in
           let ok1 : Fine (F ++ m ∷ []) rs ms1 w = record { cells = more_whole P M F (m ∷ []) ok.cells (ok.values.0, tt); held = ok.held; values = ok.values.1; objects = ok.objects } in
-          owed_goes last R base s (suc b) d (suc b) (word wd) p t L1 st st' acts
+          owed_goes Y last R base s (suc b) d (suc b) (word wd) p t L1 st st' acts
           (step_before Y last R base s (at (F ++ m ∷ []) (pc + 1) ms1 rs R w) (suc b) b _ (fetch Y s (suc b) Bind e)
           (go m ok.values.0 R base ms1 rs (fun (cur (value_view T m) q) ∷ us1) (l_phrase t ∷ L1) w b (omega (arith, le)) ok1 (live_goes Y (word wd) p t L1 st st' acts lv) (lies_more (r_aside (a_off (n_cur hk a_kept))) l1) (keeps_phrase h)))
 
@@ -285,7 +269,7 @@ module _ (Y : Setting) where
   g_call_off f F last d wd c p t S K pc es go R base ms rs vs L w n le ok lv (lies_more {vs = us} (r_aside (a_off {c = q} hk)) l) (keeps_phrase {L = L1} h) =
       let st = state (fun q ∷ us) (V w) in
       let acts : A (word wd) st ≡ runs q (state us (V w)) [] = core_is Y wd w_call st es in
-      owed_runs last R base (at F pc ms rs R w) n d n (word wd) p t L1 st (state us (V w)) q [] acts
+      owed_runs Y last R base (at F pc ms rs R w) n d n (word wd) p t L1 st (state us (V w)) q [] acts
       (go R base ms rs (fun q ∷ us) (l_call ∷ l_phrase t ∷ L1) w n le ok (live_runs Y (word wd) p t L1 st (state us (V w)) q [] acts lv) (lies_more (r_aside (a_off hk)) l) (keeps_call (keeps_phrase h)))
 
   pub g_dip_off : (f : ℕ) (F : List MValue) (last : Option Instr) (d wd : ℕ) (x : Sym) (c : Known) (p : Place) (t : Phrase) (S S1 : List Sym) (K : List Task) (pc to : ℕ) → sort_of P wd ≡ Some (core_sort w_dip) → Top S x S1 → Row P M T Hold x pc to →
@@ -298,7 +282,7 @@ module _ (Y : Setting) where
       one ms us ok lv (taken {ms' = ms'} {v = v} {vs = us1} r l1) =
           let st = state (fun q ∷ v ∷ us1) (V w) in
           let acts : A (word wd) st ≡ runs q (state us1 (V w)) (v ∷ []) = core_is Y wd w_dip st es in
-          owed_runs last R base (at F pc ms rs R w) n d n (word wd) p t L1 st (state us1 (V w)) q (v ∷ []) acts
+          owed_runs Y last R base (at F pc ms rs R w) n d n (word wd) p t L1 st (state us1 (V w)) q (v ∷ []) acts
           (holding F last pc to x row R base rs (do_phrase t ∷ K) (l_phrase t ∷ L1) (keeps_phrase h) ms ms' v r w n ok _ (λ rs' ok1 h1.
           go R base ms' rs' (fun q ∷ us1) (l_call ∷ l_back v ∷ l_phrase t ∷ L1) w n le ok1 (live_runs Y (word wd) p t L1 st (state us1 (V w)) q (v ∷ []) acts lv) (lies_more (r_aside (a_off hk)) l1) (keeps_call h1)))
 
@@ -313,14 +297,14 @@ module _ (Y : Setting) where
           let s = at F pc (m ∷ ms1) rs R w in
           let acts : A (word wd) st ≡ runs q2 (state us (V w)) [] = core_is Y wd w_if st es ∙ rw (seen_same T m, is) refl in
           let jumps : stepping s n ≡ goes_on (at F a ms1 rs R w) n = fetch Y s n (Branch a) code ∙ rw is refl in
-          owed_runs last R base s n d n (word wd) p t L1 st (state us (V w)) q2 [] acts (step_before Y last R base s (at F a ms1 rs R w) n n _ jumps
+          owed_runs Y last R base s n d n (word wd) p t L1 st (state us (V w)) q2 [] acts (step_before Y last R base s (at F a ms1 rs R w) n n _ jumps
           (goes_e R base ms1 rs (fun q2 ∷ us) (l_call ∷ l_phrase t ∷ L1) w n le ok (live_runs Y (word wd) p t L1 st (state us (V w)) q2 [] acts lv) (lies_more (r_aside (a_off he)) l) (keeps_call (keeps_phrase h))))
       way false m ms1 us is ok lv l =
           let st = state (fun q2 ∷ fun q ∷ value_view T m ∷ us) (V w) in
           let s = at F pc (m ∷ ms1) rs R w in
           let acts : A (word wd) st ≡ runs q (state us (V w)) [] = core_is Y wd w_if st es ∙ rw (seen_same T m, is) refl in
           let passes : stepping s n ≡ goes_on (at F (pc + 1) ms1 rs R w) n = fetch Y s n (Branch a) code ∙ rw is refl in
-          owed_runs last R base s n d n (word wd) p t L1 st (state us (V w)) q [] acts (step_before Y last R base s (at F (pc + 1) ms1 rs R w) n n _ passes
+          owed_runs Y last R base s n d n (word wd) p t L1 st (state us (V w)) q [] acts (step_before Y last R base s (at F (pc + 1) ms1 rs R w) n n _ passes
           (goes_c R base ms1 rs (fun q ∷ us) (l_call ∷ l_phrase t ∷ L1) w n le ok (live_runs Y (word wd) p t L1 st (state us (V w)) q [] acts lv) (lies_more (r_aside (a_off hc)) l) (keeps_call (keeps_phrase h))))
 
       one : (ms : List MValue) (us : List Value) → Fine F rs ms w → Live Y (l_phrase (then (word wd) p t) ∷ L1) (state (fun q2 ∷ fun q ∷ us) (V w)) → OnTop T S1 ms us →
@@ -334,5 +318,5 @@ module _ (Y : Setting) where
   g_expand f F last d wd p t S K pc hr go R base ms rs vs L w n le ok lv l (keeps_phrase {L = L1} h) =
       let st = state vs (V w) in
       let acts = phrase_runs Y wd (sort_of P wd) st hr in
-      owed_runs last R base (at F pc ms rs R w) n d n (word wd) p t L1 st st (of_phrase (word_phrase P wd)) [] acts
+      owed_runs Y last R base (at F pc ms rs R w) n d n (word wd) p t L1 st st (of_phrase (word_phrase P wd)) [] acts
       (go R base ms rs vs (l_phrase (word_phrase P wd) ∷ l_phrase t ∷ L1) w n le ok (live_runs Y (word wd) p t L1 st st (of_phrase (word_phrase P wd)) [] acts lv) l (keeps_phrase (keeps_phrase h)))
