@@ -98,24 +98,24 @@ row a = record { vocab = 0; name = 0; action = a; height = None }
 
 abbrev rows : List WordRow
 rows =
-    row (action.Prim 26) ∷ row (action.Core w_call) ∷ row (action.Core w_dip) ∷ row (action.Prim 3) ∷ row (action.Code 35) ∷ row (action.Code 61) ∷ row (action.Code 0) ∷ row (action.Prim 16) ∷ row (action.Prim 2) ∷ row (action.Code 12) ∷ row (action.Core w_if) ∷ row
-    (action.Code 20) ∷ row (action.Prim 17) ∷ row (action.Prim 1) ∷ row (action.Code 29) ∷ row (action.Code 55) ∷ row (action.Code 42) ∷ row (action.Code 46) ∷ []
+    row (action.Prim 26) ∷ row (action.Core w_call) ∷ row (action.Core w_dip) ∷ row (action.Prim 3) ∷ row (action.Code 32) ∷ row (action.Code 58) ∷ row (action.Code 0) ∷ row (action.Prim 16) ∷ row (action.Prim 2) ∷ row (action.Code 11) ∷ row (action.Core w_if) ∷ row
+    (action.Code 18) ∷ row (action.Prim 17) ∷ row (action.Prim 1) ∷ row (action.Code 26) ∷ row (action.Code 52) ∷ row (action.Code 39) ∷ row (action.Code 43) ∷ []
 
 -- the quotation of `doubled`, the first of the program and the only one that is made
 abbrev template : TemplateRow
-template = record { entry = 40; cells = []; holes = 0; height = None }
+template = record { entry = 37; cells = []; holes = 0; height = None }
 
--- applied from 0 on, curried from 12, joined from 20, composed from 29, doubled from 35, its quotation from 40, inside from 42, the top-level phrase from
--- 46, keep from 55, bi from 61
+-- applied from 0 on, curried from 11, joined from 18, composed from 26, doubled from 32, its quotation from 37, inside from 39, the top-level phrase from
+-- 43, keep from 52, bi from 58
 abbrev code : List Instr
 code =
-    Tick 6 ∷ Prim 1 ∷ Hold ∷ Tick 3 ∷ Int (pos 1) ∷ Prim 26 ∷ Back ∷ Tick 1 ∷ Int (pos 2) ∷ Prim 26 ∷ Prim 26 ∷ Ret ∷
-    Bind ∷ Tick 1 ∷ Int (pos 4) ∷ Local 0 ∷ Tick 2 ∷ Prim 26 ∷ Unbind 1 ∷ Ret ∷
-    Branch 24 ∷ Tick 3 ∷ Int (pos 1) ∷ Jump 26 ∷ Tick 3 ∷ Int (pos 2) ∷ Int (pos 3) ∷ Prim 26 ∷ Ret ∷
-    Tick 5 ∷ Int (pos 1) ∷ Prim 26 ∷ Int (pos 2) ∷ Prim 26 ∷ Ret ∷
+    Prim 1 ∷ Hold ∷ Int (pos 1) ∷ Tick 9 ∷ Prim 26 ∷ Back ∷ Int (pos 2) ∷ Tick 1 ∷ Prim 26 ∷ Prim 26 ∷ Ret ∷
+    Bind ∷ Int (pos 4) ∷ Local 0 ∷ Tick 3 ∷ Prim 26 ∷ Unbind 1 ∷ Ret ∷
+    Branch 21 ∷ Int (pos 1) ∷ Jump 22 ∷ Int (pos 2) ∷ Int (pos 3) ∷ Tick 3 ∷ Prim 26 ∷ Ret ∷
+    Int (pos 1) ∷ Tick 5 ∷ Prim 26 ∷ Int (pos 2) ∷ Prim 26 ∷ Ret ∷
     Quot 0 ∷ Hold ∷ Quot 0 ∷ Back ∷ Ret ∷
     Int (pos 2) ∷ Ret ∷
-    Tick 6 ∷ Int (pos 1) ∷ Prim 26 ∷ Ret ∷
+    Int (pos 1) ∷ Tick 6 ∷ Prim 26 ∷ Ret ∷
     Int (pos 5) ∷ Callw 6 false ∷ Callw 9 false ∷ Callw 14 false ∷ Callw 16 false ∷ False ∷ Callw 11 false ∷ Callw 4 false ∷ Halt ∷
     Prim 3 ∷ Hold ∷ Tick 2 ∷ Call false ∷ Back ∷ Ret ∷
     Hold ∷ Tick 2 ∷ Callw 15 false ∷ Back ∷ Call false ∷ Ret ∷ []
@@ -124,12 +124,12 @@ is_built : has_built_code code ≡ true
 unfolding built_count
 is_built = refl
 
-is_whole : refers (record { texts = [] ∷ []; arrays = []; kinds = []; sets = []; templates = template ∷ []; words = rows; generics = []; pairs = [] }) code 46 ≡ true
+is_whole : refers (record { texts = [] ∷ []; arrays = []; kinds = []; sets = []; templates = template ∷ []; words = rows; generics = []; pairs = [] }) code 43 ≡ true
 unfolding built_count
 is_whole = refl
 
 abbrev image : Image
-image = record { arrays = []; kinds = []; sets = []; generics = []; pairs = []; templates = template ∷ []; words = rows; texts = [] ∷ []; code = code; start = 46; built = is_built; refers = is_whole }
+image = record { arrays = []; kinds = []; sets = []; generics = []; pairs = []; templates = template ∷ []; words = rows; texts = [] ∷ []; code = code; start = 43; built = is_built; refers = is_whole }
 
 -- What both come to with 200 ticks: two callables, 5 and 21, and as many ticks left.
 abbrev z : ℕ → MValue
@@ -171,66 +171,66 @@ applied_code : Stands applied 0
 unfolding prim_numbered
 applied_code =
     c_off (c_off (c_expand 5 tt (c_off (c_dip_off 2 refl top_is (row_none refl) (c_run (c_expand 15 tt (
-    c_tick 6 refl (c_move 3 3 2 (0 ∷ 1 ∷ 0 ∷ []) (here ∷ off (k_phrase one_more) ∷ here ∷ []) 1 1 (0 ∷ 0 ∷ []) refl (omega arith, refl) refl (omega arith, refl) refl refl (
+    c_move 3 3 2 (0 ∷ 1 ∷ 0 ∷ []) (here ∷ off (k_phrase one_more) ∷ here ∷ []) 1 1 (0 ∷ 0 ∷ []) refl (omega arith, refl) refl (omega arith, refl) refl refl (
     c_off (c_dip_off 2 refl top_is (row_here refl) (c_run (c_call_off 1 refl (c_run (
-    c_tick 3 refl (c_int (pos 1) refl (c_prim 0 26 _ refl refl refl (take_two []) refl (c_end (c_end (
+    c_int (pos 1) refl (c_tick 9 refl (c_prim 0 26 _ refl refl refl (take_two []) refl (c_end (c_end (
     c_back (row_here refl) (c_end (c_end (c_back (row_none refl) (c_call_off 1 refl (c_run (
-    c_tick 1 refl (c_int (pos 2) refl (c_prim 0 26 _ refl refl refl (take_two (here ∷ [])) refl (c_end (c_end (
-    c_prim 0 26 _ refl refl refl (take_two []) refl (c_end (c_last (all_more all_none) refl))))))))))))))))))))))))))))))))
+    c_int (pos 2) refl (c_tick 1 refl (c_prim 0 26 _ refl refl refl (take_two (here ∷ [])) refl (c_end (c_end (
+    c_prim 0 26 _ refl refl refl (take_two []) refl (c_end (c_last (all_more all_none) refl)))))))))))))))))))))))))))))))
 
 abbrev plus : Known
 plus = k_phrase (items (word 0 ∷ []))
 
 -- The value that is curried goes into the frame, and comes back for the tick of running what `curry` would have made. `swap` has no instruction.
-curried_code : Stands curried 12
+curried_code : Stands curried 11
 unfolding prim_numbered
 curried_code =
     c_off (c_curry 7 16 refl refl top_none refl (λ m whole.
-    c_tick 1 refl (c_int (pos 4) refl (
+    c_int (pos 4) refl (
     c_move_off 8 2 2 (1 ∷ 0 ∷ []) (here ∷ off (k_cur (kept m) plus) ∷ []) refl (omega arith, refl) refl refl (
     c_call_off 1 refl (c_cur (c_hold (row_none refl) (c_fetch 0 m refl refl (c_back (row_none refl) (c_run (
-    c_tick 2 refl (c_prim 0 26 _ refl refl refl (take_two []) refl (c_end (
-    c_unbind {F = []} (m ∷ []) refl (c_end (c_last (all_more all_none) refl))))))))))))))))
+    c_tick 3 refl (c_prim 0 26 _ refl refl refl (take_two []) refl (c_end (
+    c_unbind {F = []} (m ∷ []) refl (c_end (c_last (all_more all_none) refl)))))))))))))))
 
 -- the same by the steps of an emitter
-curried_reached : Stands curried 12
+curried_reached : Stands curried 11
 unfolding prim_numbered
 curried_reached =
     stands program image texts (by_each program image texts {y = bound} (λ Γ last K c. c_off (c_curry 7 16 refl refl top_none refl c)) (λ m whole.
-    by program image texts {y = swapped m} (λ Γ last K c. c_tick 1 refl (c_int (pos 4) refl (c_move_off 8 2 2 (1 ∷ 0 ∷ []) (here ∷ off (k_cur (kept m) plus) ∷ []) refl (omega arith, refl) refl refl c)))
+    by program image texts {y = swapped m} (λ Γ last K c. c_int (pos 4) refl (c_move_off 8 2 2 (1 ∷ 0 ∷ []) (here ∷ off (k_cur (kept m) plus) ∷ []) refl (omega arith, refl) refl refl c))
     (called program image texts 1 (k_cur (kept m) plus) refl
-    (kept_runs program image texts plus 0 m refl refl (by program image texts {y = summed m} (λ Γ last K c. c_run (c_tick 2 refl (c_prim 0 26 _ refl refl refl (take_two []) refl (c_end c)))) (arrived program image texts (summed m) refl)))
+    (kept_runs program image texts plus 0 m refl refl (by program image texts {y = summed m} (λ Γ last K c. c_run (c_tick 3 refl (c_prim 0 26 _ refl refl refl (take_two []) refl (c_end c)))) (arrived program image texts (summed m) refl)))
     (only program image texts (do_phrase end ∷ []) (summed m)
-    (by program image texts {y = stage [] 0 (here ∷ []) [] 19} (λ Γ last K c. c_unbind {F = []} (m ∷ []) refl (c_end c))
-    (arrived program image texts (stage [] 0 (here ∷ []) [] 19) (record { nothing = refl; paid = refl; here_all = all_more all_none; there = refl })))))))
+    (by program image texts {y = stage [] 0 (here ∷ []) [] 17} (λ Γ last K c. c_unbind {F = []} (m ∷ []) refl (c_end c))
+    (arrived program image texts (stage [] 0 (here ∷ []) [] 17) (record { nothing = refl; paid = refl; here_all = all_more all_none; there = refl })))))))
   where
     -- behind `curry`, before `call`, and where it is run
     bound : MValue → Stage
-    bound m = stage (m ∷ []) 1 (off (k_cur (kept m) plus) ∷ []) (do_phrase (items (number 4 ∷ word 8 ∷ word 1 ∷ [])) ∷ []) 13
+    bound m = stage (m ∷ []) 1 (off (k_cur (kept m) plus) ∷ []) (do_phrase (items (number 4 ∷ word 8 ∷ word 1 ∷ [])) ∷ []) 12
 
     swapped : MValue → Stage
-    swapped m = stage (m ∷ []) 1 (off (k_cur (kept m) plus) ∷ here ∷ []) (do_phrase (items (word 1 ∷ [])) ∷ []) 15
+    swapped m = stage (m ∷ []) 2 (off (k_cur (kept m) plus) ∷ here ∷ []) (do_phrase (items (word 1 ∷ [])) ∷ []) 13
 
     summed : MValue → Stage
-    summed m = stage (m ∷ []) 0 (here ∷ []) [] 18
+    summed m = stage (m ∷ []) 0 (here ∷ []) [] 16
 
--- The two ways come to one place, with the same stack and nothing owed.
-joined_code : Stands joined 20
+-- The two ways come to one place, with the same stack and as many ticks owed.
+joined_code : Stands joined 18
 unfolding prim_numbered
 joined_code =
-    c_off (c_off (c_if_off 10 24 refl top_none refl (
-    c_run (c_tick 3 refl (c_int (pos 1) refl (c_end (c_jump 26 refl behind))))) (
-    c_run (c_tick 3 refl (c_int (pos 2) refl (c_end behind))))))
+    c_off (c_off (c_if_off 10 21 refl top_none refl (
+    c_run (c_int (pos 1) refl (c_end (c_jump 22 refl behind)))) (
+    c_run (c_int (pos 2) refl (c_end behind)))))
   where
-    behind : Code program image (template_phrases program) [] (Some Ret) [] 0 (here ∷ []) (do_phrase (items (number 3 ∷ word 0 ∷ [])) ∷ []) 26
-    behind = c_int (pos 3) refl (c_prim 0 26 _ refl refl refl (take_two []) refl (c_end (c_last (all_more all_none) refl)))
+    behind : Code program image (template_phrases program) [] (Some Ret) [] 3 (here ∷ []) (do_phrase (items (number 3 ∷ word 0 ∷ [])) ∷ []) 22
+    behind = c_int (pos 3) refl (c_tick 3 refl (c_prim 0 26 _ refl refl refl (take_two []) refl (c_end (c_last (all_more all_none) refl))))
 
 -- What `compose` would have made runs part by part.
-composed_code : Stands composed 29
+composed_code : Stands composed 26
 unfolding prim_numbered
 composed_code =
     c_off (c_off (c_compose_off 12 17 refl refl (c_call_off 1 refl (c_com (c_run (
-    c_tick 5 refl (c_int (pos 1) refl (c_prim 0 26 _ refl refl refl (needs_more top_is (needs_more top_none needs_none)) refl (c_end (
+    c_int (pos 1) refl (c_tick 5 refl (c_prim 0 26 _ refl refl refl (needs_more top_is (needs_more top_none needs_none)) refl (c_end (
     c_back (row_none refl) (c_run (c_int (pos 2) refl (c_prim 0 26 _ refl refl refl (take_two []) refl (c_end (
     c_end (c_last (all_more all_none) refl))))))))))))))))
 
@@ -238,7 +238,7 @@ abbrev two_off : Sym
 two_off = off (k_phrase (items (number 2 ∷ [])))
 
 -- A quotation that was put off is made where its value is needed, here twice for two ticks that are owed, the first one above the second.
-doubled_code : Stands doubled 35
+doubled_code : Stands doubled 32
 unfolding prim_numbered template_phrases
 doubled_code =
     c_off (c_move_off 13 1 1 (0 ∷ 0 ∷ []) (two_off ∷ two_off ∷ []) refl (omega arith, refl) refl refl (c_end (
@@ -246,28 +246,28 @@ doubled_code =
     c_last (all_more (all_more all_none)) refl)))))))
 
 -- What is curried may itself be put off.
-inside_code : Stands inside 42
+inside_code : Stands inside 39
 unfolding prim_numbered
 inside_code =
     c_off (c_off (c_curry_off 7 16 refl refl refl (c_call_off 1 refl (c_cur (c_run (c_call_off 1 refl (c_run (
-    c_tick 6 refl (c_int (pos 1) refl (c_prim 0 26 _ refl refl refl (needs_more top_is (needs_more top_none needs_none)) refl (c_end (
+    c_int (pos 1) refl (c_tick 6 refl (c_prim 0 26 _ refl refl refl (needs_more top_is (needs_more top_none needs_none)) refl (c_end (
     c_end (c_end (c_last (all_more all_none) refl))))))))))))))
 
 -- a callable of the machine is called inside what was put off
-keep_code : Stands keep 55
+keep_code : Stands keep 52
 unfolding prim_numbered
 keep_code =
     c_prim 3 3 _ refl refl refl (needs_more top_none (needs_more top_none needs_none)) refl (c_off (c_dip_off 2 refl top_is (row_here refl) (c_run (
     c_tick 2 refl (c_call 1 refl (all_more (all_more all_none)) refl (c_end (c_back (row_here refl) (c_end (c_last (all_more all_none) refl)))))))))
 
-bi_code : Stands bi 61
+bi_code : Stands bi 58
 unfolding prim_numbered
 bi_code =
     c_off (c_dip_off 2 refl top_none (row_here refl) (c_run (
-    c_tick 2 refl (c_word 15 55 (record { below = omega arith; runs = tt; row = row (action.Code 55); there = refl; does = refl }) all_none refl (c_end (
+    c_tick 2 refl (c_word 15 52 (record { below = omega arith; runs = tt; row = row (action.Code 52); there = refl; does = refl }) all_none refl (c_end (
     c_back (row_here refl) (c_call 1 refl (all_more all_none) refl (c_end (c_last all_none refl)))))))))
 
-template_code : Stands (items (number 2 ∷ [])) 40
+template_code : Stands (items (number 2 ∷ [])) 37
 template_code = c_int (pos 2) refl (c_end (c_last (all_more all_none) refl))
 
 -- a word whose row has its code
@@ -275,11 +275,11 @@ in_code : (w a : ℕ) → w < 17 → RunsPhrase (sort_of program w) → slice_ge
 in_code w a lt runs e = record { below = lt; runs = runs; row = row (action.Code a); there = e; does = refl }
 
 -- the top-level phrase, whose words are called
-phrase_code : Code program image (template_phrases program) [] (Some Halt) [] 0 [] (do_phrase top_phrase ∷ []) 46
+phrase_code : Code program image (template_phrases program) [] (Some Halt) [] 0 [] (do_phrase top_phrase ∷ []) 43
 phrase_code =
     c_int (pos 5) refl (c_word 6 0 (in_code 6 0 (omega arith) tt refl) (all_more all_none) refl (
-    c_word 9 12 (in_code 9 12 (omega arith) tt refl) all_none refl (c_word 14 29 (in_code 14 29 (omega arith) tt refl) all_none refl (c_word 16 42 (in_code 16 42 (omega arith) tt refl) all_none refl (
-    c_false refl (c_word 11 20 (in_code 11 20 (omega arith) tt refl) (all_more all_none) refl (c_word 4 35 (in_code 4 35 (omega arith) tt refl) all_none refl (
+    c_word 9 11 (in_code 9 11 (omega arith) tt refl) all_none refl (c_word 14 26 (in_code 14 26 (omega arith) tt refl) all_none refl (c_word 16 39 (in_code 16 39 (omega arith) tt refl) all_none refl (
+    c_false refl (c_word 11 18 (in_code 11 18 (omega arith) tt refl) (all_more all_none) refl (c_word 4 32 (in_code 4 32 (omega arith) tt refl) all_none refl (
     c_end (c_last all_none refl)))))))))
 
 -- the code of a word is at the place that its row has
@@ -295,19 +295,19 @@ each_word zero a h = absurd h.runs
 each_word (suc zero) a h = absurd h.runs
 each_word (suc (suc zero)) a h = absurd h.runs
 each_word (suc (suc (suc zero))) a h = absurd h.runs
-each_word (suc (suc (suc (suc zero)))) a h = placed doubled 35 a h.row doubled_code h.there h.does
-each_word (suc (suc (suc (suc (suc zero))))) a h = placed bi 61 a h.row bi_code h.there h.does
+each_word (suc (suc (suc (suc zero)))) a h = placed doubled 32 a h.row doubled_code h.there h.does
+each_word (suc (suc (suc (suc (suc zero))))) a h = placed bi 58 a h.row bi_code h.there h.does
 each_word (suc (suc (suc (suc (suc (suc zero)))))) a h = placed applied 0 a h.row applied_code h.there h.does
 each_word (suc (suc (suc (suc (suc (suc (suc zero))))))) a h = absurd h.runs
 each_word (suc (suc (suc (suc (suc (suc (suc (suc zero)))))))) a h = absurd h.runs
-each_word (suc (suc (suc (suc (suc (suc (suc (suc (suc zero))))))))) a h = placed curried 12 a h.row curried_code h.there h.does
+each_word (suc (suc (suc (suc (suc (suc (suc (suc (suc zero))))))))) a h = placed curried 11 a h.row curried_code h.there h.does
 each_word (suc (suc (suc (suc (suc (suc (suc (suc (suc (suc zero)))))))))) a h = absurd h.runs
-each_word (suc (suc (suc (suc (suc (suc (suc (suc (suc (suc (suc zero))))))))))) a h = placed joined 20 a h.row joined_code h.there h.does
+each_word (suc (suc (suc (suc (suc (suc (suc (suc (suc (suc (suc zero))))))))))) a h = placed joined 18 a h.row joined_code h.there h.does
 each_word (suc (suc (suc (suc (suc (suc (suc (suc (suc (suc (suc (suc zero)))))))))))) a h = absurd h.runs
 each_word (suc (suc (suc (suc (suc (suc (suc (suc (suc (suc (suc (suc (suc zero))))))))))))) a h = absurd h.runs
-each_word (suc (suc (suc (suc (suc (suc (suc (suc (suc (suc (suc (suc (suc (suc zero)))))))))))))) a h = placed composed 29 a h.row composed_code h.there h.does
-each_word (suc (suc (suc (suc (suc (suc (suc (suc (suc (suc (suc (suc (suc (suc (suc zero))))))))))))))) a h = placed keep 55 a h.row keep_code h.there h.does
-each_word (suc (suc (suc (suc (suc (suc (suc (suc (suc (suc (suc (suc (suc (suc (suc (suc zero)))))))))))))))) a h = placed inside 42 a h.row inside_code h.there h.does
+each_word (suc (suc (suc (suc (suc (suc (suc (suc (suc (suc (suc (suc (suc (suc zero)))))))))))))) a h = placed composed 26 a h.row composed_code h.there h.does
+each_word (suc (suc (suc (suc (suc (suc (suc (suc (suc (suc (suc (suc (suc (suc (suc zero))))))))))))))) a h = placed keep 52 a h.row keep_code h.there h.does
+each_word (suc (suc (suc (suc (suc (suc (suc (suc (suc (suc (suc (suc (suc (suc (suc (suc zero)))))))))))))))) a h = placed inside 39 a h.row inside_code h.there h.does
 each_word (suc (suc (suc (suc (suc (suc (suc (suc (suc (suc (suc (suc (suc (suc (suc (suc (suc w))))))))))))))))) a h = let lt = h.below in absurd (omega (arith, lt))
 
 each_template : (q : ℕ) (r : TemplateRow) (k : Kept) → slice_get (template ∷ []) q ≡ Some r → length (kept_list k) ≡ length r.cells + r.holes →
@@ -327,19 +327,19 @@ each_action zero d e past = record { row = row (action.Prim 26); there = refl; a
 each_action (suc zero) d e past = record { row = row (action.Core w_call); there = refl; acts = a_core w_call refl }
 each_action (suc (suc zero)) d e past = record { row = row (action.Core w_dip); there = refl; acts = a_core w_dip refl }
 each_action (suc (suc (suc zero))) d e past = record { row = row (action.Prim 3); there = refl; acts = a_prim 3 refl refl refl }
-each_action (suc (suc (suc (suc zero)))) d e past = record { row = row (action.Code 35); there = refl; acts = a_code 35 (in_code 4 35 (omega arith) tt refl) }
-each_action (suc (suc (suc (suc (suc zero))))) d e past = record { row = row (action.Code 61); there = refl; acts = a_code 61 (in_code 5 61 (omega arith) tt refl) }
+each_action (suc (suc (suc (suc zero)))) d e past = record { row = row (action.Code 32); there = refl; acts = a_code 32 (in_code 4 32 (omega arith) tt refl) }
+each_action (suc (suc (suc (suc (suc zero))))) d e past = record { row = row (action.Code 58); there = refl; acts = a_code 58 (in_code 5 58 (omega arith) tt refl) }
 each_action (suc (suc (suc (suc (suc (suc zero)))))) d e past = record { row = row (action.Code 0); there = refl; acts = a_code 0 (in_code 6 0 (omega arith) tt refl) }
 each_action (suc (suc (suc (suc (suc (suc (suc zero))))))) d e past = record { row = row (action.Prim 16); there = refl; acts = a_prim 16 refl refl refl }
 each_action (suc (suc (suc (suc (suc (suc (suc (suc zero)))))))) d e past = record { row = row (action.Prim 2); there = refl; acts = a_prim 2 refl refl refl }
-each_action (suc (suc (suc (suc (suc (suc (suc (suc (suc zero))))))))) d e past = record { row = row (action.Code 12); there = refl; acts = a_code 12 (in_code 9 12 (omega arith) tt refl) }
+each_action (suc (suc (suc (suc (suc (suc (suc (suc (suc zero))))))))) d e past = record { row = row (action.Code 11); there = refl; acts = a_code 11 (in_code 9 11 (omega arith) tt refl) }
 each_action (suc (suc (suc (suc (suc (suc (suc (suc (suc (suc zero)))))))))) d e past = record { row = row (action.Core w_if); there = refl; acts = a_core w_if refl }
-each_action (suc (suc (suc (suc (suc (suc (suc (suc (suc (suc (suc zero))))))))))) d e past = record { row = row (action.Code 20); there = refl; acts = a_code 20 (in_code 11 20 (omega arith) tt refl) }
+each_action (suc (suc (suc (suc (suc (suc (suc (suc (suc (suc (suc zero))))))))))) d e past = record { row = row (action.Code 18); there = refl; acts = a_code 18 (in_code 11 18 (omega arith) tt refl) }
 each_action (suc (suc (suc (suc (suc (suc (suc (suc (suc (suc (suc (suc zero)))))))))))) d e past = record { row = row (action.Prim 17); there = refl; acts = a_prim 17 refl refl refl }
 each_action (suc (suc (suc (suc (suc (suc (suc (suc (suc (suc (suc (suc (suc zero))))))))))))) d e past = record { row = row (action.Prim 1); there = refl; acts = a_prim 1 refl refl refl }
-each_action (suc (suc (suc (suc (suc (suc (suc (suc (suc (suc (suc (suc (suc (suc zero)))))))))))))) d e past = record { row = row (action.Code 29); there = refl; acts = a_code 29 (in_code 14 29 (omega arith) tt refl) }
-each_action (suc (suc (suc (suc (suc (suc (suc (suc (suc (suc (suc (suc (suc (suc (suc zero))))))))))))))) d e past = record { row = row (action.Code 55); there = refl; acts = a_code 55 (in_code 15 55 (omega arith) tt refl) }
-each_action (suc (suc (suc (suc (suc (suc (suc (suc (suc (suc (suc (suc (suc (suc (suc (suc zero)))))))))))))))) d e past = record { row = row (action.Code 42); there = refl; acts = a_code 42 (in_code 16 42 (omega arith) tt refl) }
+each_action (suc (suc (suc (suc (suc (suc (suc (suc (suc (suc (suc (suc (suc (suc zero)))))))))))))) d e past = record { row = row (action.Code 26); there = refl; acts = a_code 26 (in_code 14 26 (omega arith) tt refl) }
+each_action (suc (suc (suc (suc (suc (suc (suc (suc (suc (suc (suc (suc (suc (suc (suc zero))))))))))))))) d e past = record { row = row (action.Code 52); there = refl; acts = a_code 52 (in_code 15 52 (omega arith) tt refl) }
+each_action (suc (suc (suc (suc (suc (suc (suc (suc (suc (suc (suc (suc (suc (suc (suc (suc zero)))))))))))))))) d e past = record { row = row (action.Code 39); there = refl; acts = a_code 39 (in_code 16 39 (omega arith) tt refl) }
 each_action (suc (suc (suc (suc (suc (suc (suc (suc (suc (suc (suc (suc (suc (suc (suc (suc (suc zero))))))))))))))))) d e past = absurd (cc)
 each_action (suc (suc (suc (suc (suc (suc (suc (suc (suc (suc (suc (suc (suc (suc (suc (suc (suc (suc w)))))))))))))))))) d e past = absurd (cc)
 

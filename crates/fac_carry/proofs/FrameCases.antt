@@ -7,7 +7,7 @@ use Rattle.fac_lang.specs.declared.program.Program.{Program}
 use Rattle.fac_lang.specs.Phrases.{Phrase, then, Item, bind, fry, held, Value, fun, of_phrase}
 use Rattle.fac_lang.specs.Substitution.{put_local, put_holes}
 use Rattle.fac_lang.specs.World.{World, State, pile, push}
-use Rattle.fac_lang.specs.Eval.{Result, Act, wrong, goes, binds}
+use Rattle.fac_lang.specs.Eval.{Act, wrong, goes, binds}
 use Rattle.fac_base.specs.HeightArithmetic.{fits}
 use Rattle.fac_lang.specs.Meaning.{taking, act}
 use Rattle.fac_code.specs.declared.image.Instr.{Instr}

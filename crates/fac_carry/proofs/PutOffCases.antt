@@ -7,12 +7,12 @@ use Rattle.fac_base.specs.HeightArithmetic.{fits}
 use Rattle.fac_lang.specs.declared.program.Program.{Program}
 use Rattle.fac_lang.specs.declared.program.Sort.TheVariants.{Prim as prim_sort, Core as core_sort}
 use Rattle.fac_lang.specs.declared.core_table.CoreWord.TheVariants.{Call as w_call, Dip as w_dip, If as w_if}
-use Rattle.fac_lang.specs.Phrases.{Phrase, then, Item, word, Value, fun, Callable, of_phrase, cur, both}
-use Rattle.fac_lang.specs.World.{World, State, pile, push_each}
+use Rattle.fac_lang.specs.Phrases.{Phrase, then, Item, word, Value, fun, of_phrase, cur, both}
+use Rattle.fac_lang.specs.World.{World, State, pile}
 use Rattle.fac_lang.specs.Procedures.{Fn, by_inputs}
 use Rattle.fac_lang.specs.Operations.{PrimitiveMeaning, curry, seen_no}
 use Rattle.fac_lang.specs.Primitives.{doing_numbered}
-use Rattle.fac_lang.specs.Eval.{Result, Spent, then_do, Act, wrong, goes, runs, Run, run_callable}
+use Rattle.fac_lang.specs.Eval.{Result, Act, wrong, goes, runs, Run, run_callable}
 use Rattle.fac_lang.specs.Meaning.{meaning_values, names, sort_of, word_phrase, does, act}
 use Rattle.fac_code.specs.declared.image.Instr.{Instr}
 use Rattle.fac_code.specs.declared.image.Instr.TheVariants.{Tick, Bind, Local, Unbind, Prim as prim_instr, Hold, Back, Jump, Branch}
@@ -20,7 +20,7 @@ use Rattle.fac_code.specs.declared.image.Image.{Image}
 use Rattle.fac_code.specs.declared.image.Action.TheVariants as action
 use Rattle.fac_code.specs.declared.names.TrapWhy.TheVariants.{Frame as t_frame}
 use Rattle.fac_store.specs.MachineValues.{MValue, m_seen, machine_values}
-use Rattle.fac_machine.specs.Machine.{Machine, Entry, spent, Step, goes_on, ends, paying, after, word_with, does as machine_does, or_trap, cut_where, without_last, fetched, step}
+use Rattle.fac_machine.specs.Machine.{Machine, Entry, Step, goes_on, paying, after, word_with, does as machine_does, or_trap, cut_where, without_last, step}
 use Rattle.fac_machine.proofs.Leading.{ends_step}
 use Rattle.fac_carry.specs.MachineView.{Templates, value_view, world_view}
 use Rattle.fac_carry.specs.Stands.{RunsPhrase}

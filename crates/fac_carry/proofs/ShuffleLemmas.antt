@@ -2,19 +2,22 @@
 use Rattle.std.proofs.Common.{◌≡◌, ℕ, zero, suc, ◌+◌, ◌≤◌, ◌<◌, List, [], ◌∷◌, ◌++◌, length, map, Option, Some, None, refl, ap, sym, subst, ◌∙◌, arith}
 use Rattle.std.specs.Prelude.{slice_get}
 use Rattle.std.specs.Option.{option_map}
+use denote.Bor.{Bor}
+use Rattle.fac_lang.specs.declared.primitive_table.Operation.TheVariants as operation
+use Rattle.fac_lang.specs.declared.primitive_table.Storing.TheVariants as storing
 use Rattle.fac_lang.specs.Phrases.{no, Value, plain}
 use Rattle.fac_lang.specs.World.{Values, World, pile}
 use Rattle.fac_lang.specs.Printed.{Names}
 use Rattle.fac_lang.specs.Procedures.{leaves, places_from, or_else, picked, by_inputs}
-use Rattle.fac_lang.specs.Operations.{PrimitiveMeaning}
-use Rattle.fac_lang.specs.Primitives.{Primitive, prim_numbered, prim_fn, primitive_does, doing_numbered}
+use Rattle.fac_lang.specs.Operations.{PrimitiveMeaning, operation_does}
+use Rattle.fac_lang.specs.Primitives.{Primitive, prim_numbered, prim_fn, primitive_does, doing_numbered, IsOperationOf}
 use Rattle.fac_lang.specs.Eval.{wrong, goes}
 use Rattle.fac_lang.specs.Meaning.{meaning_values, does}
 use Rattle.fac_store.specs.MachineValues.{MValue, m_plain, machine_values}
 use Rattle.fac_machine.specs.Machine.{Machine, Step, does as machine_does}
 use Rattle.fac_carry.specs.MachineView.{Templates, value_view, values_view}
 use Rattle.fac_carry.specs.Symbols.{Sym, here, tops, below}
-use Rattle.fac_carry.specs.Shuffles.{both_there, chosen, piled, shuffled, lying_first, lying, all_lying, StayAsTheyLie, AreShuffled}
+use Rattle.fac_carry.specs.Shuffles.{IsShuffle, IsCurry, IsCompose, both_there, chosen, piled, shuffled, lying_first, lying, all_lying, StayAsTheyLie, AreShuffled}
 use Rattle.fac_carry.proofs.SymbolicStacks.{Aside, a_off, a_kept, Reads, r_here, r_aside, Lies, lies_none, lies_more}
 
 -- what is there, from what is put together of it
@@ -75,6 +78,19 @@ chosen_all xs = chosen_from xs 0 xs (λ j. ap (slice_get xs) (let e : 0 + j ≡ 
 pile_both : {A : Type 0} (xs ys s : List A) → pile (xs ++ ys) s ≡ pile ys (pile xs s)
 pile_both [] ys s = refl
 pile_both (x ∷ xs) ys s = pile_both xs ys (x ∷ s)
+
+-- An operation of the table that is a shuffle, `curry` or `compose`.
+pub is_shuffle : (number takes : ℕ) (places : Bor (List ℕ)) → IsOperationOf number (operation.Shuffle takes places) → takes ≤ 3 → IsShuffle number takes places.now
+unfolding operation_does
+is_shuffle number takes places e le = (le, e)
+
+pub is_curry : (number : ℕ) → IsOperationOf number (operation.Storing storing.Curry) → IsCurry number
+unfolding operation_does
+is_curry number e = e
+
+pub is_compose : (number : ℕ) → IsOperationOf number (operation.Storing storing.Compose) → IsCompose number
+unfolding operation_does
+is_compose number e = e
 
 -- What the primitive of a number does.
 numbered_by : (o : Option Primitive) (m : PrimitiveMeaning) → option_map primitive_does o ≡ Some m → (q : Primitive) × (o ≡ Some q) × (primitive_does q ≡ m)
