@@ -78,7 +78,7 @@ composed = items (quot one_more ∷ quot two_more ∷ word 12 ∷ word 1 ∷ [])
 abbrev inside : Phrase
 inside = items (quot one_more ∷ quot (items (word 1 ∷ [])) ∷ word 7 ∷ word 1 ∷ [])
 
--- 5 f, with each of these words applied behind it
+-- 5 applied curried composed inside f joined doubled
 abbrev top_phrase : Phrase
 top_phrase = items (number 5 ∷ word 6 ∷ word 9 ∷ word 14 ∷ word 16 ∷ lit no ∷ word 11 ∷ word 4 ∷ [])
 
