@@ -29,14 +29,14 @@ use Rattle.fac_carry.specs.MachineView.{Templates, value_view, values_view, worl
 use Rattle.fac_carry.specs.WholeValues as whole
 use Rattle.fac_carry.specs.Symbols.{Sym, here, off, k_phrase, Task, do_phrase, Needs, heres, AllHere, ins, outs, count}
 use Rattle.fac_carry.proofs.RunLaws.{free}
-use Rattle.fac_carry.proofs.SymbolicStacks.{Left, l_phrase, r_here, r_off, r_phrase, Lies, lies_more, Keeps, keeps_none, keeps_phrase, Has, has, too_short, needed, all_here, trim, lies_pile}
+use Rattle.fac_carry.proofs.SymbolicStacks.{Left, l_phrase, r_here, r_aside, a_off, n_phrase, Lies, lies_more, Keeps, keeps_none, keeps_phrase, Has, has, too_short, needed, all_here, trim, lies_pile}
 use Rattle.fac_carry.proofs.GivenValues.{IsLong, IsCounted, prim_counted}
 use Rattle.fac_carry.proofs.WholeValueLemmas.{pile_whole, cells_whole, made, made_view, made_whole}
 use Rattle.fac_carry.proofs.SamePrimitives.{Same, prim_same}
 use Rattle.fac_carry.proofs.KeptPrimitives.{prim_keeps}
 use Rattle.fac_carry.specs.Setting.{Setting}
-use Rattle.fac_carry.proofs.Following.{HasNoGuard, owing, state, at, left, Follows, step_before, fetch, spent_here, owe, Live, Go, Behind}
-use Rattle.fac_carry.proofs.Following.{first_is, first_goes, live_is, live_goes, wrong_here}
+use Rattle.fac_carry.proofs.Following.{HasNoGuard, owing, state, at, left, Follows, step_before, fetch, spent_here, Live, Go, Behind}
+use Rattle.fac_carry.proofs.Following.{first_is, owed_goes, owed_none, live_is, live_goes, wrong_here}
 
 module _ (Y : Setting) where
   -- short names of what a setting has, as in Following: names under a module's argument aren't handed on without it
@@ -101,7 +101,7 @@ module _ (Y : Setting) where
   g_make f F last d S K pc q r ks e et eh ec go R base ms rs vs L w (suc n) le ok lv l h = one ms vs ok lv l
     where
       one : (ms : List MValue) (vs : List Value) → Fine F rs ms w → Live Y L (state vs (V w)) → Lies T (off (k_phrase (T q (values_view T ks))) ∷ S) ms vs → Follows Y last R base (at F pc ms rs R w) (suc n) (owing (V w) d n (left Y L (state vs (V w))))
-      one ms vs ok lv (lies_more {vs = us} (r_off r_phrase) l) =
+      one ms vs ok lv (lies_more {vs = us} (r_aside (a_off n_phrase)) l) =
           let s = at F pc ms rs R w in
           let m = made q ks in
           let row = ap (λ o. or_trap o t_kind s n (λ u. or_trap (cells_at u.cells F) t_frame s n (λ ws. goes_on (at F (pc + 1) (made q ws ∷ ms) rs R w) n))) et in
@@ -117,26 +117,27 @@ module _ (Y : Setting) where
   g_off f F last d b p t S K pc go R base ms rs vs L w n le ok lv l (keeps_phrase {L = L1} h) =
       let st = state vs (V w) in
       let st' = state (fun (of_phrase b) ∷ vs) (V w) in
-      owe Y last R base (at F pc ms rs R w) n (V w) d n (left Y (l_phrase (then (quot b) p t) ∷ L1) st) (left Y (l_phrase t ∷ L1) st') st (Some (quot b)) refl refl (λ m. first_goes Y (quot b) p t L1 st st' m refl)
-      (go R base ms rs (fun (of_phrase b) ∷ vs) (l_phrase t ∷ L1) w n le ok (live_goes Y (quot b) p t L1 st st' refl lv) (lies_more (r_off r_phrase) l) (keeps_phrase h))
+      owed_goes Y last R base (at F pc ms rs R w) n d n (quot b) p t L1 st st' refl
+      (go R base ms rs (fun (of_phrase b) ∷ vs) (l_phrase t ∷ L1) w n le ok (live_goes Y (quot b) p t L1 st st' refl lv) (lies_more (r_aside (a_off n_phrase)) l) (keeps_phrase h))
 
   -- an instruction that pushes a value
-  pub g_push : (f : ℕ) (F : List MValue) (last : Option Instr) (i : Item) (p : Place) (t : Phrase) (S : List Sym) (K : List Task) (pc : ℕ) (x : Instr) (m : MValue) → (AllWhole F → Whole m) → slice_get M.code pc ≡ Some x →
+  pub g_push : (f : ℕ) (F : List MValue) (last : Option Instr) (d : ℕ) (i : Item) (p : Place) (t : Phrase) (S : List Sym) (K : List Task) (pc : ℕ) (x : Instr) (m : MValue) → (AllWhole F → Whole m) → slice_get M.code pc ≡ Some x →
       ((s : Machine) → fetched M (Some x) s zero ≡ ends (spent s)) →
       ((ms rs : List MValue) (R : List Entry) (w : World MValue) (n : ℕ) → fetched M (Some x) (at F pc ms rs R w) (suc n) ≡ goes_on (at F (pc + 1) (m ∷ ms) rs R w) n) →
-      ((st : State Value) → A i st ≡ goes (push (value_view T m) st)) → Go Y f F last zero (here ∷ S) (do_phrase t ∷ K) (pc + 1) → Go Y f F last zero S (do_phrase (then i p t) ∷ K) pc
-  g_push f F last i p t S K pc x m hm e none some acts go R base ms rs vs L w zero le ok lv l (keeps_phrase h) = spent_here Y last R base (at F pc ms rs R w) (state vs (V w)) (Some i) x e (none (at F pc ms rs R w)) refl
-  g_push f F last i p t S K pc x m hm e none some acts go R base ms rs vs L w (suc n) le ok lv l (keeps_phrase {L = L1} h) =
+      ((st : State Value) → A i st ≡ goes (push (value_view T m) st)) → Go Y f F last d (here ∷ S) (do_phrase t ∷ K) (pc + 1) → Go Y f F last d S (do_phrase (then i p t) ∷ K) pc
+  g_push f F last d i p t S K pc x m hm e none some acts go R base ms rs vs L w zero le ok lv l (keeps_phrase {L = L1} h) =
+      let s = at F pc ms rs R w in owed_none Y last R base s d (left Y (l_phrase (then i p t) ∷ L1) (state vs (V w))) (state vs (V w)) (Some i) x e (none s) refl refl
+  g_push f F last d i p t S K pc x m hm e none some acts go R base ms rs vs L w (suc n) le ok lv l (keeps_phrase {L = L1} h) =
       let s = at F pc ms rs R w in
       let st = state vs (V w) in
       let st' = state (value_view T m ∷ vs) (V w) in
       let ok1 : Fine F rs (m ∷ ms) w = record { cells = ok.cells; held = ok.held; values = (hm ok.cells, ok.values); objects = ok.objects } in
-      rw (first_goes Y i p t L1 st st' n (acts st)) (step_before Y last R base s (at F (pc + 1) (m ∷ ms) rs R w) (suc n) n _ (fetch Y s (suc n) x e ∙ some ms rs R w n)
+      owed_goes Y last R base s (suc n) d (suc n) i p t L1 st st' (acts st) (step_before Y last R base s (at F (pc + 1) (m ∷ ms) rs R w) (suc n) n _ (fetch Y s (suc n) x e ∙ some ms rs R w n)
       (go R base (m ∷ ms) rs (value_view T m ∷ vs) (l_phrase t ∷ L1) w n (omega (arith, le)) ok1 (live_goes Y i p t L1 st st' (acts st) lv) (lies_more r_here l) (keeps_phrase h)))
 
   -- no run comes to an item that nothing can do
-  pub g_stuck : (f : ℕ) (F : List MValue) (last : Option Instr) (i : Item) (p : Place) (t : Phrase) (S : List Sym) (K : List Task) (pc : ℕ) → ((st : State Value) → A i st ≡ wrong) → Go Y f F last zero S (do_phrase (then i p t) ∷ K) pc
-  g_stuck f F last i p t S K pc acts R base ms rs vs L w n le ok lv l (keeps_phrase {L = L1} h) = wrong_here Y i p t L1 (state vs (V w)) (acts (state vs (V w))) lv
+  pub g_stuck : (f : ℕ) (F : List MValue) (last : Option Instr) (d : ℕ) (i : Item) (p : Place) (t : Phrase) (S : List Sym) (K : List Task) (pc : ℕ) → ((st : State Value) → A i st ≡ wrong) → Go Y f F last d S (do_phrase (then i p t) ∷ K) pc
+  g_stuck f F last d i p t S K pc acts R base ms rs vs L w n le ok lv l (keeps_phrase {L = L1} h) = wrong_here Y i p t L1 (state vs (V w)) (acts (state vs (V w))) lv
 
   -- a literal array, whose address is the world's
   array_is : (a : ℕ) (st : State Value) (o : Option ℕ) → slice_get st.world.literals a ≡ o → A (lit_arr a) st ≡ pushes_array P fits Y.callable_height o st
@@ -146,12 +147,13 @@ module _ (Y : Setting) where
       fetched M (Some (Array a)) (at F pc ms rs R w) (suc n) ≡ or_trap o t_kind (at F pc ms rs R w) n (λ k. goes_on (at F (pc + 1) (m_plain (arr k) ∷ ms) rs R w) n)
   array_goes F pc a o ms rs R w n e = ap (λ (o : Option ℕ). or_trap o t_kind (at F pc ms rs R w) n (λ k. goes_on (at F (pc + 1) (m_plain (arr k) ∷ ms) rs R w) n)) e
 
-  pub g_array : (f : ℕ) (F : List MValue) (last : Option Instr) (a : ℕ) (p : Place) (t : Phrase) (S : List Sym) (K : List Task) (pc : ℕ) → slice_get M.code pc ≡ Some (Array a) → Go Y f F last zero (here ∷ S) (do_phrase t ∷ K) (pc + 1) →
-      Go Y f F last zero S (do_phrase (then (lit_arr a) p t) ∷ K) pc
-  g_array f F last a p t S K pc e go R base ms rs vs L w zero le ok lv l (keeps_phrase h) = spent_here Y last R base (at F pc ms rs R w) (state vs (V w)) (Some (lit_arr a)) (Array a) e refl refl
-  g_array f F last a p t S K pc e go R base ms rs vs L w (suc n) le ok lv l (keeps_phrase {L = L1} h) = one (slice_get w.literals a) refl
+  pub g_array : (f : ℕ) (F : List MValue) (last : Option Instr) (d a : ℕ) (p : Place) (t : Phrase) (S : List Sym) (K : List Task) (pc : ℕ) → slice_get M.code pc ≡ Some (Array a) → Go Y f F last d (here ∷ S) (do_phrase t ∷ K) (pc + 1) →
+      Go Y f F last d S (do_phrase (then (lit_arr a) p t) ∷ K) pc
+  g_array f F last d a p t S K pc e go R base ms rs vs L w zero le ok lv l (keeps_phrase {L = L1} h) =
+      owed_none Y last R base (at F pc ms rs R w) d (left Y (l_phrase (then (lit_arr a) p t) ∷ L1) (state vs (V w))) (state vs (V w)) (Some (lit_arr a)) (Array a) e refl refl refl
+  g_array f F last d a p t S K pc e go R base ms rs vs L w (suc n) le ok lv l (keeps_phrase {L = L1} h) = one (slice_get w.literals a) refl
     where
-      one : (o : Option ℕ) → slice_get w.literals a ≡ o → Follows Y last R base (at F pc ms rs R w) (suc n) (owing (V w) zero (suc n) (left Y (l_phrase (then (lit_arr a) p t) ∷ L1) (state vs (V w))))
+      one : (o : Option ℕ) → slice_get w.literals a ≡ o → Follows Y last R base (at F pc ms rs R w) (suc n) (owing (V w) d (suc n) (left Y (l_phrase (then (lit_arr a) p t) ∷ L1) (state vs (V w))))
       one None is = wrong_here Y (lit_arr a) p t L1 (state vs (V w)) (array_is a (state vs (V w)) None is) lv
       one (Some k) is =
           let s = at F pc ms rs R w in
@@ -160,7 +162,7 @@ module _ (Y : Setting) where
           let st' = state (value_view T m ∷ vs) (V w) in
           let acts = array_is a st (Some k) is in
           let ok1 : Fine F rs (m ∷ ms) w = record { cells = ok.cells; held = ok.held; values = (tt, ok.values); objects = ok.objects } in
-          rw (first_goes Y (lit_arr a) p t L1 st st' n acts) (step_before Y last R base s (at F (pc + 1) (m ∷ ms) rs R w) (suc n) n _ (fetch Y s (suc n) (Array a) e ∙ array_goes F pc a (Some k) ms rs R w n is)
+          owed_goes Y last R base s (suc n) d (suc n) (lit_arr a) p t L1 st st' acts (step_before Y last R base s (at F (pc + 1) (m ∷ ms) rs R w) (suc n) n _ (fetch Y s (suc n) (Array a) e ∙ array_goes F pc a (Some k) ms rs R w n is)
           (go R base (m ∷ ms) rs (value_view T m ∷ vs) (l_phrase t ∷ L1) w n (omega (arith, le)) ok1 (live_goes Y (lit_arr a) p t L1 st st' acts lv) (lies_more r_here l) (keeps_phrase h)))
 
   -- code behind an instruction that calls nothing

@@ -5,22 +5,20 @@
 -- meaning's list, L what is left of the meaning, w the machine's world, n its ticks and f a bound on them.
 use Rattle.std.proofs.Common.{◌≡◌, ◌≢◌, ℕ, zero, suc, ◌+◌, ◌≤◌, ◌<◌, List, [], ◌∷◌, ◌++◌, length, Option, Some, None, refl, ap, sym, subst, ◌∙◌, append_assoc}
 use Rattle.std.specs.Prelude.{slice_get}
-use Rattle.fac_base.specs.declared.height.Height.{Height}
 use Rattle.fac_base.specs.declared.place.Place.{Place}
 use Rattle.fac_lang.specs.declared.program.Program.{Program}
-use Rattle.fac_lang.specs.Phrases.{Phrase, then, Item, Value, plain, fun, Callable, of_phrase, cur, both}
+use Rattle.fac_lang.specs.Phrases.{Phrase, then, Item, Value, plain, fun, Callable}
 use Rattle.fac_lang.specs.World.{World, State, Error, push, push_each}
 use Rattle.fac_lang.specs.Eval.{Result, Done, Failed, Spent, Stuck, then_do, Act, wrong, goes, runs, Run, run_callable, go_on}
-use Rattle.fac_base.specs.HeightArithmetic.{curried_height, composed_height, fits}
-use Rattle.fac_lang.specs.Meaning.{names, word_fits, act}
+use Rattle.fac_base.specs.HeightArithmetic.{fits}
+use Rattle.fac_lang.specs.Meaning.{act}
 use Rattle.fac_lang.proofs.Laws.{Within}
 use Rattle.fac_code.specs.declared.image.Instr.{Instr}
 use Rattle.fac_code.specs.declared.image.Instr.TheVariants.{Ret}
 use Rattle.fac_code.specs.declared.image.Image.{Image}
 use Rattle.fac_code.specs.declared.image.TemplateRow.{TemplateRow}
-use Rattle.fac_code.specs.ImageNames.{image_names}
 use Rattle.fac_store.specs.MachineValues.{MValue, Kept, kept_list}
-use Rattle.fac_machine.specs.Machine.{Machine, Leads, Entry, resume, put_back, enter, failed, spent, Step, goes_on, ends, fits_in, row_height, fetched, step, Ends}
+use Rattle.fac_machine.specs.Machine.{Machine, Leads, Entry, resume, put_back, enter, failed, spent, Step, goes_on, ends, fetched, step, Ends}
 use Rattle.fac_machine.proofs.Leading.{leads_on, leads_step, ends_after, ends_step}
 use Rattle.fac_carry.specs.MachineView.{Templates, kept_view, world_view, state_view, error_view}
 use Rattle.fac_carry.specs.WholeValues as whole
@@ -256,6 +254,22 @@ module _ (Y : Setting) where
   pub first_runs : (i : Item) (p : Place) (t : Phrase) (L : List Left) (st st' : State Value) (c : Callable) (put : List Value) (m : ℕ) → A i st ≡ runs c st' put →
       left (l_phrase (then i p t) ∷ L) st (suc m) ≡ then_do (run_callable run c st' m) (λ s k. left (l_phrase t ∷ L) (push_each put s) k)
   first_runs i p t L st st' c put m e = first_is i p t L st m (runs c st' put) e ∙ then_again (run_callable run c st' m) (λ s k. run t (push_each put s) k) (left L)
+
+  -- items whose tick is owed, by what they do at once
+  pub owed_goes : (last : Option Instr) (R : List Entry) (base : List MValue) (s : Machine) (N d n : ℕ) (i : Item) (p : Place) (t : Phrase) (L : List Left) (st st' : State Value) → A i st ≡ goes st' →
+      Follows last R base s N (owing st.world (suc d) n (left (l_phrase t ∷ L) st')) → Follows last R base s N (owing st.world d n (left (l_phrase (then i p t) ∷ L) st))
+  owed_goes last R base s N d n i p t L st st' e h = owe last R base s N st.world d n (left (l_phrase (then i p t) ∷ L) st) (left (l_phrase t ∷ L) st') st (Some i) refl refl (λ m. first_goes i p t L st st' m e) h
+
+  pub owed_runs : (last : Option Instr) (R : List Entry) (base : List MValue) (s : Machine) (N d n : ℕ) (i : Item) (p : Place) (t : Phrase) (L : List Left) (st st' : State Value) (c : Callable) (put : List Value) → A i st ≡ runs c st' put →
+      Follows last R base s N (owing st.world (suc d) n (λ m. then_do (run_callable run c st' m) (λ u k. left (l_phrase t ∷ L) (push_each put u) k))) → Follows last R base s N (owing st.world d n (left (l_phrase (then i p t) ∷ L) st))
+  owed_runs last R base s N d n i p t L st st' c put e h =
+      owe last R base s N st.world d n (left (l_phrase (then i p t) ∷ L) st) (λ m. then_do (run_callable run c st' m) (λ u k. left (l_phrase t ∷ L) (push_each put u) k)) st (Some i) refl refl (λ m. first_runs i p t L st st' c put m e) h
+
+  -- no tick is left for an instruction
+  pub owed_none : (last : Option Instr) (R : List Entry) (base : List MValue) (s : Machine) (d : ℕ) (go : ℕ → Result) (st : State Value) (i : Option Item) (x : Instr) → slice_get M.code s.pc ≡ Some x → fetched M (Some x) (record s { job = None }) zero ≡ ends (spent (record s { job = None })) →
+      V s.world ≡ st.world → go zero ≡ Spent st i → Follows last R base (record s { job = None }) zero (owing st.world d zero go)
+  owed_none last R base s zero go st i x e none same z = rw z (spent_here last R base s st i x e none same)
+  owed_none last R base s (suc d) go st i x e none same z = spent_here last R base s (record { stack = []; world = st.world }) None x e none same
 
   pub live_is : (i : Item) (p : Place) (t : Phrase) (L : List Left) (st : State Value) (a : Act) → A i st ≡ a → Live (l_phrase (then i p t) ∷ L) st → (m : ℕ) → then_do (go_on run a t m) (left L) ≢ Stuck
   live_is i p t L st a e lv m is = lv (suc m) (first_is i p t L st m a e ∙ is)

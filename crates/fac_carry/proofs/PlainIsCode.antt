@@ -37,7 +37,7 @@ module _ (P : Program) (M : Image) (T : Templates) where
   calling_code Γ last F i x p t K pc e (l_next m n j r em er ew same) rest = c_next m n j r em er ew same all_none e rest
 
   -- an item before code that stands for any stack on which nothing is put off
-  item_code : (Γ : List Special) (last : Option Instr) (F : List MValue) (i : Item) (x : Instr) (p : Place) (t : Phrase) (K : List Task) (pc : ℕ) → slice_get M.code pc ≡ Some x → Translates P M T F i x →
+  pub item_code : (Γ : List Special) (last : Option Instr) (F : List MValue) (i : Item) (x : Instr) (p : Place) (t : Phrase) (K : List Task) (pc : ℕ) → slice_get M.code pc ≡ Some x → Translates P M T F i x →
       ((S : List Sym) → AllHere S → Code P M T Γ last F zero S (do_phrase t ∷ K) (pc + 1)) → Code P M T Γ last F zero [] (do_phrase (then i p t) ∷ K) pc
   item_code Γ last F i x p t K pc e (t_int z) rest = c_int z e (rest (here ∷ []) (all_more all_none))
   item_code Γ last F i x p t K pc e t_true rest = c_true e (rest (here ∷ []) (all_more all_none))

@@ -4,7 +4,7 @@ use Rattle.std.specs.Prelude.{slice_get}
 use Rattle.fac_lang.specs.declared.program.Program.{Program}
 use Rattle.fac_lang.specs.Phrases.{int, yes, no, str, wrd, Phrase, Item, lit, word, held, Value}
 use Rattle.fac_lang.specs.Substitution.{put_local}
-use Rattle.fac_lang.specs.World.{World, State}
+use Rattle.fac_lang.specs.World.{World, State, pile}
 use Rattle.fac_lang.specs.Eval.{Result, Done, Failed, Spent, Stuck, Act, Run}
 use Rattle.fac_base.specs.HeightArithmetic.{fits}
 use Rattle.fac_lang.specs.Meaning.{word_phrase, sort_of, act}
@@ -21,8 +21,8 @@ use Rattle.fac_carry.specs.Carries.{SameEnd}
 use Rattle.fac_carry.specs.WholeValues as whole
 use Rattle.fac_carry.specs.Accessors.{accessor_outs}
 use Rattle.fac_carry.specs.Stands.{HasCode}
-use Rattle.fac_carry.specs.Symbols.{Sym, here, off, k_phrase, Task, do_phrase, heres, AllHere, all_none, outs, Special}
-use Rattle.fac_carry.specs.Expanded.{Code, c_last, c_make, c_trim, c_end, c_off, c_int, c_true, c_false, c_text, c_array, c_reference, c_symbol, c_prim, c_accessor, c_isa, c_boa, c_held, c_bind, c_fry, c_stuck, c_word, c_call, c_dip, c_if, c_execute, c_call_effect, c_execute_effect, c_generic, c_next, EachCalled}
+use Rattle.fac_carry.specs.Symbols.{Sym, here, off, kept, k_phrase, k_cur, k_com, Task, do_phrase, do_back, do_call, below as under, heres, AllHere, all_none, outs, Special}
+use Rattle.fac_carry.specs.Expanded.{Code, c_last, c_tick, c_jump, c_unbind, c_hold, c_back, c_fetch, c_make, c_trim, c_end, c_run, c_cur, c_com, c_off, c_move_off, c_curry_off, c_compose_off, c_call_off, c_dip_off, c_if_off, c_expand, c_move, c_curry, c_int, c_true, c_false, c_text, c_array, c_reference, c_symbol, c_prim, c_accessor, c_isa, c_boa, c_held, c_bind, c_fry, c_stuck, c_word, c_call, c_dip, c_if, c_execute, c_call_effect, c_execute_effect, c_generic, c_next, EachCalled}
 use Rattle.fac_carry.proofs.RunLaws.{free}
 use Rattle.fac_carry.proofs.SymbolicStacks.{l_phrase, Lies, lies_none, keeps_none, keeps_phrase, all_here}
 use Rattle.fac_carry.specs.Setting.{Setting}
@@ -30,6 +30,7 @@ use Rattle.fac_carry.proofs.Following.{state, at, Follows, LivePhrase, Go, Calls
 use Rattle.fac_carry.proofs.CaseLemmas.{g_array, g_end, g_last, g_make, g_off, g_prim, g_push, g_stuck, g_trim}
 use Rattle.fac_carry.proofs.CallLemmas.{g_call, g_dip, g_if, g_word}
 use Rattle.fac_carry.proofs.FrameCases.{g_held, g_bind, g_fry}
+use Rattle.fac_carry.proofs.PutOffCases.{g_tick, g_jump, g_unbind, g_hold, g_back, g_fetch, g_run, g_cur, g_com, g_move_off, g_curry_off, g_compose_off, g_call_off, g_dip_off, g_if_off, g_expand, g_move, g_curry}
 use Rattle.fac_carry.proofs.ClassCases.{g_accessor, g_boa, g_generic, g_isa, g_next}
 use Rattle.fac_carry.proofs.ActionCases.{itself_pushed, g_execute, g_call_effect, g_execute_effect}
 
@@ -85,34 +86,60 @@ module _ (Y : Setting) where
 
   main : (f : ℕ) → Below f → EachCalled P M T → Templated Y f → Main f
   main f below each tpl Γ last F d S K pc (c_last {last = x} a e) v = g_last Y f F x S pc a e
+  main f below each tpl Γ last F d S K pc (c_tick {d = d1} k e c) v = g_tick Y f F last d1 S K pc k e (main f below each tpl Γ last F d1 S K (pc + 1) c v)
+  main f below each tpl Γ last F d S K pc (c_jump a e c) v = g_jump Y f F last d S K pc a e (main f below each tpl Γ last F d S K a c v)
+  main f below each tpl Γ last G d S K pc (c_unbind {F = F} ks e c) v = g_unbind Y f F last d S K pc ks e (main f below each tpl Γ last F d S K (pc + 1) c v)
+  main f below each tpl Γ last F d S K pc (c_hold {x = x} {S = S1} {to = to} row c) v = g_hold Y f F last d x S1 K pc to row (main f below each tpl Γ last F d S1 (do_back x ∷ K) to c v)
+  main f below each tpl Γ last F d S K pc (c_back {x = x} {K = K1} {to = to} row c) v = g_back Y f F last d x S K1 pc to row (main f below each tpl Γ last F d (x ∷ S) K1 to c v)
+  main f below each tpl Γ last F d S K pc (c_fetch {d = d1} {S = S1} k m e ek c) v = g_fetch Y f F last d1 S1 K pc k m e ek (main f below each tpl Γ last F d1 (here ∷ S1) K (pc + 1) c v)
   main f below each tpl Γ last F d S K pc (c_make {d = d1} {S = S1} q r ks e et eh ec c) v = g_make Y f F last d1 S1 K pc q r ks e et eh ec (main f below each tpl Γ last F d1 (here ∷ S1) K (pc + 1) c v)
   main f below each tpl Γ last F d S K pc (c_trim {S = S1} H a c) v = g_trim Y f F last d S1 H K pc a (main f below each tpl Γ last F d S1 K pc c v)
   main f below each tpl Γ last F d S K pc (c_end {K = K1} c) v = g_end Y f F last d S K1 pc (main f below each tpl Γ last F d S K1 pc c v)
+  main f below each tpl Γ last F d S K pc (c_run {t = t} {S = S1} {K = K1} c) v = g_run Y f F last d t S1 K1 pc (main f below each tpl Γ last F d S1 (do_phrase t ∷ K1) pc c v)
+  main f below each tpl Γ last F d S K pc (c_cur {x = x} {k = k} {S = S1} {K = K1} c) v = g_cur Y f F last d x k S1 K1 pc (main f below each tpl Γ last F (suc d) (off k ∷ x ∷ S1) (do_call ∷ K1) pc c v)
+  main f below each tpl Γ last F d S K pc (c_com {k = k} {e = k2} {S = S1} {K = K1} c) v = g_com Y f F last d k k2 S1 K1 pc (main f below each tpl Γ last F (suc d) (off k ∷ S1) (do_call ∷ do_back (off k2) ∷ do_call ∷ K1) pc c v)
   main f below each tpl Γ last F d S K pc (c_off {b = b} {t = t} {p = p} {K = K1} c) v = g_off Y f F last d b p t S K1 pc (main f below each tpl Γ last F (suc d) (off (k_phrase b) ∷ S) (do_phrase t ∷ K1) pc c v)
-  main f below each tpl Γ last F d S K pc (c_int {p = p} {t = t} {K = K1} z e c) v = g_push Y f F last (lit (int z)) p t S K1 pc (Int z) (m_plain (int z)) (λ h. tt) e (λ s. refl) (λ ms rs R w n. refl) (λ st. refl)
-      (main f below each tpl Γ last F zero (here ∷ S) (do_phrase t ∷ K1) (pc + 1) c v)
-  main f below each tpl Γ last F d S K pc (c_true {p = p} {t = t} {K = K1} e c) v = g_push Y f F last (lit yes) p t S K1 pc True (m_plain yes) (λ h. tt) e (λ s. refl) (λ ms rs R w n. refl) (λ st. refl)
-      (main f below each tpl Γ last F zero (here ∷ S) (do_phrase t ∷ K1) (pc + 1) c v)
-  main f below each tpl Γ last F d S K pc (c_false {p = p} {t = t} {K = K1} e c) v = g_push Y f F last (lit no) p t S K1 pc False (m_plain no) (λ h. tt) e (λ s. refl) (λ ms rs R w n. refl) (λ st. refl)
-      (main f below each tpl Γ last F zero (here ∷ S) (do_phrase t ∷ K1) (pc + 1) c v)
-  main f below each tpl Γ last F d S K pc (c_text {p = p} {t = t} {K = K1} cs k e ek c) v = g_push Y f F last (lit (str cs)) p t S K1 pc (Text k) (m_plain (str cs)) (λ h. tt) e (λ s. refl) (text_goes F pc k cs ek) (λ st. refl)
-      (main f below each tpl Γ last F zero (here ∷ S) (do_phrase t ∷ K1) (pc + 1) c v)
-  main f below each tpl Γ last F d S K pc (c_array {p = p} {t = t} {K = K1} a e c) v = g_array Y f F last a p t S K1 pc e (main f below each tpl Γ last F zero (here ∷ S) (do_phrase t ∷ K1) (pc + 1) c v)
-  main f below each tpl Γ last F d S K pc (c_reference {p = p} {t = t} {K = K1} wd r none e er c) v = g_push Y f F last (lit (wrd wd)) p t S K1 pc (Word wd) (m_plain (wrd wd)) (λ h. none) e (λ s. refl) (push_goes F pc wd r er) (λ st. refl)
-      (main f below each tpl Γ last F zero (here ∷ S) (do_phrase t ∷ K1) (pc + 1) c v)
-  main f below each tpl Γ last F d S K pc (c_symbol {p = p} {t = t} {K = K1} wd r es none e er c) v = g_push Y f F last (word wd) p t S K1 pc (Word wd) (m_plain (wrd wd)) (λ h. none) e (λ s. refl) (push_goes F pc wd r er) (itself_pushed Y wd (sort_of P wd) es)
-      (main f below each tpl Γ last F zero (here ∷ S) (do_phrase t ∷ K1) (pc + 1) c v)
+  main f below each tpl Γ last F d S K pc (c_move_off {p = p} {t = t} {K = K1} wd k n ks ys es is ey stay c) v =
+      g_move_off Y f F last d wd k n ks ys p t S K1 pc es is ey stay (main f below each tpl Γ last F (suc d) (pile ys (under n S)) (do_phrase t ∷ K1) pc c v)
+  main f below each tpl Γ last F d S K pc (c_curry_off {p = p} {t = t} {x = x} {e = k2} {S = S1} {K = K1} wd k es is z c) v =
+      g_curry_off Y f F last d wd k x k2 p t S1 K1 pc es is z (main f below each tpl Γ last F (suc d) (off (k_cur x k2) ∷ S1) (do_phrase t ∷ K1) pc c v)
+  main f below each tpl Γ last F d S K pc (c_compose_off {p = p} {t = t} {c = k1} {e = k2} {S = S1} {K = K1} wd k es is c) v =
+      g_compose_off Y f F last d wd k k1 k2 p t S1 K1 pc es is (main f below each tpl Γ last F (suc d) (off (k_com k1 k2) ∷ S1) (do_phrase t ∷ K1) pc c v)
+  main f below each tpl Γ last F d S K pc (c_call_off {p = p} {t = t} {e = k} {S = S1} {K = K1} wd es c) v =
+      g_call_off Y f F last d wd k p t S1 K1 pc es (main f below each tpl Γ last F (suc d) (off k ∷ S1) (do_call ∷ do_phrase t ∷ K1) pc c v)
+  main f below each tpl Γ last F d S K pc (c_dip_off {p = p} {t = t} {x = x} {e = k} {S = S0} {S1 = S1} {K = K1} {to = to} wd es top row c) v =
+      g_dip_off Y f F last d wd x k p t S0 S1 K1 pc to es top row (main f below each tpl Γ last F (suc d) (off k ∷ S1) (do_call ∷ do_back x ∷ do_phrase t ∷ K1) to c v)
+  main f below each tpl Γ last F d S K pc (c_if_off {p = p} {t = t} {c = k1} {e = k2} {S = S0} {S1 = S1} {K = K1} wd a es top e c1 c2) v =
+      g_if_off Y f F last d wd k1 k2 p t S0 S1 K1 pc a es top e (main f below each tpl Γ last F (suc d) (off k1 ∷ S1) (do_call ∷ do_phrase t ∷ K1) (pc + 1) c1 v) (main f below each tpl Γ last F (suc d) (off k2 ∷ S1) (do_call ∷ do_phrase t ∷ K1) a c2 v)
+  main f below each tpl Γ last F d S K pc (c_expand {p = p} {t = t} {K = K1} wd runs c) v = g_expand Y f F last d wd p t S K1 pc runs (main f below each tpl Γ last F (suc d) S (do_phrase (word_phrase P wd) ∷ do_phrase t ∷ K1) pc c v)
+  main f below each tpl Γ last F d S K pc (c_move {p = p} {t = t} {K = K1} wd k n ks ys j m js es is ey ij moves e c) v =
+      g_move Y f F last d wd k n ks ys j m js p t S K1 pc es is ey ij moves e (main f below each tpl Γ last F d (pile ys (under n S)) (do_phrase t ∷ K1) (pc + 1) c v)
+  main f below each tpl Γ last F d S K pc (c_curry {p = p} {t = t} {e = k2} {S = S0} {S1 = S1} {K = K1} wd k es is top e c) v =
+      g_curry Y f F last d wd k k2 p t S0 S1 K1 pc es is top e (λ m h. main f below each tpl Γ last (F ++ m ∷ []) d (off (k_cur (kept m) k2) ∷ S1) (do_phrase t ∷ K1) (pc + 1) (c m h) v)
+  main f below each tpl Γ last F d S K pc (c_int {p = p} {t = t} {K = K1} z e c) v = g_push Y f F last d (lit (int z)) p t S K1 pc (Int z) (m_plain (int z)) (λ h. tt) e (λ s. refl) (λ ms rs R w n. refl) (λ st. refl)
+      (main f below each tpl Γ last F d (here ∷ S) (do_phrase t ∷ K1) (pc + 1) c v)
+  main f below each tpl Γ last F d S K pc (c_true {p = p} {t = t} {K = K1} e c) v = g_push Y f F last d (lit yes) p t S K1 pc True (m_plain yes) (λ h. tt) e (λ s. refl) (λ ms rs R w n. refl) (λ st. refl)
+      (main f below each tpl Γ last F d (here ∷ S) (do_phrase t ∷ K1) (pc + 1) c v)
+  main f below each tpl Γ last F d S K pc (c_false {p = p} {t = t} {K = K1} e c) v = g_push Y f F last d (lit no) p t S K1 pc False (m_plain no) (λ h. tt) e (λ s. refl) (λ ms rs R w n. refl) (λ st. refl)
+      (main f below each tpl Γ last F d (here ∷ S) (do_phrase t ∷ K1) (pc + 1) c v)
+  main f below each tpl Γ last F d S K pc (c_text {p = p} {t = t} {K = K1} cs k e ek c) v = g_push Y f F last d (lit (str cs)) p t S K1 pc (Text k) (m_plain (str cs)) (λ h. tt) e (λ s. refl) (text_goes F pc k cs ek) (λ st. refl)
+      (main f below each tpl Γ last F d (here ∷ S) (do_phrase t ∷ K1) (pc + 1) c v)
+  main f below each tpl Γ last F d S K pc (c_array {p = p} {t = t} {K = K1} a e c) v = g_array Y f F last d a p t S K1 pc e (main f below each tpl Γ last F d (here ∷ S) (do_phrase t ∷ K1) (pc + 1) c v)
+  main f below each tpl Γ last F d S K pc (c_reference {p = p} {t = t} {K = K1} wd r none e er c) v = g_push Y f F last d (lit (wrd wd)) p t S K1 pc (Word wd) (m_plain (wrd wd)) (λ h. none) e (λ s. refl) (push_goes F pc wd r er) (λ st. refl)
+      (main f below each tpl Γ last F d (here ∷ S) (do_phrase t ∷ K1) (pc + 1) c v)
+  main f below each tpl Γ last F d S K pc (c_symbol {p = p} {t = t} {K = K1} wd r es none e er c) v = g_push Y f F last d (word wd) p t S K1 pc (Word wd) (m_plain (wrd wd)) (λ h. none) e (λ s. refl) (push_goes F pc wd r er) (itself_pushed Y wd (sort_of P wd) es)
+      (main f below each tpl Γ last F d (here ∷ S) (do_phrase t ∷ K1) (pc + 1) c v)
   main f below each tpl Γ last F d S K pc (c_prim {p = p} {t = t} {S1 = S1} {K = K1} wd k q es en ew needs e c) v = g_prim Y f F last wd k q p t S S1 K1 pc es en ew needs e (main f below each tpl Γ last F zero (heres (outs q) S1) (do_phrase t ∷ K1) (pc + 1) c v)
   main f below each tpl Γ last F d S K pc (c_accessor {p = p} {t = t} {S1 = S1} {K = K1} x wd k cs es et ew needs e c) v =
       g_accessor Y f F last x wd k cs p t S S1 K1 pc es et ew needs e (main f below each tpl Γ last F zero (heres (accessor_outs x) S1) (do_phrase t ∷ K1) (pc + 1) c v)
   main f below each tpl Γ last F d S K pc (c_isa {p = p} {t = t} {S1 = S1} {K = K1} wd k n es same needs e c) v = g_isa Y f F last wd k n p t S S1 K1 pc es same needs e (main f below each tpl Γ last F zero (here ∷ S1) (do_phrase t ∷ K1) (pc + 1) c v)
   main f below each tpl Γ last F d S K pc (c_boa {p = p} {t = t} {K = K1} wd es a e c) v = g_boa Y f F last wd p t S K1 pc es a e (main f below each tpl Γ last F zero (here ∷ []) (do_phrase t ∷ K1) (pc + 1) c v)
-  main f below each tpl Γ last F d S K pc (c_held {p = p} {t = t} {K = K1} k m e ek c) v = g_held Y f F last k m p t S K1 pc e ek (main f below each tpl Γ last F zero (here ∷ S) (do_phrase t ∷ K1) (pc + 1) c v)
+  main f below each tpl Γ last F d S K pc (c_held {p = p} {t = t} {K = K1} k m e ek c) v = g_held Y f F last d k m p t S K1 pc e ek (main f below each tpl Γ last F d (here ∷ S) (do_phrase t ∷ K1) (pc + 1) c v)
   main f below each tpl Γ last F d S K pc (c_bind {p = p} {y = y} {t = t} {S1 = S1} {K = K1} needs e c) v =
-      g_bind Y f F last y p t S S1 K1 pc needs e (λ m h. main f below each tpl Γ last (F ++ m ∷ []) zero S1 (do_phrase (put_local y (held (value_view T m)) t) ∷ K1) (pc + 1) (c m h) v)
+      g_bind Y f F last d y p t S S1 K1 pc needs e (λ m h. main f below each tpl Γ last (F ++ m ∷ []) d S1 (do_phrase (put_local y (held (value_view T m)) t) ∷ K1) (pc + 1) (c m h) v)
   main f below each tpl Γ last F d S K pc (c_fry {p = p} {t = t} {S1 = S1} {K = K1} q r ks b e et ec eh needs c) v =
-      g_fry Y f F last q r ks b p t S S1 K1 pc e et ec eh needs (main f below each tpl Γ last F zero (here ∷ S1) (do_phrase t ∷ K1) (pc + 1) c v)
-  main f below each tpl Γ last F d S K pc (c_stuck {p = p} {t = t} {i = i} {K = K1} stuck) v = g_stuck Y f F last i p t S K1 pc (stuck fits Y.callable_height)
+      g_fry Y f F last d q r ks b p t S S1 K1 pc e et ec eh needs (main f below each tpl Γ last F d (here ∷ S1) (do_phrase t ∷ K1) (pc + 1) c v)
+  main f below each tpl Γ last F d S K pc (c_stuck {p = p} {t = t} {i = i} {K = K1} stuck) v = g_stuck Y f F last d i p t S K1 pc (stuck fits Y.callable_height)
   main f below each tpl Γ last F d S K pc (c_word {p = p} {t = t} {K = K1} wd at code a e c) v = g_word Y f F last wd at p t S K1 pc code e (word_called f below each S a wd at code) (main f below each tpl Γ last F zero [] (do_phrase t ∷ K1) (pc + 1) c v)
   main f below each tpl Γ last F d S K pc (c_call {p = p} {t = t} {K = K1} wd es a e c) v = g_call Y f F tpl last wd p t S K1 pc es a e (main f below each tpl Γ last F zero [] (do_phrase t ∷ K1) (pc + 1) c v)
   main f below each tpl Γ last F d S K pc (c_dip {p = p} {t = t} {K = K1} wd es a e c) v = g_dip Y f F tpl last wd p t S K1 pc es a e (main f below each tpl Γ last F zero [] (do_phrase t ∷ K1) (pc + 1) c v)

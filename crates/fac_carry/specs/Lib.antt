@@ -6,6 +6,7 @@ pub mod Stands
 pub mod TestedCalls
 pub mod Setting
 pub mod Symbols
+pub mod Shuffles
 pub mod Expanded
 pub mod PrintedForms
 pub mod CodeLaws

@@ -120,8 +120,8 @@ ends_so = refl
 abbrev opened : Program
 opened = record { words = source; arrays = []; classes = []; top = 5 }
 
--- A callable that was put off has the cells of the values in it.
-pub cells_are : cells (off (k_cur here (k_com (k_phrase end) (k_cur (off (k_phrase end)) (k_phrase end))))) ≡ 1
+-- Nothing of a callable that was put off is on the machine's stack.
+pub cells_are : cells (off (k_cur (off (k_phrase end)) (k_com (k_phrase end) (k_cur (off (k_phrase end)) (k_phrase end))))) ≡ 0
 cells_are = refl
 
 -- [ 2 ] [ .. ] compose, from the word's place: both quotations are put off and made at once, so `compose` has its two values
