@@ -3,3 +3,5 @@ mod ExamplesOfFrames
 mod ExamplesOfJumps
 mod ExamplesOfWords
 pub mod Leading
+pub mod RenamingValues
+pub mod RenamingSeen
