@@ -5,3 +5,5 @@ mod ExamplesOfWords
 pub mod Leading
 pub mod RenamingValues
 pub mod RenamingSeen
+pub mod RenamingProcedures
+pub mod RenamingPrimitives
