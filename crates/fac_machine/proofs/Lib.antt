@@ -7,3 +7,4 @@ pub mod RenamingValues
 pub mod RenamingSeen
 pub mod RenamingProcedures
 pub mod RenamingPrimitives
+pub mod RenamingAccessors
