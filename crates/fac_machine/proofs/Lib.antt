@@ -8,3 +8,4 @@ pub mod RenamingSeen
 pub mod RenamingProcedures
 pub mod RenamingPrimitives
 pub mod RenamingAccessors
+pub mod RenamingSteps
