@@ -3,6 +3,7 @@ mod ExamplesOfFrames
 mod ExamplesOfJumps
 mod ExamplesOfWords
 pub mod Leading
+pub mod Timing
 pub mod RenamingValues
 pub mod RenamingSeen
 pub mod RenamingProcedures
