@@ -10,3 +10,5 @@ pub mod RenamingProcedures
 pub mod RenamingPrimitives
 pub mod RenamingAccessors
 pub mod RenamingSteps
+pub mod RenamingRuns
+pub mod RenamingLaws
