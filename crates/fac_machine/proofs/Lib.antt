@@ -1,6 +1,7 @@
 pub mod EachInstruction
 mod ExamplesOfFrames
 mod ExamplesOfJumps
+mod ExamplesOfRenaming
 mod ExamplesOfWords
 pub mod Leading
 pub mod Timing
