@@ -1,19 +1,18 @@
 -- Two machines with the same arrays under other addresses, and a run of both.
-use Rattle.std.proofs.Common.{◌≡◌, ℕ, zero, suc, ◌+◌, List, [], ◌∷◌, length, Option, Some, None, refl, true, false, ap, ◌∙◌, arith}
-use Rattle.std.specs.Prelude.{pos, codes, map, slice_get}
+use Rattle.std.proofs.Common.{◌≡◌, ℕ, zero, suc, ◌+◌, List, [], ◌∷◌, Option, Some, None, refl, true, arith}
+use Rattle.std.specs.Prelude.{pos, codes, slice_get}
 use Rattle.std.specs.Option.{option_map}
-use Rattle.fac_lang.specs.Phrases.{int, yes, no, arr}
-use Rattle.fac_lang.specs.World.{Object, array, World}
+use Rattle.fac_lang.specs.Phrases.{yes, no, arr}
+use Rattle.fac_lang.specs.World.{Object, array}
 use Rattle.fac_lang.specs.Primitives.{built_count, prim_numbered, prim_fn}
 use Rattle.fac_code.specs.Code.{has_built_code}
-use Rattle.fac_code.specs.declared.image.Elem.TheVariants as elem
 use Rattle.fac_code.specs.declared.image.Image.{Image}
 use Rattle.fac_code.specs.declared.image.Instr.{Instr}
 use Rattle.fac_code.specs.declared.image.Instr.TheVariants.{Halt, Int, False, Array, Bind, Local, Prim as prim}
 use Rattle.fac_store.specs.MachineValues.{MValue, m_plain}
 use Rattle.fac_machine.specs.Machine.{Machine, End, done, steps}
-use Rattle.fac_machine.specs.Renaming.{Renaming, renamed_object, IsDistinct, RenamesWorld, Renames, RenamesRun}
-use Rattle.fac_machine.proofs.RenamingRuns.{end_machine, steps_same}
+use Rattle.fac_machine.specs.Renaming.{Renaming, renamed_object, IsDistinct, Renames, RenamesRun}
+use Rattle.fac_machine.proofs.RenamingRuns.{steps_same}
 
 -- With an array on the stack: makes an array of it, tells whether this is equal to the literal array and whether it is the same one, puts `f` into
 -- the first array, prints the new one and pushes it.

@@ -1,16 +1,15 @@
 -- Procedures that do the same under other addresses.
-use Rattle.std.proofs.Common.{◌≡◌, ℕ, zero, suc, List, [], ◌∷◌, ◌++◌, Bool, true, false, Option, Some, None, refl, ap, sym, subst, ◌∙◌}
-use Rattle.std.specs.Prelude.{map, length, set, slice_get, ℤ}
+use Rattle.std.proofs.Common.{◌≡◌, ℕ, suc, List, [], ◌∷◌, ◌++◌, Option, Some, None, refl, ap, sym, subst, ◌∙◌}
+use Rattle.std.specs.Prelude.{map, length, set, slice_get}
 use Rattle.std.proofs.lemmas.List.{length-map, map-append, map-set}
 use Rattle.std.specs.Option.{option_map}
-use Rattle.fac_lang.specs.Phrases.{Plain, int, yes, no, str, iota, wrd, arr, tup}
+use Rattle.fac_lang.specs.Phrases.{Plain, no, arr, tup}
 use Rattle.fac_lang.specs.World.{Object, array, tuple, World}
 use Rattle.fac_lang.specs.declared.error_name.ErrorName.{ErrorName}
 use Rattle.fac_base.specs.declared.limits.TheConstants.{MOST_PAIRS}
 use Rattle.fac_lang.specs.Equality.{Equal, equal_pairs}
 use Rattle.fac_lang.specs.Printed.{Names, printed}
-use Rattle.fac_lang.specs.Procedures.{Procedure, leaves, answers, answers_array, answers_tuple, curries, composes, fails, looks, adds, opens, puts, compares, prints, asks, writes, reads, Gives, gives, bad, line_in, behind_line, places_from, picked, repeated, value_at, value_if, array_in, opened, opened_places, with_element, made_or, followed}
-use Rattle.fac_lang.specs.Operations.{or_fails}
+use Rattle.fac_lang.specs.Procedures.{Procedure, leaves, answers, answers_array, answers_tuple, curries, composes, fails, looks, adds, opens, puts, compares, prints, asks, writes, reads, Gives, line_in, behind_line, places_from, picked, repeated, value_at, array_in, opened, opened_places, with_element, made_or, followed}
 use Rattle.fac_store.specs.MachineValues.{MValue, m_plain, m_seen, m_curry, m_compose, machine_values}
 use Rattle.fac_machine.specs.Renaming.{Renaming, renamed_plain, renamed, renamed_values, renamed_object, RenamesWorld, RenamesGives}
 use Rattle.fac_machine.proofs.RenamingValues.{map_repeated, seen_renamed, at_renamed, if_renamed, picked_renamed, curry_renamed, compose_renamed, next_same, with_object, with_other}
@@ -33,17 +32,19 @@ module _ (ρ : Renaming) (N : Names) where
   pub array_same : (ks : List ℕ) → SameUp (answers_array ks) (answers_array ks)
   array_same ks =
       record {
-        same = λ vs x y r.
-            (ap (λ (a : ℕ). m_plain (arr a) ∷ []) (sym (next_same ρ x y r)),
-            subst (λ (us : List MValue). RenamesWorld ρ (record x { objects = x.objects ++ array us ∷ [] }) (record y { objects = y.objects ++ array (picked (m_plain no) vs ks) ∷ [] })) (sym (picked_renamed ρ vs ks)) (with_object ρ x y r (array (picked (m_plain no) vs ks))));
+        same = λ vs x y r. (
+          ap (λ (a : ℕ). m_plain (arr a) ∷ []) (sym (next_same ρ x y r)),
+          subst (λ (us : List MValue). RenamesWorld ρ (record x { objects = x.objects ++ array us ∷ [] }) (record y { objects = y.objects ++ array (picked (m_plain no) vs ks) ∷ [] })) (sym (picked_renamed ρ vs ks)) (with_object ρ x y r (array (picked (m_plain no) vs ks))),
+        );
       }
 
   pub tuple_same : (c n : ℕ) → SameUp (answers_tuple c n) (answers_tuple c n)
   tuple_same c n =
       record {
-        same = λ vs x y r.
-            (ap (λ (a : ℕ). m_plain (tup a) ∷ []) (sym (next_same ρ x y r)),
-            subst (λ (us : List MValue). RenamesWorld ρ (record x { objects = x.objects ++ tuple c us ∷ [] }) (record y { objects = y.objects ++ tuple c (repeated n (m_plain no)) ∷ [] })) (map_repeated V n (m_plain no)) (with_object ρ x y r (tuple c (repeated n (m_plain no)))));
+        same = λ vs x y r. (
+          ap (λ (a : ℕ). m_plain (tup a) ∷ []) (sym (next_same ρ x y r)),
+          subst (λ (us : List MValue). RenamesWorld ρ (record x { objects = x.objects ++ tuple c us ∷ [] }) (record y { objects = y.objects ++ tuple c (repeated n (m_plain no)) ∷ [] })) (map_repeated V n (m_plain no)) (with_object ρ x y r (tuple c (repeated n (m_plain no)))),
+        );
       }
 
   made_same : (o : Option MValue) (x y : World MValue) (f g : Gives MValue) → RenamesWorld ρ x y → RenamesGives ρ f g → RenamesGives ρ (made_or machine_values (option_map V o) x f) (made_or machine_values o y g)
@@ -57,7 +58,7 @@ module _ (ρ : Renaming) (N : Names) where
             let v = value_at machine_values vs j in
             let w = value_at machine_values vs k in
             let e : m_curry (value_at machine_values (renamed_values ρ vs) j) (value_at machine_values (renamed_values ρ vs) k) ≡ option_map V (m_curry v w) =
-                ap (λ (u : MValue). m_curry u (value_at machine_values (renamed_values ρ vs) k)) (at_renamed ρ vs j) ∙ ap (m_curry (V v)) (at_renamed ρ vs k) ∙ curry_renamed ρ v w in
+            ap (λ (u : MValue). m_curry u (value_at machine_values (renamed_values ρ vs) k)) (at_renamed ρ vs j) ∙ ap (m_curry (V v)) (at_renamed ρ vs k) ∙ curry_renamed ρ v w in
             subst (λ (o : Option MValue). RenamesGives ρ (made_or machine_values o x (followed machine_values N p (renamed_values ρ vs) x)) (made_or machine_values (m_curry v w) y (followed machine_values N q vs y))) (sym e)
             (made_same (m_curry v w) x y _ _ r (h.same vs x y r));
       }
@@ -69,7 +70,7 @@ module _ (ρ : Renaming) (N : Names) where
             let v = value_at machine_values vs j in
             let w = value_at machine_values vs k in
             let e : m_compose (value_at machine_values (renamed_values ρ vs) j) (value_at machine_values (renamed_values ρ vs) k) ≡ option_map V (m_compose v w) =
-                ap (λ (u : MValue). m_compose u (value_at machine_values (renamed_values ρ vs) k)) (at_renamed ρ vs j) ∙ ap (m_compose (V v)) (at_renamed ρ vs k) ∙ compose_renamed ρ v w in
+            ap (λ (u : MValue). m_compose u (value_at machine_values (renamed_values ρ vs) k)) (at_renamed ρ vs j) ∙ ap (m_compose (V v)) (at_renamed ρ vs k) ∙ compose_renamed ρ v w in
             subst (λ (o : Option MValue). RenamesGives ρ (made_or machine_values o x (followed machine_values N p (renamed_values ρ vs) x)) (made_or machine_values (m_compose v w) y (followed machine_values N q vs y))) (sym e)
             (made_same (m_compose v w) x y _ _ r (h.same vs x y r));
       }
@@ -148,8 +149,8 @@ module _ (ρ : Renaming) (N : Names) where
               let v = value_at machine_values vs j in
               let w = value_at machine_values vs k in
               let e : equal_pairs machine_values MOST_PAIRS x ((value_at machine_values (renamed_values ρ vs) j, value_at machine_values (renamed_values ρ vs) k) ∷ []) ≡ equal_pairs machine_values MOST_PAIRS y ((v, w) ∷ []) =
-                  ap (λ (u : MValue). equal_pairs machine_values MOST_PAIRS x ((u, value_at machine_values (renamed_values ρ vs) k) ∷ [])) (at_renamed ρ vs j)
-                  ∙ ap (λ (u : MValue). equal_pairs machine_values MOST_PAIRS x ((V v, u) ∷ [])) (at_renamed ρ vs k) ∙ equal_renamed ρ x y r MOST_PAIRS ((v, w) ∷ []) in
+              ap (λ (u : MValue). equal_pairs machine_values MOST_PAIRS x ((u, value_at machine_values (renamed_values ρ vs) k) ∷ [])) (at_renamed ρ vs j)
+              ∙ ap (λ (u : MValue). equal_pairs machine_values MOST_PAIRS x ((V v, u) ∷ [])) (at_renamed ρ vs k) ∙ equal_renamed ρ x y r MOST_PAIRS ((v, w) ∷ []) in
               subst (λ (s : Equal). RenamesGives ρ (followed machine_values N (go s) (renamed_values ρ vs) x) (followed machine_values N (compares j k to) vs y)) (sym e) ((h (equal_pairs machine_values MOST_PAIRS y ((v, w) ∷ []))).same vs x y r);
         }
 
