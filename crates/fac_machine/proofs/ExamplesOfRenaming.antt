@@ -1,5 +1,5 @@
 -- Two machines with the same arrays under other addresses, and a run of both.
-use Rattle.std.proofs.Common.{◌≡◌, ℕ, zero, suc, ◌+◌, List, [], ◌∷◌, Option, Some, None, refl, true, arith}
+use Rattle.std.proofs.Common.{◌≡◌, ℕ, zero, suc, ◌+◌, List, [], ◌∷◌, Bool, true, false, Option, Some, None, refl, arith}
 use Rattle.std.specs.Prelude.{pos, codes, slice_get}
 use Rattle.std.specs.Option.{option_map}
 use Rattle.fac_lang.specs.Phrases.{yes, no, arr}
@@ -12,6 +12,8 @@ use Rattle.fac_code.specs.declared.image.Instr.TheVariants.{Halt, Int, False, Ar
 use Rattle.fac_store.specs.MachineValues.{MValue, m_plain}
 use Rattle.fac_machine.specs.Machine.{Machine, End, done, steps}
 use Rattle.fac_machine.specs.Renaming.{Renaming, renamed_object, IsDistinct, Renames, RenamesRun}
+use Rattle.fac_machine.specs.Collected.{address_before, NamesLive, collected}
+use Rattle.fac_machine.proofs.CollectedLemmas.{collected_same}
 use Rattle.fac_machine.proofs.RenamingRuns.{steps_same}
 
 -- With an array on the stack: makes an array of it, tells whether this is equal to the literal array and whether it is the same one, puts `f` into
@@ -98,3 +100,27 @@ end_of_first = refl
 -- as the law says, whatever the ticks are
 same_runs : (k n : ℕ) → RenamesRun swapped (steps image k first n) (steps image k second n)
 same_runs k n = steps_same swapped image k first second n are_renamed
+
+-- The first machine without the array that nothing names, which comes to the same.
+abbrev flags : List Bool
+flags = false ∷ true ∷ true ∷ []
+
+abbrev without : Machine
+without = standing (array (a 1 ∷ []) ∷ array (m_plain yes ∷ []) ∷ []) 1 0
+
+live_alone : collected flags first ≡ without
+live_alone = refl
+
+names_live : NamesLive flags first
+names_live = record { flagged = refl; stack = refl; retain = refl; returns = refl; frame = refl; literals = refl; objects = refl }
+
+-- what the literal array is can't go
+literal_is_live : NamesLive (false ∷ false ∷ true ∷ []) first → ⊥
+literal_is_live h = let e = h.literals in absurd (cc)
+
+collected_runs : (k n : ℕ) → RenamesRun (address_before flags) (steps image k first n) (steps image k without n)
+collected_runs k n = steps_same (address_before flags) image k first without n (collected_same flags first names_live)
+
+end_without : seen (steps image 40 without 20) ≡ is_done (a 2 ∷ m_plain no ∷ m_plain yes ∷ []) (array (a 1 ∷ []) ∷ array (m_plain no ∷ []) ∷ array (a 1 ∷ []) ∷ []) 3 (codes "{ { f } }\n")
+unfolding prim_numbered prim_fn
+end_without = refl
