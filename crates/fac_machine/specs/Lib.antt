@@ -1,2 +1,4 @@
 pub mod Machine
 pub mod MachineLaws
+pub mod Renaming
+pub mod Collected
