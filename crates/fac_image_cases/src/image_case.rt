@@ -124,6 +124,29 @@ fn run(
     runs_told(alloc, &mut machine, said, budget, again)
 }
 
+// The same, with a collection before each step that the machine's loop leaves.
+fn run_eagerly(
+    alloc: Global,
+    image: Image,
+    said: &SaidOfChannels,
+    budget: u64,
+    again: bool,
+) -> Result<Text, Memory> {
+    let mut machine = Machine::new(alloc, image)?;
+    machine.collect_eagerly();
+    runs_told(alloc, &mut machine, said, budget, again)
+}
+
+// Where both come to the same, what they come to; else both, one behind the other.
+fn both(plain: Text, eager: Text) -> Result<Text, Memory> {
+    let mut told = plain;
+    if told.as_str() != eager.as_str() {
+        told.push_str("  with collections")?;
+        told.push_str(eager.as_str())?;
+    }
+    Ok(told)
+}
+
 impl Case {
     /// No tables and no code.
     pub fn new(alloc: Global) -> Self {
@@ -203,14 +226,18 @@ impl Case {
         Ok(Image::new(alloc, tables(alloc, &self.rows)?, code, start))
     }
 
-    // Runs the image, once or twice, and tells how each run ended.
+    // Runs the image, once or twice, and tells how each run ended; and again with many collections, which has to come to the same.
     fn run(&self, alloc: Global, text: &str, again: bool) -> Result<Text, Memory> {
         let Some((start, budget)) = start_and_budget(text) else {
             return Text::from_str(alloc, "  not taken\n");
         };
-        match self.image(alloc, start)? {
-            Some(image) => run(alloc, image, &self.said, budget, again),
-            None => Text::from_str(alloc, "  no image\n"),
+        let said = &self.said;
+        match (self.image(alloc, start)?, self.image(alloc, start)?) {
+            (Some(image), Some(same)) => both(
+                run(alloc, image, said, budget, again)?,
+                run_eagerly(alloc, same, said, budget, again)?,
+            ),
+            _ => Text::from_str(alloc, "  no image\n"),
         }
     }
 }
