@@ -6,6 +6,7 @@ mod ExamplesOfRenaming
 mod ExamplesOfWords
 pub mod Leading
 pub mod Timing
+pub mod RenamedRunLemmas
 pub mod RenamingValues
 pub mod RenamingSeen
 pub mod RenamingProcedures
