@@ -1,4 +1,5 @@
 -- What only the contracts of inner functions cite.
 pub mod Rows
 pub mod Index
+pub mod Pairs
 pub mod BroughtForms

@@ -7,6 +7,7 @@ mod brought_names;
 mod entry;
 mod index;
 mod least;
+mod pairs;
 mod scope;
 mod search;
 mod standing;

@@ -1,15 +1,12 @@
 -- How a table is searched: by the numbers of the entries that have a name.
-use Rattle.std.specs.Prelude.{ℕ, zero, suc, ◌≡◌, ◌+◌, ◌++◌, List, [], ◌∷◌, Bool, true, false, ◌&&◌, ◌||◌, nat_eq, nat_lt, take, slice_get, Option, Some, None, Result, Ok, Err, if◌then◌else◌}
+use Rattle.std.specs.Prelude.{ℕ, zero, suc, ◌≡◌, ◌+◌, List, [], ◌∷◌, Bool, true, false, ◌&&◌, ◌||◌, nat_eq, nat_lt, take, slice_get, Option, Some, None, if◌then◌else◌}
 use Rattle.std.specs.List.{list_any, filter}
 use Rattle.std.specs.Str.{bytes_eq}
 use Rattle.fac_vocab.specs.declared.least.Least.{Least}
 use Rattle.fac_vocab.specs.declared.least.Least.TheVariants.{Nothing, One, Two}
 use Rattle.fac_vocab.specs.declared.answers.NameState.{NameState}
 use Rattle.fac_vocab.specs.declared.answers.NameState.TheVariants.{New, Deferred}
-use Rattle.fac_vocab.specs.declared.answers.ScopeFault.{ScopeFault}
-use Rattle.fac_vocab.specs.declared.answers.ScopeFault.TheVariants.{Unknown as Missing, Memory}
-use Rattle.std.specs.Global.{Vec}
-use Rattle.fac_vocab.specs.Scopes.{Entry, Brought, named, word_held, or_else, same_table, put_in_order, all_used, holders, now_defined, with_vocab}
+use Rattle.fac_vocab.specs.Scopes.{Entry, or_else, same_table, put_in_order, all_used, holders, now_defined, with_vocab}
 use Rattle.fac_base.specs.declared.name.Name.{Name as FullName}
 
 -- the numbers of the entries of a name, where the first entry has number k
