@@ -2,4 +2,5 @@
 pub mod Rows
 pub mod Index
 pub mod Pairs
+pub mod Roots
 pub mod BroughtForms

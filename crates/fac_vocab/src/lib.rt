@@ -7,6 +7,7 @@ mod brought_names;
 mod entry;
 mod index;
 mod least;
+mod named_vocabs;
 mod pairs;
 mod scope;
 mod search;

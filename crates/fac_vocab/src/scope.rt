@@ -7,6 +7,7 @@ ghost use Rattle.fac_vocab.specs.ScopeCalls.{names_differ, Finds, names_between,
 use crate::answers::{Found, NameState, ScopeFault};
 use crate::brought::Brought;
 use crate::brought_names::BroughtNames;
+use crate::named_vocabs::NamedVocabs;
 use crate::standing::{found_of, names_of};
 use crate::table::Table;
 use crate::text_set::TextSet;
@@ -22,7 +23,7 @@ use std::marker::Model;
 pub struct Scope {
     table: Table,
     // The vocabularies that were named.
-    vocabs: TextSet,
+    vocabs: NamedVocabs,
     // The current vocabulary.
     current: Text,
     // Its companion, which has the names that are private to it.
