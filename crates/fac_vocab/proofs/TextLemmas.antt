@@ -115,7 +115,7 @@ stem [] (c ∷ t) h = let both = both_true (nat_eq c 46) (is_companion_of (codes
 stem (x ∷ v) [] h = cc
 stem (x ∷ v) (c ∷ t) h = let both = both_true (nat_eq c x) (is_companion_of v t) h in more_stem x c v t both.0 (stem v t both.1)
 
-same_end : (s t : List ℕ) → companion s ≡ companion t → s ≡ t
+pub same_end : (s t : List ℕ) → companion s ≡ companion t → s ≡ t
 same_end s t e =
     let long : length s + 8 ≡ length t + 8 = sym (length-append s (codes ".private")) ∙ ap length e ∙ length-append t (codes ".private") in
     let same : length s ≡ length t = omega (arith, long) in

@@ -61,7 +61,7 @@ used_without e rows (v ∷ vs) h =
     ∙ ap (λ (es : List Entry). with_found (find (λ (e : Entry). bytes_eq v e.vocab) rows) es) (used_without e rows vs other.1)
 
 -- whether no entry is of a vocabulary, and whether all are of one name
-abbrev none_of : List ℕ → List Entry → Bool
+abbrev pub none_of : List ℕ → List Entry → Bool
 none_of vocab [] = true
 none_of vocab (e ∷ es) = not (bytes_eq vocab e.vocab) && none_of vocab es
 
@@ -140,7 +140,7 @@ used_with e rows (v ∷ vs) named none once =
         ∙ behind (find (λ (f : Entry). bytes_eq v f.vocab) rows) (list_any (bytes_eq e.vocab) vs) refl p ih
 
 -- whether no two of some entries are of one vocabulary
-abbrev apart : List Entry → Bool
+abbrev pub apart : List Entry → Bool
 apart [] = true
 apart (e ∷ es) = none_of e.vocab es && apart es
 
@@ -178,7 +178,7 @@ none_here e (f ∷ es) name n h =
     one true false p g k = ap (λ (d : Bool). not d && none_of e.vocab (entries_named es name)) p ∙ k
     one false c p g k = k
 
-rows_apart : (table : List Entry) (name : List ℕ) → names_differ table ≡ true → apart (entries_named table name) ≡ true
+pub rows_apart : (table : List Entry) (name : List ℕ) → names_differ table ≡ true → apart (entries_named table name) ≡ true
 rows_apart [] name h = refl
 rows_apart (e ∷ es) name h =
     let both = both_true (not (list_any (λ f. same_name (name_of e) (name_of f)) es)) (names_differ es) h in

@@ -3,4 +3,5 @@ pub mod Rows
 pub mod Index
 pub mod Pairs
 pub mod Roots
+pub mod Late
 pub mod BroughtForms

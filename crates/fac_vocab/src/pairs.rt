@@ -35,3 +35,17 @@ pub fn put_number(
         Err(Memory) => Err(Memory),
     }
 }
+
+/// The number that is kept under two texts.
+pub fn number_of(
+    pairs: &IndexMap<String, IndexMap<String, u32>>,
+    first: &str,
+    second: &str,
+) -> Option<u32>
+    ensures { result ≡ number_in pairs.now first.now second.now }
+{
+    match pairs.get(first) {
+        Some(numbers) => numbers.get(second).copied(),
+        None => None,
+    }
+}

@@ -176,9 +176,12 @@ impl Scope {
         requires { numbers.now ≡ numbers_named 0 name.now self.now.table }
         ensures { result ≡ or_else (word_held self.now.table self.now.current name.now) (or_else (word_held self.now.table (companion self.now.current) name.now) (latest self.now.table name.now self.now.brought)) }
     {
-        match self.table.word_among(numbers, self.current.as_str()) {
+        match self.table.word_among(numbers, self.current.as_str(), name) {
             Some(word) => Some(word),
-            None => match self.table.word_among(numbers, self.private_home.as_str()) {
+            None => match self
+                .table
+                .word_among(numbers, self.private_home.as_str(), name)
+            {
                 Some(word) => Some(word),
                 None => self.brought.latest(&self.table, name),
             },
