@@ -353,7 +353,7 @@ is_defined_late t v q r a b c once e own stem private is =
 
 -- An entry more.
 
-get_front : (es : List Entry) (e : Entry) (n : ℕ) → n < length es → slice_get (es ++ e ∷ []) n ≡ slice_get es n
+pub get_front : (es : List Entry) (e : Entry) (n : ℕ) → n < length es → slice_get (es ++ e ∷ []) n ≡ slice_get es n
 get_front [] e n l = absurd (omega (arith, l))
 get_front (x ∷ es) e zero l = refl
 get_front (x ∷ es) e (suc n) l = get_front es e n (omega (arith, l))
@@ -388,19 +388,19 @@ by_push : (p : List ℕ → Bool) (t : List Entry) (ns : List ℕ) (n : ℕ) →
 by_push p t [] n = or_none (number_where p n (slice_get t n))
 by_push p t (m ∷ ns) n = ap (or_else (number_where p m (slice_get t m))) (by_push p t ns n) ∙ or_assoc (number_where p m (slice_get t m)) (number_by p t ns) (number_where p n (slice_get t n))
 
-drop_short : (i : ℕ) (ns : List ℕ) (n : ℕ) → length ns < i → drop i (ns ++ n ∷ []) ≡ drop i ns
+pub drop_short : (i : ℕ) (ns : List ℕ) (n : ℕ) → length ns < i → drop i (ns ++ n ∷ []) ≡ drop i ns
 drop_short zero ns n l = absurd (omega (arith, l))
 drop_short (suc zero) [] n l = refl
 drop_short (suc (suc i)) [] n l = refl
 drop_short (suc i) (m ∷ ns) n l = drop_short i ns n (omega (arith, l))
 
-drop_push : (i : ℕ) (ns : List ℕ) (n : ℕ) → i ≤ length ns → drop i (ns ++ n ∷ []) ≡ drop i ns ++ n ∷ []
+pub drop_push : (i : ℕ) (ns : List ℕ) (n : ℕ) → i ≤ length ns → drop i (ns ++ n ∷ []) ≡ drop i ns ++ n ∷ []
 drop_push zero ns n l = refl
 drop_push (suc i) [] n l = absurd (omega (arith, l))
 drop_push (suc i) (m ∷ ns) n l = drop_push i ns n (omega (arith, l))
 
 -- the late numbers with an entry more
-late_push : (es : List Entry) (e : Entry) (q : List ℕ) → late_numbers q (es ++ e ∷ []) ≡ (if bytes_eq e.name q then drop FEW (numbers_named 0 q es ++ (0 + length es) ∷ []) else late_numbers q es)
+pub late_push : (es : List Entry) (e : Entry) (q : List ℕ) → late_numbers q (es ++ e ∷ []) ≡ (if bytes_eq e.name q then drop FEW (numbers_named 0 q es ++ (0 + length es) ∷ []) else late_numbers q es)
 late_push es e q = ap (drop FEW) (numbers_push 0 q es e) ∙ one (bytes_eq e.name q)
   where
     one : (b : Bool) → drop FEW (cond b (numbers_named 0 q es ++ (0 + length es) ∷ []) (numbers_named 0 q es)) ≡ cond b (drop FEW (numbers_named 0 q es ++ (0 + length es) ∷ [])) (late_numbers q es)

@@ -4,4 +4,5 @@ pub mod Index
 pub mod Pairs
 pub mod Roots
 pub mod Late
+pub mod Leasts
 pub mod BroughtForms

@@ -9,6 +9,7 @@ mod few;
 mod index;
 mod late;
 mod least;
+mod leasts;
 mod named_vocabs;
 mod pairs;
 mod scope;

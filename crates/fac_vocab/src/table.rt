@@ -3,12 +3,16 @@ ghost use Rattle.std.specs.Prelude.{◌≡◌, ◌<◌, ◌^◌, ◌++◌, ◌�
 ghost use Rattle.fac_vocab.specs.Scopes.{held, word_held, holders};
 ghost use Rattle.fac_vocab.specs.ScopeCalls.{names_differ, standing_of};
 ghost use Rattle.fac_vocab.specs.inner.Rows.{numbers_named, LeastUsed, settled, defined_at};
+ghost use Rattle.fac_vocab.specs.inner.Late.{LateWhere};
+ghost use Rattle.fac_vocab.specs.inner.Leasts.{LeastWhere};
 
 use crate::answers::NameState;
 use crate::entry::Entry;
+use crate::few::{FEW, first_few};
 use crate::index::{add_number, numbers_of};
 use crate::late::{Late, first_holder, note_late, word_of};
 use crate::least::Least;
+use crate::leasts::least_of;
 use crate::search::least_used;
 use crate::standing::standing_in;
 use crate::text_set::TextSet;
@@ -116,12 +120,36 @@ impl Table {
         self.word_among(self.numbers(name), vocab, name)
     }
 
+    /// The late entries.
+    pub fn late(&self) -> &Late
+        ensures { LateWhere result.now.is_kept result.now.own result.now.companions self.now }
+    {
+        &self.late
+    }
+
     /// The first two that used vocabularies hold under a name that has these numbers.
-    pub fn least_among(&self, numbers: &[u32], used: &TextSet) -> Least
-        ensures { (name : Items ℕ) → numbers.now ≡ numbers_named 0 name self.now → LeastUsed self.now name used.now result }
+    pub fn least_among(
+        &self,
+        numbers: &[u32],
+        used: &TextSet,
+        kept: &IndexMap<String, Least>,
+        is_kept: bool,
+        name: &str,
+    ) -> Least
+        requires numbers { numbers.now ≡ numbers_named 0 name.now self.now }
+        requires kept { LeastWhere is_kept kept.now self.now used.now }
+        ensures { LeastUsed self.now name.now used.now result }
     {
         used.differ();
-        least_used(self.entries(), numbers, used)
+        if !is_kept || numbers.len() <= FEW {
+            return least_used(self.entries(), numbers, used, Least::Nothing);
+        }
+        least_used(
+            self.entries(),
+            first_few(numbers),
+            used,
+            least_of(kept, name),
+        )
     }
 
     /// How a full name stands.

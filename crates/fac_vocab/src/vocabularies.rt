@@ -1,10 +1,9 @@
-//! The vocabularies that exist from the start, and those that a file uses first.
-ghost use Rattle.std.specs.Prelude.{◌≡◌, ◌∷◌, [], codes, map, IfOk};
+//! The vocabularies that exist from the start.
+ghost use Rattle.std.specs.Prelude.{◌≡◌, [], map, IfOk};
 ghost use Rattle.fac_vocab.specs.Scopes.{first_vocabularies as first_names};
 ghost use Rattle.fac_vocab.specs.inner.Rows.{with_vocabs};
 
 use crate::named_vocabs::NamedVocabs;
-use crate::text_set::TextSet;
 use fac_base::Memory;
 use std::alloc::Global;
 
@@ -30,13 +29,4 @@ pub fn first_vocabularies(alloc: Global) -> Result<NamedVocabs, Memory>
     ensures { IfOk result (λ set. set ≡ first_names) }
 {
     set_of(alloc, &VOCABULARIES)
-}
-
-/// What each file uses from its beginning.
-pub fn syntax_alone(alloc: Global) -> Result<TextSet, Memory>
-    ensures { IfOk result (λ set. set ≡ codes "syntax" ∷ []) }
-{
-    let mut used = TextSet::new(alloc);
-    used.add(alloc, "syntax")?;
-    Ok(used)
 }
