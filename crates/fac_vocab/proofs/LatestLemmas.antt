@@ -1,15 +1,18 @@
 -- The latest form that gives a name a word, by the numbers of forms.
-use Rattle.std.proofs.Common.{◌≡◌, ℕ, zero, suc, ◌+◌, ◌<◌, ◌≤◌, Bool, true, false, cond, List, [], ◌∷◌, ◌++◌, length, drop, take, reverse, Option, Some, None, is_some, refl, sym, ap, ◌∙◌, subst, arith, append_assoc, length-append, true≢false}
+use Rattle.std.proofs.Common.{◌≡◌, ℕ, zero, suc, ◌+◌, ◌<◌, ◌≤◌, Bool, true, false, cond, ◌||◌, List, [], ◌∷◌, ◌++◌, length, drop, take, reverse, String, string_bytes, Option, Some, None, is_some, refl, sym, ap, ◌∙◌, subst, arith, append_assoc, length-append, true≢false}
 use Rattle.std.specs.Prelude.{nat_eq, nat_lt, slice_get, codes, if◌then◌else◌}
 use Rattle.std.specs.Cmp.{unsigned_Decides}
-use Rattle.std.specs.List.{starts_with}
+use Rattle.std.specs.List.{list_any, starts_with}
 use Rattle.std.specs.Str.{bytes_eq}
 use Rattle.std.proofs.lemmas.Bool.{ltb-false, ltb-true}
 use Rattle.std.proofs.lemmas.List.{length_push, reverse-append}
+use Rattle.std.proofs.lemmas.Map.Entries.{place_from_lookup}
+use Rattle.std.proofs.lemmas.Option.{slice_get_within}
 use Rattle.std.proofs.lemmas.Slice.Eq.{bytes_eq-Decides, starts_is}
 use Rattle.fac_vocab.specs.Scopes.{Entry, Brought, named, prefixed, word_held, or_else, given_by, latest}
-use Rattle.fac_vocab.specs.inner.BroughtForms.{word_by, word_at, gives, last_giving, later, is_name, is_prefix, numbers_where}
-use Rattle.fac_vocab.proofs.TextLemmas.{drop_prefix}
+use Rattle.fac_vocab.specs.inner.BroughtForms.{word_by, word_at, gives, last_giving, later, is_name, is_pair, is_length, last_pair, numbers_where, HasLengths, AtMost, GivesBest, IsNext, with_vocab_number}
+use Rattle.indexmap.specs.IndexMap.{IndexMap, get_by_text}
+use Rattle.fac_vocab.proofs.TextLemmas.{drop_prefix, both_true}
 
 none_some : {X : Type 0} {x : X} → None ≡ Some x → ⊥
 none_some g = cc
@@ -53,14 +56,6 @@ some_last table name (f ∷ fs) (suc b) w e h =
     ap (λ (o : Option ℕ). or_else o (given_by table name f)) (some_last table name fs b w e (λ m g l i. h (suc m) g (omega (arith, l)) i))
 
 -- The best number so far.
-
-abbrev pub AtMost : ℕ → Option ℕ → Type 0
-AtMost m None = ⊥
-AtMost m (Some b) = m ≤ b
-
-abbrev pub GivesBest : List Entry → List Brought → List ℕ → Option ℕ → Type 0
-GivesBest table forms name None = Unit {0}
-GivesBest table forms name (Some b) = gives table forms name b ≡ true
 
 abbrev pub front_length : Brought → ℕ
 front_length (named n w) = length n
@@ -252,27 +247,24 @@ best_named table forms name =
     one m f e g l (by_prefix v p rest h) = let long = ap length h ∙ length-append p (58 ∷ rest) in absurd (omega (arith, l, long))
 
 -- a front that has no colon behind another front of it
-pub best_prefixed : (table : List Entry) (forms : List Brought) (name front before after tail : List ℕ) (best : Option ℕ) → name ≡ front ++ tail → front ≡ before ++ 58 ∷ after → ((i : ℕ) → length before < i → i ≤ length front → (rest : List ℕ) → drop i front ≡ 58 ∷ rest → ⊥) →
-    Best table forms name (length front) best → Best table forms name (length before) (later best (last_giving table forms name (numbers_where 0 (is_prefix before) forms)))
-best_prefixed table forms name front before after tail best whole split none h =
+pub best_prefixed : (table : List Entry) (forms : List Brought) (name front before after tail : List ℕ) (best next : Option ℕ) → name ≡ front ++ tail → front ≡ before ++ 58 ∷ after → ((i : ℕ) → length before < i → i ≤ length front → (rest : List ℕ) → drop i front ≡ 58 ∷ rest → ⊥) →
+    IsNext table forms name before best next → Best table forms name (length front) best → Best table forms name (length before) next
+best_prefixed table forms name front before after tail best next whole split none n h =
     record {
-      gives_word = later_gives table forms name best cand h.gives_word (last_gives table forms name (numbers_where 0 (is_prefix before) forms));
+      gives_word = n.gives_word h.gives_word;
       covers = λ m f e g l. two m f e g l (nat_lt (front_length f) (length front)) refl (brings table name f g);
     }
   where
-    cand : Option ℕ
-    cand = last_giving table forms name (numbers_where 0 (is_prefix before) forms)
-
-    three : (m : ℕ) (v p r : List ℕ) → slice_get forms m ≡ Some (prefixed v p) → is_some (given_by table name (prefixed v p)) ≡ true → length before ≤ length p → length p < length front → front ≡ p ++ 58 ∷ r → (b : Bool) → nat_lt (length before) (length p) ≡ b → AtMost m (later best cand)
+    three : (m : ℕ) (v p r : List ℕ) → slice_get forms m ≡ Some (prefixed v p) → is_some (given_by table name (prefixed v p)) ≡ true → length before ≤ length p → length p < length front → front ≡ p ++ 58 ∷ r → (b : Bool) → nat_lt (length before) (length p) ≡ b → AtMost m next
     three m v p r e g l s f true o = absurd (none (length p) (ltb-true (length before) (length p) o) (omega (arith, s)) r (ap (drop (length p)) f ∙ drop_prefix p (58 ∷ r)))
     three m v p r e g l s f false o =
         let q = ltb-false (length before) (length p) o in
         let same : length p ≡ length before = omega (arith, l, q) in
         let alike : p ≡ before = sym (take_front p (58 ∷ r)) ∙ ap (take (length p)) (sym f ∙ split) ∙ ap (λ (n : ℕ). take n (before ++ 58 ∷ after)) same ∙ take_front before (58 ∷ after) in
-        later_second m best cand (all_covered table forms name (is_prefix before) m (prefixed v p) e ((bytes_eq-Decides p before).1 alike) g)
+        n.covers m v (e ∙ ap (λ (xs : List ℕ). Some (prefixed v xs)) alike) (ap (λ (o : Option Brought). is_some (word_by table name o)) e ∙ g)
 
-    two : (m : ℕ) (f : Brought) → slice_get forms m ≡ Some f → is_some (given_by table name f) ≡ true → length before ≤ front_length f → (b : Bool) → nat_lt (front_length f) (length front) ≡ b → Brings name f → AtMost m (later best cand)
-    two m f e g l false o brought = later_first m best cand (h.covers m f e g (ltb-false (front_length f) (length front) o))
+    two : (m : ℕ) (f : Brought) → slice_get forms m ≡ Some f → is_some (given_by table name f) ≡ true → length before ≤ front_length f → (b : Bool) → nat_lt (front_length f) (length front) ≡ b → Brings name f → AtMost m next
+    two m f e g l false o brought = n.keeps m (h.covers m f e g (ltb-false (front_length f) (length front) o))
     two m f e g l true o (by_name n w i) =
         let s = ltb-true (length n) (length front) o in
         let long = sym (ap length i) ∙ ap length whole ∙ length-append front tail in
@@ -301,6 +293,132 @@ best_of_all table forms name front tail best whole none h =
         let inside = in_front p rest front tail (sym i ∙ whole) s in
         absurd (none (length p) (omega (arith, s)) inside.0 (ap (drop (length p)) inside.1 ∙ drop_prefix p (58 ∷ inside.0)))
 
+-- The last form that brings a vocabulary behind a prefix.
+
+pair_itself : (v p : List ℕ) → is_pair p v (prefixed v p) ≡ true
+pair_itself v p = rw ((bytes_eq-Decides p p).1 refl, (bytes_eq-Decides v v).1 refl) refl
+
+pair_alike : (p v : List ℕ) (f : Brought) → is_pair p v f ≡ true → f ≡ prefixed v p
+pair_alike p v (named n w) h = absurd (true≢false (sym h))
+pair_alike p v (prefixed u q) h =
+    let both = both_true (bytes_eq q p) (bytes_eq u v) h in
+    ap (λ (xs : List ℕ). prefixed xs q) ((bytes_eq-Decides u v).0 both.1) ∙ ap (λ (xs : List ℕ). prefixed v xs) ((bytes_eq-Decides q p).0 both.0)
+
+pair_not_below : (p v : List ℕ) (k : ℕ) (fs : List Brought) → NotBelow k (last_pair k p v fs)
+pair_not_below p v k [] = tt
+pair_not_below p v k (f ∷ fs) = one (last_pair (k + 1) p v fs) (is_pair p v f) (pair_not_below p v (k + 1) fs)
+  where
+    one : (o : Option ℕ) (b : Bool) → NotBelow (k + 1) o → NotBelow k (or_else o (cond b (Some k) None))
+    one None true h = omega arith
+    one None false h = tt
+    one (Some m) b h = omega (arith, h)
+
+-- no form with the two comes behind it
+pair_covers : (p v : List ℕ) (k : ℕ) (fs : List Brought) (m : ℕ) → slice_get fs m ≡ Some (prefixed v p) → AtMost (k + m) (last_pair k p v fs)
+pair_covers p v k [] m e = absurd (none_some e)
+pair_covers p v k (f ∷ fs) zero e =
+    let same : f ≡ prefixed v p = cc in
+    one (last_pair (k + 1) p v fs) (is_pair p v f) (ap (is_pair p v) same ∙ pair_itself v p) (pair_not_below p v (k + 1) fs)
+  where
+    one : (o : Option ℕ) (b : Bool) → b ≡ true → NotBelow (k + 1) o → AtMost (k + 0) (or_else o (cond b (Some k) None))
+    one None true g h = omega arith
+    one None false g h = absurd (true≢false (sym g))
+    one (Some m) b g h = omega (arith, h)
+pair_covers p v k (f ∷ fs) (suc m) e = one (last_pair (k + 1) p v fs) (cond (is_pair p v f) (Some k) None) (pair_covers p v (k + 1) fs m e)
+  where
+    one : (o rest : Option ℕ) → AtMost (k + 1 + m) o → AtMost (k + suc m) (or_else o rest)
+    one None rest h = absurd h
+    one (Some b) rest h = omega (arith, h)
+
+-- it is one of them
+pair_here : (p v : List ℕ) (k n : ℕ) (f : Brought) (o : Option ℕ) (b : Bool) (all : List Brought) → is_pair p v f ≡ b → slice_get all k ≡ Some f → (o ≡ Some n → slice_get all n ≡ Some (prefixed v p)) → or_else o (cond b (Some k) None) ≡ Some n → slice_get all n ≡ Some (prefixed v p)
+pair_here p v k n f (Some m) b all g at ih e = ih e
+pair_here p v k n f None true all g at ih e = let same : n ≡ k = cc in ap (slice_get all) same ∙ at ∙ ap (λ (x : Brought). Some x) (pair_alike p v f g)
+pair_here p v k n f None false all g at ih e = absurd (none_some e)
+
+pair_is : (p v : List ℕ) (k : ℕ) (done fs : List Brought) (n : ℕ) → k ≡ length done → last_pair k p v fs ≡ Some n → slice_get (done ++ fs) n ≡ Some (prefixed v p)
+pair_is p v k done [] n h e = absurd (none_some e)
+pair_is p v k done (f ∷ fs) n h e =
+    pair_here p v k n f (last_pair (k + 1) p v fs) (is_pair p v f) (done ++ f ∷ fs) refl (ap (slice_get (done ++ f ∷ fs)) h ∙ form_behind done fs f)
+    (λ g. ap (λ (all : List Brought). slice_get all n) (sym (append_assoc done (f ∷ []) fs)) ∙ pair_is p v (k + 1) (done ++ f ∷ []) fs n (let more = length_push done f in omega (arith, h, more)) g)
+    e
+
+-- The next best number.
+
+-- a number more that may be better
+pub with_gives : (table : List Entry) (forms : List Brought) (name : List ℕ) (n : ℕ) (best : Option ℕ) → GivesBest table forms name best → GivesBest table forms name (if gives table forms name n then later best (Some n) else best)
+with_gives table forms name n best h = one (gives table forms name n) refl
+  where
+    one : (b : Bool) → gives table forms name n ≡ b → GivesBest table forms name (cond b (later best (Some n)) best)
+    one true e = later_gives table forms name best (Some n) h e
+    one false e = h
+
+pub with_keeps : (table : List Entry) (forms : List Brought) (name : List ℕ) (n : ℕ) (best : Option ℕ) (m : ℕ) → AtMost m best → AtMost m (if gives table forms name n then later best (Some n) else best)
+with_keeps table forms name n best m h = one (gives table forms name n)
+  where
+    one : (b : Bool) → AtMost m (cond b (later best (Some n)) best)
+    one true = later_first m best (Some n) h
+    one false = h
+
+pub with_covers : (table : List Entry) (forms : List Brought) (name : List ℕ) (n : ℕ) (best : Option ℕ) → gives table forms name n ≡ true → AtMost n (if gives table forms name n then later best (Some n) else best)
+with_covers table forms name n best h = rw (h) (later_second n best (Some n) (omega arith))
+
+pub entry_gives : {K : Type 0} (table : List Entry) (forms : List Brought) (name : List ℕ) (o : Option (K × ℕ)) (best : Option ℕ) → GivesBest table forms name best → GivesBest table forms name (with_vocab_number table forms name o best)
+entry_gives table forms name None best h = h
+entry_gives table forms name (Some x) best h = with_gives table forms name x.1 best h
+
+pub entry_keeps : {K : Type 0} (table : List Entry) (forms : List Brought) (name : List ℕ) (o : Option (K × ℕ)) (best : Option ℕ) (m : ℕ) → AtMost m best → AtMost m (with_vocab_number table forms name o best)
+entry_keeps table forms name None best m h = h
+entry_keeps table forms name (Some x) best m h = with_keeps table forms name x.1 best m h
+
+-- these numbers of vocabularies are covered
+abbrev pub CoversTo : {K : Type 0} → List Entry → List Brought → List ℕ → List (K × ℕ) → ℕ → Option ℕ → Type 0
+CoversTo {K = K} table forms name vocabs i next = (j : ℕ) (x : K × ℕ) → j < i → slice_get vocabs j ≡ Some x → gives table forms name x.1 ≡ true → AtMost x.1 next
+
+pub covers_more : {K : Type 0} (table : List Entry) (forms : List Brought) (name : List ℕ) (vocabs : List (K × ℕ)) (i : ℕ) (next : Option ℕ) → CoversTo table forms name vocabs i next → CoversTo table forms name vocabs (i + 1) (with_vocab_number table forms name (slice_get vocabs i) next)
+covers_more {K = K} table forms name vocabs i next h = λ j x l e g. one j x l e g (nat_lt j i) refl
+  where
+    one : (j : ℕ) (x : K × ℕ) → j < i + 1 → slice_get vocabs j ≡ Some x → gives table forms name x.1 ≡ true → (b : Bool) → nat_lt j i ≡ b → AtMost x.1 (with_vocab_number table forms name (slice_get vocabs i) next)
+    one j x l e g true o = entry_keeps table forms name (slice_get vocabs i) next x.1 (h j x (ltb-true j i o) e g)
+    one j x l e g false o =
+        let q = ltb-false j i o in
+        let same : i ≡ j = omega (arith, l, q) in
+        subst (λ (r : Option (K × ℕ)). AtMost x.1 (with_vocab_number table forms name r next)) (sym (ap (slice_get vocabs) same ∙ e)) (with_covers table forms name x.1 next g)
+
+at_most_by : (m n : ℕ) (o next : Option ℕ) → AtMost m o → o ≡ Some n → AtMost n next → AtMost m next
+at_most_by m n None next h e k = absurd h
+at_most_by m n (Some b) None h e k = k
+at_most_by m n (Some b) (Some c) h e k = let same : b ≡ n = cc in omega (arith, h, k, same)
+
+-- the number of the pair of a form
+pair_number : (o : Option ℕ) (m : ℕ) → AtMost m o → (n : ℕ) × (o ≡ Some n)
+pair_number None m h = absurd h
+pair_number (Some n) m h = (n, refl)
+
+pub all_vocabs_covered : {Y S : Type 0} (table : List Entry) (forms : List Brought) (name prefix : List ℕ) (vocabs : IndexMap (String Y) ℕ S) (next : Option ℕ) → ((v : List ℕ) → get_by_text vocabs v ≡ last_pair 0 prefix v forms) →
+    CoversTo table forms name vocabs.entries (length vocabs.entries) next → (m : ℕ) (v : List ℕ) → slice_get forms m ≡ Some (prefixed v prefix) → gives table forms name m ≡ true → AtMost m next
+all_vocabs_covered table forms name prefix vocabs next kept covered m v e g =
+    let none : 0 + m ≡ m = omega arith in
+    let most : AtMost m (last_pair 0 prefix v forms) = subst (λ (n : ℕ). AtMost n (last_pair 0 prefix v forms)) none (pair_covers prefix v 0 forms m e) in
+    let last = pair_number (last_pair 0 prefix v forms) m most in
+    let place = place_from_lookup (λ k. bytes_eq v (string_bytes k)) vocabs.entries last.0 (kept v ∙ last.1) in
+    let form = pair_is prefix v 0 [] forms last.0 refl last.1 in
+    let also : gives table forms name last.0 ≡ true = ap (λ (o : Option Brought). is_some (word_by table name o)) (form ∙ sym e) ∙ g in
+    at_most_by m last.0 (last_pair 0 prefix v forms) next most last.1 (covered place.0 (place.1, last.0) (slice_get_within vocabs.entries place.0 (place.1, last.0) place.2) place.2 also)
+
+pub next_same : (table : List Entry) (forms : List Brought) (name prefix : List ℕ) (best : Option ℕ) → ((m : ℕ) (v : List ℕ) → slice_get forms m ≡ Some (prefixed v prefix) → ⊥) → IsNext table forms name prefix best best
+next_same table forms name prefix best none = record { gives_word = λ h. h; keeps = λ m h. h; covers = λ m v e g. absurd (none m v e) }
+
+pub no_length : (table : List Entry) (forms : List Brought) (name prefix : List ℕ) (lengths : List ℕ) (best : Option ℕ) → HasLengths lengths forms → list_any (nat_eq (length prefix)) lengths ≡ false → IsNext table forms name prefix best best
+no_length table forms name prefix lengths best long h = next_same table forms name prefix best (λ m v e. true≢false (sym (long m v prefix e) ∙ h))
+
+pub no_pairs : (table : List Entry) (forms : List Brought) (name prefix : List ℕ) (best : Option ℕ) → ((v : List ℕ) → None ≡ last_pair 0 prefix v forms) → IsNext table forms name prefix best best
+no_pairs table forms name prefix best none = next_same table forms name prefix best (λ m v e. none_at (last_pair 0 prefix v forms) (0 + m) (none v) (pair_covers prefix v 0 forms m e))
+  where
+    none_at : (o : Option ℕ) (m : ℕ) → None ≡ o → AtMost m o → ⊥
+    none_at None m e h = h
+    none_at (Some n) m e h = none_some e
+
 -- A form more.
 
 where_push : (k : ℕ) (test : Brought → Bool) (fs : List Brought) (f : Brought) → numbers_where k test (fs ++ f ∷ []) ≡ (if test f then numbers_where k test fs ++ (k + length fs) ∷ [] else numbers_where k test fs)
@@ -321,6 +439,46 @@ where_after test fs f n before after counted before_is after_is =
     ∙ ap (λ (m : ℕ). cond (test f) (before ++ m ∷ []) before) (counted ∙ sym none)
     ∙ ap (λ (ns : List ℕ). cond (test f) (ns ++ (0 + length fs) ∷ []) ns) before_is
     ∙ sym (where_push 0 test fs f)
+
+pair_push : (k : ℕ) (p v : List ℕ) (fs : List Brought) (f : Brought) → last_pair k p v (fs ++ f ∷ []) ≡ (if is_pair p v f then Some (k + length fs) else last_pair k p v fs)
+pair_push k p v [] f = let none : k + 0 ≡ k = omega arith in rw (none) refl
+pair_push k p v (x ∷ fs) f = one (is_pair p v f) (last_pair (k + 1) p v fs) (pair_push (k + 1) p v fs f) (let more : k + 1 + length fs ≡ k + suc (length fs) = omega arith in more)
+  where
+    one : (c : Bool) (o : Option ℕ) → last_pair (k + 1) p v (fs ++ f ∷ []) ≡ cond c (Some (k + 1 + length fs)) o → k + 1 + length fs ≡ k + suc (length fs) →
+        or_else (last_pair (k + 1) p v (fs ++ f ∷ [])) (cond (is_pair p v x) (Some k) None) ≡ cond c (Some (k + suc (length fs))) (or_else o (cond (is_pair p v x) (Some k) None))
+    one true o h m = ap (λ (r : Option ℕ). or_else r (cond (is_pair p v x) (Some k) None)) h ∙ ap (λ (n : ℕ). Some n) m
+    one false o h m = ap (λ (r : Option ℕ). or_else r (cond (is_pair p v x) (Some k) None)) h
+
+pub pair_after : (p v : List ℕ) (fs : List Brought) (f : Brought) (n : ℕ) (before after : Option ℕ) → n ≡ length fs → before ≡ last_pair 0 p v fs → after ≡ (if is_pair p v f then Some n else before) → after ≡ last_pair 0 p v (fs ++ f ∷ [])
+pair_after p v fs f n before after counted before_is after_is =
+    let none : 0 + length fs ≡ length fs = omega arith in
+    after_is
+    ∙ ap (λ (m : ℕ). cond (is_pair p v f) (Some m) before) (counted ∙ sym none)
+    ∙ ap (λ (o : Option ℕ). cond (is_pair p v f) (Some (0 + length fs)) o) before_is
+    ∙ sym (pair_push 0 p v fs f)
+
+length_itself : (v p : List ℕ) → is_length (length p) (prefixed v p) ≡ true
+length_itself v p = (unsigned_Decides (length p) (length p)).1 refl
+
+either : (a b c : Bool) → c ≡ (a || b) → a ≡ true → c ≡ true
+either true b c h e = h
+either false b c h e = absurd (true≢false (sym e))
+
+or_other : (a b c : Bool) → c ≡ (a || b) → b ≡ true → c ≡ true
+or_other true b c h e = h
+or_other false b c h e = h ∙ e
+
+pub lengths_after : (fs : List Brought) (f : Brought) (before after : List ℕ) → ((n : ℕ) → list_any (nat_eq n) after ≡ (is_length n f || list_any (nat_eq n) before)) → HasLengths before fs → HasLengths after (fs ++ f ∷ [])
+lengths_after [] f before after h long = λ m v p e. one m v p e
+  where
+    one : (m : ℕ) (v p : List ℕ) → slice_get (f ∷ []) m ≡ Some (prefixed v p) → list_any (nat_eq (length p)) after ≡ true
+    one zero v p e = let same : f ≡ prefixed v p = cc in either (is_length (length p) f) (list_any (nat_eq (length p)) before) (list_any (nat_eq (length p)) after) (h (length p)) (ap (is_length (length p)) same ∙ length_itself v p)
+    one (suc m) v p e = absurd (none_some e)
+lengths_after (x ∷ fs) f before after h long = λ m v p e. one m v p (lengths_after fs f before after h (λ m v p e. long (suc m) v p e)) e
+  where
+    one : (m : ℕ) (v p : List ℕ) → HasLengths after (fs ++ f ∷ []) → slice_get (x ∷ (fs ++ f ∷ [])) m ≡ Some (prefixed v p) → list_any (nat_eq (length p)) after ≡ true
+    one zero v p rest e = or_other (is_length (length p) f) (list_any (nat_eq (length p)) before) (list_any (nat_eq (length p)) after) (h (length p)) (long zero v p e)
+    one (suc m) v p rest e = rest m v p e
 
 -- Lists.
 

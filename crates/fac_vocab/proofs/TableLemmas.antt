@@ -17,7 +17,7 @@ use Rattle.fac_vocab.proofs.RowLemmas.{entry_behind}
 
 -- An entry more.
 
-numbers_push : (k : ℕ) (name : List ℕ) (es : List Entry) (e : Entry) → numbers_named k name (es ++ e ∷ []) ≡ (if bytes_eq e.name name then numbers_named k name es ++ (k + length es) ∷ [] else numbers_named k name es)
+pub numbers_push : (k : ℕ) (name : List ℕ) (es : List Entry) (e : Entry) → numbers_named k name (es ++ e ∷ []) ≡ (if bytes_eq e.name name then numbers_named k name es ++ (k + length es) ∷ [] else numbers_named k name es)
 numbers_push k name [] e = let none : k + 0 ≡ k = omega arith in rw (none, bytes_eq-swap e.name name) refl
 numbers_push k name (x ∷ es) e = one (bytes_eq name x.name) (bytes_eq e.name name) (numbers_push (k + 1) name es e) (let more : k + 1 + length es ≡ k + suc (length es) = omega arith in more)
   where

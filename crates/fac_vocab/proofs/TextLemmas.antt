@@ -83,21 +83,21 @@ no_colon name p h = rw (begins_not name (p ++ codes ":") (λ rest e. h rest (e �
 
 -- Vocabularies that exist.
 
-stem_there : (v t : List ℕ) → bytes_eq t v ≡ true → is_companion_of v t ≡ true
+pub stem_there : (v t : List ℕ) → bytes_eq t v ≡ true → is_companion_of v t ≡ true
 stem_there v t e = subst (λ (s : List ℕ). is_companion_of s t ≡ true) ((bytes_eq-Decides t v).0 e) (itself t)
   where
     itself : (s : List ℕ) → is_companion_of s s ≡ true
     itself [] = refl
     itself (x ∷ s) = rw ((unsigned_Decides x x).1 refl) (itself s)
 
-stem_longer : (v t : List ℕ) → is_companion_of v t ≡ true → is_companion_of v (companion t) ≡ true
+pub stem_longer : (v t : List ℕ) → is_companion_of v t ≡ true → is_companion_of v (companion t) ≡ true
 stem_longer [] [] h = refl
 stem_longer [] (c ∷ t) h = let both = both_true (nat_eq c 46) (is_companion_of (codes "private") t) h in rw both.0 (stem_longer (codes "private") t both.1)
 stem_longer (x ∷ v) [] h = cc
 stem_longer (x ∷ v) (c ∷ t) h = let both = both_true (nat_eq c x) (is_companion_of v t) h in rw both.0 (stem_longer v t both.1)
 
 -- a companion is the vocabulary itself, or one of a companion
-data Stem (v t : List ℕ) : Type 0 where
+pub data Stem (v t : List ℕ) : Type 0 where
   itself : t ≡ v → Stem v t
   of_one : (s : List ℕ) → t ≡ companion s → is_companion_of v s ≡ true → Stem v t
 
@@ -109,19 +109,19 @@ first_stem : (c : ℕ) (t : List ℕ) → nat_eq c 46 ≡ true → Stem (codes "
 first_stem c t e (itself f) = of_one [] (ap (λ (n : ℕ). n ∷ t) ((unsigned_Decides c 46).0 e) ∙ ap (λ (xs : List ℕ). 46 ∷ xs) f) refl
 first_stem c t e (of_one s f h) = of_one (c ∷ s) (ap (λ (xs : List ℕ). c ∷ xs) f) (rw e h)
 
-stem : (v t : List ℕ) → is_companion_of v t ≡ true → Stem v t
+pub stem : (v t : List ℕ) → is_companion_of v t ≡ true → Stem v t
 stem [] [] h = itself refl
 stem [] (c ∷ t) h = let both = both_true (nat_eq c 46) (is_companion_of (codes "private") t) h in first_stem c t both.0 (stem (codes "private") t both.1)
 stem (x ∷ v) [] h = cc
 stem (x ∷ v) (c ∷ t) h = let both = both_true (nat_eq c x) (is_companion_of v t) h in more_stem x c v t both.0 (stem v t both.1)
 
-same_end : (s t : List ℕ) → companion s ≡ companion t → s ≡ t
+pub same_end : (s t : List ℕ) → companion s ≡ companion t → s ≡ t
 same_end s t e =
     let long : length s + 8 ≡ length t + 8 = sym (length-append s (codes ".private")) ∙ ap length e ∙ length-append t (codes ".private") in
     let same : length s ≡ length t = omega (arith, long) in
     sym (take_prefix s (codes ".private")) ∙ ap (λ (xs : List ℕ). take (length s) xs) e ∙ ap (λ (n : ℕ). take n (companion t)) same ∙ take_prefix t (codes ".private")
 
-stem_shorter : (v s t : List ℕ) → t ≡ companion s → bytes_eq t v ≡ false → Stem v t → is_companion_of v s ≡ true
+pub stem_shorter : (v s t : List ℕ) → t ≡ companion s → bytes_eq t v ≡ false → Stem v t → is_companion_of v s ≡ true
 stem_shorter v s t e n (itself f) = let g = (bytes_eq-Decides t v).1 f in cc
 stem_shorter v s t e n (of_one u f h) = subst (λ (w : List ℕ). is_companion_of v w ≡ true) (same_end u s (sym f ∙ e)) h
 

@@ -8,7 +8,7 @@ use Rattle.fac_lang.specs.Whole.{no_two, same_name}
 use Rattle.fac_vocab.specs.declared.least.Least.{Least}
 use Rattle.fac_vocab.specs.Scopes.{Entry, with_vocab, put_in_order, full_text, all_used, only_one}
 use Rattle.fac_vocab.specs.ScopeCalls.{name_of, names_differ}
-use Rattle.fac_vocab.specs.inner.Rows.{numbers_named, with_some, entries_at, entries_named, used_among, kept_numbers, with_used_entry, least_with, LeastUsed}
+use Rattle.fac_vocab.specs.inner.Rows.{numbers_named, with_some, entries_at, entries_named, used_among, kept_numbers, with_used_entry, least_with, bares, LeastUsed}
 use Rattle.fac_vocab.proofs.TextLemmas.{bytes_eq-swap, false_by, both_true, or_false}
 use Rattle.fac_vocab.proofs.OrderLemmas.{put_both, first_two_put}
 use Rattle.fac_vocab.proofs.RowLemmas.{find_filter, rows_named}
@@ -20,7 +20,7 @@ take_two [] = refl
 take_two (x ∷ []) = refl
 take_two (x ∷ y ∷ es) = refl
 
-least_at_rows : (used : List (List ℕ)) (table : List Entry) (ns : List ℕ) → least_with used table ns [] ≡ take 2 (used_among used (entries_at table ns))
+pub least_at_rows : (used : List (List ℕ)) (table : List Entry) (ns : List ℕ) → least_with used table ns [] ≡ take 2 (used_among used (entries_at table ns))
 least_at_rows used table [] = refl
 least_at_rows used table (n ∷ ns) = one (slice_get table n) (least_at_rows used table ns)
   where
@@ -43,7 +43,7 @@ abbrev used_from : List Entry → List (List ℕ) → List Entry
 used_from rows [] = []
 used_from rows (v ∷ vs) = elim (find (λ (e : Entry). bytes_eq v e.vocab) rows) [ Some e ↦ put_in_order e (used_from rows vs) | None ↦ used_from rows vs ]
 
-abbrev with_found : Option Entry → List Entry → List Entry
+abbrev pub with_found : Option Entry → List Entry → List Entry
 with_found o es = elim o [ Some e ↦ put_in_order e es | None ↦ es ]
 
 all_at_rows : (table : List Entry) (name : List ℕ) (used : List (List ℕ)) → all_used table name used ≡ used_from (entries_named table name) used
@@ -61,11 +61,11 @@ used_without e rows (v ∷ vs) h =
     ∙ ap (λ (es : List Entry). with_found (find (λ (e : Entry). bytes_eq v e.vocab) rows) es) (used_without e rows vs other.1)
 
 -- whether no entry is of a vocabulary, and whether all are of one name
-abbrev none_of : List ℕ → List Entry → Bool
+abbrev pub none_of : List ℕ → List Entry → Bool
 none_of vocab [] = true
 none_of vocab (e ∷ es) = not (bytes_eq vocab e.vocab) && none_of vocab es
 
-abbrev all_named : List ℕ → List Entry → Bool
+abbrev pub all_named : List ℕ → List Entry → Bool
 all_named name [] = true
 all_named name (e ∷ es) = bytes_eq name e.name && all_named name es
 
@@ -73,7 +73,7 @@ not_false : (b : Bool) → not b ≡ true → b ≡ false
 not_false true h = absurd (true≢false (sym h))
 not_false false h = refl
 
-none_found : (vocab : List ℕ) (rows : List Entry) → none_of vocab rows ≡ true → find (λ (e : Entry). bytes_eq vocab e.vocab) rows ≡ None
+pub none_found : (vocab : List ℕ) (rows : List Entry) → none_of vocab rows ≡ true → find (λ (e : Entry). bytes_eq vocab e.vocab) rows ≡ None
 none_found vocab [] h = refl
 none_found vocab (e ∷ rows) h =
     let both = both_true (not (bytes_eq vocab e.vocab)) (none_of vocab rows) h in
@@ -91,7 +91,7 @@ same_front xs ys zs e =
     let alike : length xs ≡ length ys = omega (arith, long) in
     sym (take_front xs zs) ∙ ap (λ (l : List ℕ). take (length xs) l) e ∙ ap (λ (n : ℕ). take n (ys ++ zs)) alike ∙ take_front ys zs
 
-full_differ : (e f : Entry) → e.name ≡ f.name → bytes_eq e.vocab f.vocab ≡ false → bytes_eq (full_text e) (full_text f) ≡ false
+pub full_differ : (e f : Entry) → e.name ≡ f.name → bytes_eq e.vocab f.vocab ≡ false → bytes_eq (full_text e) (full_text f) ≡ false
 full_differ e f n h = false_by (bytes_eq (full_text e) (full_text f)) (λ g.
     let full : full_text e ≡ full_text f = (bytes_eq-Decides (full_text e) (full_text f)).0 g in
     let vocab : e.vocab ≡ f.vocab = same_front e.vocab f.vocab (58 ∷ f.name) (ap (λ (m : List ℕ). e.vocab ++ 58 ∷ m) (sym n) ∙ full) in
@@ -99,7 +99,7 @@ full_differ e f n h = false_by (bytes_eq (full_text e) (full_text f)) (λ g.
 
 -- One entry more, of a vocabulary that no other of the entries has.
 
-found_row : (vocab name : List ℕ) (rows : List Entry) (f : Entry) → all_named name rows ≡ true → find (λ (e : Entry). bytes_eq vocab e.vocab) rows ≡ Some f → (bytes_eq vocab f.vocab ≡ true) × (bytes_eq name f.name ≡ true)
+pub found_row : (vocab name : List ℕ) (rows : List Entry) (f : Entry) → all_named name rows ≡ true → find (λ (e : Entry). bytes_eq vocab e.vocab) rows ≡ Some f → (bytes_eq vocab f.vocab ≡ true) × (bytes_eq name f.name ≡ true)
 found_row vocab name [] f h e = absurd (none_some e)
   where
     none_some : {X : Type 0} {x : X} → None ≡ Some x → ⊥
@@ -140,7 +140,7 @@ used_with e rows (v ∷ vs) named none once =
         ∙ behind (find (λ (f : Entry). bytes_eq v f.vocab) rows) (list_any (bytes_eq e.vocab) vs) refl p ih
 
 -- whether no two of some entries are of one vocabulary
-abbrev apart : List Entry → Bool
+abbrev pub apart : List Entry → Bool
 apart [] = true
 apart (e ∷ es) = none_of e.vocab es && apart es
 
@@ -159,7 +159,7 @@ used_of_rows name (e ∷ rows) vs named once differ =
 
 -- The entries of a name.
 
-rows_are_named : (table : List Entry) (name : List ℕ) → all_named name (entries_named table name) ≡ true
+pub rows_are_named : (table : List Entry) (name : List ℕ) → all_named name (entries_named table name) ≡ true
 rows_are_named [] name = refl
 rows_are_named (e ∷ es) name = one (bytes_eq name e.name) refl (rows_are_named es name)
   where
@@ -178,7 +178,7 @@ none_here e (f ∷ es) name n h =
     one true false p g k = ap (λ (d : Bool). not d && none_of e.vocab (entries_named es name)) p ∙ k
     one false c p g k = k
 
-rows_apart : (table : List Entry) (name : List ℕ) → names_differ table ≡ true → apart (entries_named table name) ≡ true
+pub rows_apart : (table : List Entry) (name : List ℕ) → names_differ table ≡ true → apart (entries_named table name) ≡ true
 rows_apart [] name h = refl
 rows_apart (e ∷ es) name h =
     let both = both_true (not (list_any (λ f. same_name (name_of e) (name_of f)) es)) (names_differ es) h in
@@ -189,11 +189,14 @@ rows_apart (e ∷ es) name h =
     one false p g ih = ih
 
 -- the first two that the used vocabularies hold under a name, by the numbers that the name has
-pub least_named : (table : List Entry) (name : List ℕ) (used : List (List ℕ)) (least : Least) → names_differ table ≡ true → no_two bytes_eq used ≡ true → entries_at table (kept_numbers least) ≡ least_with used table (numbers_named 0 name table) [] → LeastUsed table name used least
-least_named table name used least once differ h =
-    h ∙ least_at_rows used table (numbers_named 0 name table)
+pub least_is : (table : List Entry) (name : List ℕ) (used : List (List ℕ)) → names_differ table ≡ true → no_two bytes_eq used ≡ true → least_with used table (numbers_named 0 name table) [] ≡ take 2 (all_used table name used)
+least_is table name used once differ =
+    least_at_rows used table (numbers_named 0 name table)
     ∙ ap (λ (rows : List Entry). take 2 (used_among used rows)) (rows_named table name)
     ∙ ap (take 2) (sym (used_of_rows name (entries_named table name) used (rows_are_named table name) (rows_apart table name once) differ) ∙ sym (all_at_rows table name used))
+
+pub least_named : (table : List Entry) (name : List ℕ) (used : List (List ℕ)) (least : Least) → names_differ table ≡ true → no_two bytes_eq used ≡ true → entries_at table (kept_numbers least) ≡ least_with used table (numbers_named 0 name table) [] → LeastUsed table name used least
+least_named table name used least once differ h = ap bares (h ∙ least_is table name used once differ)
 
 pub first_two_tell : (es : List Entry) → only_one (take 2 es) ≡ only_one es
 first_two_tell [] = refl

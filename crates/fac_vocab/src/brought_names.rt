@@ -1,16 +1,20 @@
 //! What forms brought beside used vocabularies.
-ghost use Rattle.std.specs.Prelude.{◌≡◌, ◌++◌, ◌∷◌, ◌+◌, [], List, ℕ, None, Some, codes, drop, length, nat_eq, reverse, if◌then◌else◌, OnOk, OnErr};
-ghost use Rattle.std.specs.List.{starts_with};
+ghost use Rattle.std.specs.Prelude.{◌≡◌, ◌++◌, ◌∷◌, ◌+◌, ◌&&◌, ◌||◌, [], List, ℕ, None, Some, codes, drop, length, nat_eq, reverse, slice_get, if◌then◌else◌, OnOk, OnErr};
+ghost use Rattle.std.specs.List.{list_any, starts_with};
 ghost use Rattle.std.specs.Option.{option_copied};
 ghost use Rattle.fac_vocab.specs.Scopes.{Brought as Form, given_by, latest as latest_word};
 ghost use Rattle.fac_vocab.specs.inner.Index.{numbers_in};
-ghost use Rattle.fac_vocab.specs.inner.BroughtForms.{gives, word_at, last_giving, later, is_name, is_prefix, AreIndexed, IndexedWhere};
+ghost use Rattle.std.specs.Str.{bytes_eq};
+ghost use Rattle.indexmap.specs.IndexMap.{get_by_text};
+ghost use Rattle.fac_vocab.specs.inner.Pairs.{number_in};
+ghost use Rattle.fac_vocab.specs.inner.BroughtForms.{gives, word_at, last_giving, later, is_name, is_pair, is_length, last_pair, AreIndexed, IndexedWhere, HasLengths, IsNext, with_vocab_number};
 
 use crate::brought::Brought;
 use crate::index::{add_number, numbers_of};
+use crate::pairs::put_number;
 use crate::table::Table;
 use fac_base::Memory;
-use indexmap::IndexMap;
+use indexmap::{IndexMap, IndexSet};
 use std::alloc::Global;
 use std::marker::Model;
 
@@ -19,9 +23,12 @@ use std::marker::Model;
 pub struct BroughtNames {
     // The latest last.
     forms: Vec<Brought>,
-    // The numbers of the forms, under the names and under the prefixes that they bring.
+    // The numbers of the forms under the names that they bring.
     names: IndexMap<String, Vec<u32>>,
-    prefixes: IndexMap<String, Vec<u32>>,
+    // The number of the last form under the prefix and the vocabulary that it brings.
+    prefixes: IndexMap<String, IndexMap<String, u32>>,
+    // The lengths of prefixes.
+    lengths: IndexSet<usize>,
     // Whether all of them are kept there. Where they aren't, forms are gone through one by one.
     is_indexed: bool,
 }
@@ -35,7 +42,7 @@ impl Model for BroughtNames {
 
     ghost view = { λ b. reverse b.forms.items };
 
-    ghost invariant = { λ b. IndexedWhere b.is_indexed b.names b.prefixes b.forms.items };
+    ghost invariant = { λ b. IndexedWhere b.is_indexed b.names b.prefixes b.lengths.keys b.forms.items };
 }
 
 // What stands behind a prefix and a colon.
@@ -137,41 +144,142 @@ fn later_of(first: Option<u32>, second: Option<u32>) -> Option<u32>
     }
 }
 
+// The best number so far, or that of a form, where its form gives a name a word and it is greater.
+fn with_number(
+    table: &Table,
+    forms: &[Brought],
+    name: &str,
+    number: u32,
+    best: Option<u32>,
+) -> Option<u32>
+    ensures { result ≡ (if gives table.now forms.now name.now number then later best (Some number) else best) }
+{
+    if gives_at(table, forms, number, name) {
+        later_of(best, Some(number))
+    } else {
+        best
+    }
+}
+
+// The best number so far, or that which one of these vocabularies has, where it is greater.
+fn with_vocab_at(
+    table: &Table,
+    forms: &[Brought],
+    vocabs: &IndexMap<String, u32>,
+    index: usize,
+    name: &str,
+    best: Option<u32>,
+) -> Option<u32>
+    ensures { result ≡ with_vocab_number table.now forms.now name.now (slice_get vocabs.now.entries index) best }
+{
+    match vocabs.get_index(index) {
+        Some((_, number)) => with_number(table, forms, name, *number, best),
+        None => best,
+    }
+}
+
+// The best number so far, or that of a form of these vocabularies, where it is greater: each has the number of the last form that brings it behind a prefix.
+fn best_of(
+    table: &Table,
+    forms: &[Brought],
+    vocabs: &IndexMap<String, u32>,
+    prefix: &str,
+    name: &str,
+    best: Option<u32>,
+) -> Option<u32>
+    requires { (v : List ℕ) → get_by_text vocabs.now v ≡ last_pair 0 prefix.now v forms.now }
+    ensures { IsNext table.now forms.now name.now prefix.now best result }
+{
+    let mut next = best;
+    for index in 0..vocabs.len() {
+        next = with_vocab_at(table, forms, vocabs, index, name, next);
+    }
+    next
+}
+
+// The best number so far, or that of a form with a prefix.
+fn best_behind(
+    table: &Table,
+    forms: &[Brought],
+    prefixes: &IndexMap<String, IndexMap<String, u32>>,
+    lengths: &IndexSet<usize>,
+    prefix: &str,
+    name: &str,
+    best: Option<u32>,
+) -> Option<u32>
+    requires kept { (p v : List ℕ) → number_in prefixes.now p v ≡ last_pair 0 p v forms.now }
+    requires lengths { HasLengths lengths.now.keys forms.now }
+    ensures { IsNext table.now forms.now name.now prefix.now best result }
+{
+    if !lengths.contains(&prefix.len()) {
+        return best;
+    }
+    match prefixes.get(prefix) {
+        Some(vocabs) => best_of(table, forms, vocabs, prefix, name, best),
+        None => best,
+    }
+}
+
 // The number of the latest form that gives a name a word: of the forms that bring the name, and of those that bring what stands before a colon of it.
 fn latest_number(
     table: &Table,
     forms: &[Brought],
     names: &IndexMap<String, Vec<u32>>,
-    prefixes: &IndexMap<String, Vec<u32>>,
+    prefixes: &IndexMap<String, IndexMap<String, u32>>,
+    lengths: &IndexSet<usize>,
     name: &str,
 ) -> Option<u32>
-    requires { AreIndexed names.now prefixes.now forms.now }
+    requires { AreIndexed names.now prefixes.now lengths.now.keys forms.now }
     ensures { word_at table.now forms.now name.now result ≡ latest_word table.now name.now (reverse forms.now) }
 {
     let mut best = last_number(table, forms, numbers_of(names, name), name);
     let mut front = name;
     while let Some((before, _)) = front.rsplit_once(":") {
-        let number = last_number(table, forms, numbers_of(prefixes, before), name);
-        best = later_of(best, number);
+        best = best_behind(table, forms, prefixes, lengths, before, name, best);
         front = before;
     }
     best
+}
+
+// Keeps a prefix with its vocabulary under the number of a form.
+fn note_prefix(
+    alloc: Global,
+    prefixes: &mut IndexMap<String, IndexMap<String, u32>>,
+    lengths: &mut IndexSet<usize>,
+    prefix: &str,
+    vocab: &str,
+    number: u32,
+) -> Result<(), Memory>
+    ensures prefixed { (p v : List ℕ) → OnOk result (number_in prefixes.new p v ≡ (if bytes_eq prefix.now p && bytes_eq vocab.now v then Some number else number_in prefixes.old p v)) }
+    ensures lengths { (n : ℕ) → OnOk result (list_any (nat_eq n) lengths.new.keys ≡ (nat_eq n (length prefix.now) || list_any (nat_eq n) lengths.old.keys)) }
+{
+    lengths.insert(prefix.len())?;
+    put_number(alloc, prefixes, prefix, vocab, number)
 }
 
 // Keeps the number of a form.
 fn note(
     alloc: Global,
     names: &mut IndexMap<String, Vec<u32>>,
-    prefixes: &mut IndexMap<String, Vec<u32>>,
+    prefixes: &mut IndexMap<String, IndexMap<String, u32>>,
+    lengths: &mut IndexSet<usize>,
     form: &Brought,
     number: u32,
 ) -> Result<(), Memory>
     ensures named { (q : List ℕ) → OnOk result (numbers_in names.new q ≡ (if is_name q form.now then numbers_in names.old q ++ number ∷ [] else numbers_in names.old q)) }
-    ensures prefixed { (q : List ℕ) → OnOk result (numbers_in prefixes.new q ≡ (if is_prefix q form.now then numbers_in prefixes.old q ++ number ∷ [] else numbers_in prefixes.old q)) }
+    ensures prefixed { (p v : List ℕ) → OnOk result (number_in prefixes.new p v ≡ (if is_pair p v form.now then Some number else number_in prefixes.old p v)) }
+    ensures lengths { (n : ℕ) → OnOk result (list_any (nat_eq n) lengths.new.keys ≡ (is_length n form.now || list_any (nat_eq n) lengths.old.keys)) }
 {
     match form {
         Brought::Named(name, _) => add_number(alloc, names, name.as_str(), number),
-        Brought::Prefixed(_, prefix) => add_number(alloc, prefixes, prefix.as_str(), number),
+        Brought::Prefixed(vocab, prefix) => note_prefix(
+            alloc,
+            prefixes,
+            lengths,
+            prefix.as_str(),
+            vocab.as_str(),
+            number,
+        ),
     }
 }
 
@@ -180,11 +288,12 @@ fn note_behind(
     alloc: Global,
     is_indexed: bool,
     names: &mut IndexMap<String, Vec<u32>>,
-    prefixes: &mut IndexMap<String, Vec<u32>>,
+    prefixes: &mut IndexMap<String, IndexMap<String, u32>>,
+    lengths: &mut IndexSet<usize>,
     form: &Brought,
     number: usize,
 ) -> bool
-    ensures { (fs : List Form) → length fs ≡ number → IndexedWhere is_indexed names.old prefixes.old fs → IndexedWhere result names.new prefixes.new (fs ++ form.now ∷ []) }
+    ensures { (fs : List Form) → length fs ≡ number → IndexedWhere is_indexed names.old prefixes.old lengths.old.keys fs → IndexedWhere result names.new prefixes.new lengths.new.keys (fs ++ form.now ∷ []) }
 {
     if !is_indexed {
         return false;
@@ -192,7 +301,7 @@ fn note_behind(
     if number > u32::MAX as usize {
         return false;
     }
-    match note(alloc, names, prefixes, form, number as u32) {
+    match note(alloc, names, prefixes, lengths, form, number as u32) {
         Ok(_) => true,
         Err(_) => false,
     }
@@ -207,6 +316,7 @@ impl BroughtNames {
             forms: Vec::new(alloc),
             names: IndexMap::new(alloc),
             prefixes: IndexMap::new(alloc),
+            lengths: IndexSet::new(alloc),
             is_indexed: true,
         }
     }
@@ -219,7 +329,14 @@ impl BroughtNames {
         if !self.is_indexed {
             return latest_of(table, forms, name);
         }
-        let number = latest_number(table, forms, &self.names, &self.prefixes, name);
+        let number = latest_number(
+            table,
+            forms,
+            &self.names,
+            &self.prefixes,
+            &self.lengths,
+            name,
+        );
         word_at_number(table, forms, number, name)
     }
 
@@ -233,6 +350,7 @@ impl BroughtNames {
             self.is_indexed,
             &mut self.names,
             &mut self.prefixes,
+            &mut self.lengths,
             &form,
             self.forms.len(),
         );

@@ -1,16 +1,19 @@
 //! Scopes: what a file's names find.
-ghost use Rattle.std.specs.Prelude.{◌≡◌, ◌++◌, ◌∷◌, [], false, true, IfOk, OnOk, OnErr};
+ghost use Rattle.std.specs.Prelude.{◌≡◌, ◌++◌, ◌∷◌, [], codes, false, true, IfOk, OnOk, OnErr};
 ghost use Rattle.fac_vocab.specs.Scopes.{or_else, word_held, companion, latest, found, exists as vocab_exists, home as home_of, first_scope, entries_from, begun, entered, with_private, named, prefixed};
 ghost use Rattle.fac_vocab.specs.inner.Rows.{numbers_named};
+ghost use Rattle.fac_vocab.specs.inner.Leasts.{LeastWhere};
 ghost use Rattle.fac_vocab.specs.ScopeCalls.{names_differ, Finds, names_between, Stands, Defines, Defers, Uses, Qualifies, BringsOne};
 
 use crate::answers::{Found, NameState, ScopeFault};
 use crate::brought::Brought;
 use crate::brought_names::BroughtNames;
+use crate::leasts::{Leasts, add_entry, use_text};
+use crate::named_vocabs::NamedVocabs;
 use crate::standing::{found_of, names_of};
 use crate::table::Table;
 use crate::text_set::TextSet;
-use crate::vocabularies::{first_vocabularies, syntax_alone};
+use crate::vocabularies::first_vocabularies;
 use fac_base::{List, Memory, Name, Text};
 use fac_lang::WordDef;
 use std::alloc::Global;
@@ -22,25 +25,27 @@ use std::marker::Model;
 pub struct Scope {
     table: Table,
     // The vocabularies that were named.
-    vocabs: TextSet,
+    vocabs: NamedVocabs,
     // The current vocabulary.
     current: Text,
     // Its companion, which has the names that are private to it.
     private_home: Text,
     in_private: bool,
     used: TextSet,
+    leasts: Leasts,
     brought: BroughtNames,
 }
 
 impl Model for Scope {
     ghost use Rattle.std.specs.Prelude.{◌≡◌};
     ghost use Rattle.fac_vocab.specs.Scopes.{Scope, companion};
+    ghost use Rattle.fac_vocab.specs.inner.Leasts.{LeastWhere};
 
     ghost Value = { Scope };
 
     ghost view = { λ s. record { table = s.table; vocabs = s.vocabs; current = s.current; in_private = s.in_private; used = s.used; brought = s.brought } };
 
-    ghost invariant = { λ s. s.private_home ≡ companion s.current };
+    ghost invariant = { λ s. (s.private_home ≡ companion s.current) × LeastWhere s.leasts.is_kept s.leasts.kept s.table s.used };
 }
 
 // A vocabulary's name and that of its companion.
@@ -64,6 +69,16 @@ fn table_of(alloc: Global, words: &[WordDef]) -> Result<Table, Memory>
         table.add(alloc, &word.name, number, true)?;
     }
     Ok(table)
+}
+
+// What each file uses from its beginning.
+fn syntax_alone(alloc: Global, table: &Table) -> Result<(TextSet, Leasts), Memory>
+    ensures { IfOk result (λ both. (both.0 ≡ codes "syntax" ∷ []) × LeastWhere both.1.is_kept both.1.kept table.now both.0) }
+{
+    let mut used = TextSet::new(alloc);
+    let mut leasts = Leasts::new(alloc);
+    use_text(alloc, table, &mut used, &mut leasts, "syntax")?;
+    Ok((used, leasts))
 }
 
 // What a `QUALIFIED-WITH:` brings.
@@ -91,7 +106,7 @@ impl Scope {
         let table = table_of(alloc, words)?;
         let vocabs = first_vocabularies(alloc)?;
         let (current, private_home) = with_companion(alloc, "scratchpad")?;
-        let used = syntax_alone(alloc)?;
+        let (used, leasts) = syntax_alone(alloc, &table)?;
         Ok(Scope {
             table,
             vocabs,
@@ -99,6 +114,7 @@ impl Scope {
             private_home,
             in_private: false,
             used,
+            leasts,
             brought: BroughtNames::new(alloc),
         })
     }
@@ -109,11 +125,12 @@ impl Scope {
         ensures err { OnErr result (self.new ≡ self.old) }
     {
         let (current, private_home) = with_companion(alloc, "scratchpad")?;
-        let used = syntax_alone(alloc)?;
+        let (used, leasts) = syntax_alone(alloc, &self.table)?;
         self.current = current;
         self.private_home = private_home;
         self.in_private = false;
         self.used = used;
+        self.leasts = leasts;
         self.brought = BroughtNames::new(alloc);
         Ok(())
     }
@@ -175,9 +192,12 @@ impl Scope {
         requires { numbers.now ≡ numbers_named 0 name.now self.now.table }
         ensures { result ≡ or_else (word_held self.now.table self.now.current name.now) (or_else (word_held self.now.table (companion self.now.current) name.now) (latest self.now.table name.now self.now.brought)) }
     {
-        match self.table.word_among(numbers, self.current.as_str()) {
+        match self.table.word_among(numbers, self.current.as_str(), name) {
             Some(word) => Some(word),
-            None => match self.table.word_among(numbers, self.private_home.as_str()) {
+            None => match self
+                .table
+                .word_among(numbers, self.private_home.as_str(), name)
+            {
                 Some(word) => Some(word),
                 None => self.brought.latest(&self.table, name),
             },
@@ -194,7 +214,13 @@ impl Scope {
             Some(word) => Found::Word(word),
             None => found_of(
                 self.table.entries(),
-                self.table.least_among(numbers, &self.used),
+                self.table.least_among(
+                    numbers,
+                    &self.used,
+                    &self.leasts.kept,
+                    self.leasts.is_kept,
+                    name,
+                ),
             ),
         }
     }
@@ -209,7 +235,13 @@ impl Scope {
             None => names_of(
                 alloc,
                 self.table.entries(),
-                self.table.least_among(numbers, &self.used),
+                self.table.least_among(
+                    numbers,
+                    &self.used,
+                    &self.leasts.kept,
+                    self.leasts.is_kept,
+                    name,
+                ),
             ),
         }
     }
@@ -227,7 +259,15 @@ impl Scope {
     {
         match self.table.standing(name) {
             NameState::New => {
-                self.table.add(alloc, name, word, true)?;
+                add_entry(
+                    alloc,
+                    &mut self.table,
+                    &self.used,
+                    &mut self.leasts,
+                    name,
+                    word,
+                    true,
+                )?;
                 Ok(())
             }
             NameState::Deferred(_) => {
@@ -244,7 +284,15 @@ impl Scope {
     {
         match self.table.standing(name) {
             NameState::New => {
-                self.table.add(alloc, name, word, false)?;
+                add_entry(
+                    alloc,
+                    &mut self.table,
+                    &self.used,
+                    &mut self.leasts,
+                    name,
+                    word,
+                    false,
+                )?;
                 Ok(())
             }
             NameState::Deferred(_) => Err(ScopeFault::Twice),
@@ -259,7 +307,7 @@ impl Scope {
         if !self.exists(vocab) {
             return Err(ScopeFault::NoVocab);
         }
-        self.used.add(alloc, vocab)?;
+        use_text(alloc, &self.table, &mut self.used, &mut self.leasts, vocab)?;
         Ok(())
     }
 

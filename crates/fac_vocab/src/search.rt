@@ -1,9 +1,10 @@
 //! What a table holds under a name, by the numbers of the entries of that name.
-ghost use Rattle.std.specs.Prelude.{◌≡◌, ◌<◌, ◌+◌, ◌^◌, ◌∷◌, [], Some, length, slice_get, take, IfNone, IfSome};
+ghost use Rattle.std.specs.Prelude.{◌≡◌, ◌<◌, ◌+◌, ◌^◌, ◌∷◌, [], ℕ, Some, length, slice_get, take, IfNone, IfSome};
 ghost use Rattle.std.specs.Str.{bytes_eq};
 ghost use Rattle.fac_lang.specs.Classes.{bytes_before};
 ghost use Rattle.fac_vocab.specs.Scopes.{companion, full_text, same_table as in_one_table, put_in_order};
 ghost use Rattle.fac_vocab.specs.inner.Rows.{entries_at, word_if, word_among, defined_if, defined_among, number_if, first_among, byte_order, least_with, with_used_entry, kept_numbers};
+ghost use Rattle.fac_vocab.specs.inner.Leasts.{KeptWithin};
 
 use crate::entry::Entry;
 use crate::least::Least;
@@ -166,7 +167,8 @@ pub fn comes_before(entry: &Entry, other: &Entry) -> bool
 // One entry more behind one that is kept.
 fn beside_one(entries: &[Entry], first: u32, number: u32, entry: &Entry) -> Least
     requires { slice_get entries.now number ≡ Some entry.now }
-    ensures { entries_at entries.now (kept_numbers result) ≡ take 2 (put_in_order entry.now (entries_at entries.now (first ∷ []))) }
+    ensures first_two { entries_at entries.now (kept_numbers result) ≡ take 2 (put_in_order entry.now (entries_at entries.now (first ∷ []))) }
+    ensures kept { (m : ℕ) → number < m → first < m → KeptWithin m result }
 {
     match entries.get(first as usize) {
         Some(other) => {
@@ -183,7 +185,8 @@ fn beside_one(entries: &[Entry], first: u32, number: u32, entry: &Entry) -> Leas
 // One entry more beside two that are kept.
 fn beside_two(entries: &[Entry], first: u32, second: u32, number: u32, entry: &Entry) -> Least
     requires { slice_get entries.now number ≡ Some entry.now }
-    ensures { entries_at entries.now (kept_numbers result) ≡ take 2 (put_in_order entry.now (entries_at entries.now (first ∷ second ∷ []))) }
+    ensures first_two { entries_at entries.now (kept_numbers result) ≡ take 2 (put_in_order entry.now (entries_at entries.now (first ∷ second ∷ []))) }
+    ensures kept { (m : ℕ) → number < m → first < m → second < m → KeptWithin m result }
 {
     match entries.get(first as usize) {
         Some(other) => {
@@ -206,10 +209,11 @@ fn beside_two(entries: &[Entry], first: u32, second: u32, number: u32, entry: &E
     }
 }
 
-// One entry more, of which the first two are kept.
-fn with_one(entries: &[Entry], least: Least, number: u32, entry: &Entry) -> Least
+/// One entry more, of which the first two are kept.
+pub fn with_one(entries: &[Entry], least: Least, number: u32, entry: &Entry) -> Least
     requires { slice_get entries.now number ≡ Some entry.now }
-    ensures { entries_at entries.now (kept_numbers result) ≡ take 2 (put_in_order entry.now (entries_at entries.now (kept_numbers least))) }
+    ensures first_two { entries_at entries.now (kept_numbers result) ≡ take 2 (put_in_order entry.now (entries_at entries.now (kept_numbers least))) }
+    ensures kept { (m : ℕ) → number < m → KeptWithin m least → KeptWithin m result }
 {
     match least {
         Least::Nothing => Least::One(number),
@@ -234,11 +238,11 @@ fn with_number(entries: &[Entry], used: &TextSet, least: Least, number: u32) -> 
     }
 }
 
-/// The first two entries of used vocabularies by the byte order of their full names.
-pub fn least_used(entries: &[Entry], numbers: &[u32], used: &TextSet) -> Least
-    ensures { entries_at entries.now (kept_numbers result) ≡ least_with used.now entries.now numbers.now [] }
+/// The first two entries of used vocabularies by the byte order of their full names, with some that are kept.
+pub fn least_used(entries: &[Entry], numbers: &[u32], used: &TextSet, kept: Least) -> Least
+    ensures { entries_at entries.now (kept_numbers result) ≡ least_with used.now entries.now numbers.now (entries_at entries.now (kept_numbers kept)) }
 {
-    let mut least = Least::Nothing;
+    let mut least = kept;
     let mut rest = numbers;
     while let Some((number, earlier)) = rest.split_last() {
         least = with_number(entries, used, least, *number);

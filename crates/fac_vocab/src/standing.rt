@@ -1,13 +1,14 @@
 //! What a table's entries come to: how a name stands, and what a search answers.
-ghost use Rattle.std.specs.Prelude.{◌≡◌, ◌∷◌, [], Some, IfOk};
+ghost use Rattle.std.specs.Prelude.{◌≡◌, ◌∷◌, [], Some, true, IfOk};
 ghost use Rattle.fac_vocab.specs.Scopes.{only_one};
-ghost use Rattle.fac_vocab.specs.ScopeCalls.{answer_of, names_between, name_of, standing_of};
-ghost use Rattle.fac_vocab.specs.inner.Rows.{deferred_at, entries_at, in_table, kept_numbers};
+ghost use Rattle.fac_vocab.specs.ScopeCalls.{answer_of, names_between, name_of, names_differ, standing_of};
+ghost use Rattle.fac_vocab.specs.inner.Rows.{deferred_at, entries_at, in_table, kept_numbers, numbers_named};
+ghost use Rattle.fac_vocab.specs.inner.Late.{LateWhere};
 
 use crate::answers::{Found, NameState};
 use crate::entry::Entry;
+use crate::late::{Late, first_holder, is_defined};
 use crate::least::Least;
-use crate::search::{first_number, is_defined_in};
 use fac_base::{Duplicate, Memory, Name};
 use std::alloc::Global;
 
@@ -25,13 +26,22 @@ fn deferred_of(entries: &[Entry], first: Option<u32>) -> NameState
 }
 
 /// How a name stands in the tables to which a vocabulary belongs, where its entries have these numbers.
-pub fn standing_in(entries: &[Entry], numbers: &[u32], vocab: &str) -> NameState
+pub fn standing_in(
+    entries: &[Entry],
+    late: &Late,
+    numbers: &[u32],
+    vocab: &str,
+    name: &str,
+) -> NameState
+    requires late { LateWhere late.now.is_kept late.now.own late.now.companions entries.now }
+    requires numbers { numbers.now ≡ numbers_named 0 name.now entries.now }
+    requires once { names_differ entries.now ≡ true }
     ensures { result ≡ standing_of (in_table vocab.now (entries_at entries.now numbers.now)) }
 {
-    if is_defined_in(entries, numbers, vocab) {
+    if is_defined(entries, late, numbers, vocab, name) {
         return NameState::Defined;
     }
-    deferred_of(entries, first_number(entries, numbers, vocab))
+    deferred_of(entries, first_holder(entries, late, numbers, vocab, name))
 }
 
 // What two entries come to.

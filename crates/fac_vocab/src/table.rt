@@ -3,12 +3,17 @@ ghost use Rattle.std.specs.Prelude.{◌≡◌, ◌<◌, ◌^◌, ◌++◌, ◌�
 ghost use Rattle.fac_vocab.specs.Scopes.{held, word_held, holders};
 ghost use Rattle.fac_vocab.specs.ScopeCalls.{names_differ, standing_of};
 ghost use Rattle.fac_vocab.specs.inner.Rows.{numbers_named, LeastUsed, settled, defined_at};
+ghost use Rattle.fac_vocab.specs.inner.Late.{LateWhere};
+ghost use Rattle.fac_vocab.specs.inner.Leasts.{LeastWhere};
 
 use crate::answers::NameState;
 use crate::entry::Entry;
+use crate::few::{FEW, first_few};
 use crate::index::{add_number, numbers_of};
+use crate::late::{Late, first_holder, note_late, word_of};
 use crate::least::Least;
-use crate::search::{first_number, least_used, word_in};
+use crate::leasts::least_of;
+use crate::search::least_used;
 use crate::standing::standing_in;
 use crate::text_set::TextSet;
 use fac_base::{Duplicate, Memory, Name};
@@ -22,18 +27,20 @@ pub struct Table {
     entries: Vec<Entry>,
     // The numbers of the entries of each name.
     index: IndexMap<String, Vec<u32>>,
+    late: Late,
 }
 
 impl Model for Table {
     ghost use Rattle.std.specs.Prelude.{List};
     ghost use Rattle.fac_vocab.specs.declared.entry.Entry.{Entry};
     ghost use Rattle.fac_vocab.specs.inner.Index.{IsIndexed};
+    ghost use Rattle.fac_vocab.specs.inner.Late.{LateWhere};
 
     ghost Value = { List Entry };
 
     ghost view = { λ t. t.entries.items };
 
-    ghost invariant = { λ t. IsIndexed t.index t.entries.items };
+    ghost invariant = { λ t. IsIndexed t.index t.entries.items × LateWhere t.late.is_kept t.late.own t.late.companions t.entries.items };
 }
 
 // An entry.
@@ -67,6 +74,11 @@ impl Table {
         Table {
             entries: Vec::new(alloc),
             index: IndexMap::new(alloc),
+            late: Late {
+                own: IndexMap::new(alloc),
+                companions: IndexMap::new(alloc),
+                is_kept: true,
+            },
         }
     }
 
@@ -94,25 +106,50 @@ impl Table {
     }
 
     /// The word that a vocabulary holds under a name that has these numbers.
-    pub fn word_among(&self, numbers: &[u32], vocab: &str) -> Option<u32>
-        ensures { (name : Items ℕ) → numbers.now ≡ numbers_named 0 name self.now → result ≡ word_held self.now vocab.now name }
+    pub fn word_among(&self, numbers: &[u32], vocab: &str, name: &str) -> Option<u32>
+        requires { numbers.now ≡ numbers_named 0 name.now self.now }
+        ensures { result ≡ word_held self.now vocab.now name.now }
     {
-        word_in(self.entries(), numbers, vocab)
+        word_of(self.entries.as_slice(), &self.late, numbers, vocab, name)
     }
 
     /// The word that a vocabulary holds under a name.
     pub fn word(&self, vocab: &str, name: &str) -> Option<u32>
         ensures { result ≡ word_held self.now vocab.now name.now }
     {
-        self.word_among(self.numbers(name), vocab)
+        self.word_among(self.numbers(name), vocab, name)
+    }
+
+    /// The late entries.
+    pub fn late(&self) -> &Late
+        ensures { LateWhere result.now.is_kept result.now.own result.now.companions self.now }
+    {
+        &self.late
     }
 
     /// The first two that used vocabularies hold under a name that has these numbers.
-    pub fn least_among(&self, numbers: &[u32], used: &TextSet) -> Least
-        ensures { (name : Items ℕ) → numbers.now ≡ numbers_named 0 name self.now → LeastUsed self.now name used.now result }
+    pub fn least_among(
+        &self,
+        numbers: &[u32],
+        used: &TextSet,
+        kept: &IndexMap<String, Least>,
+        is_kept: bool,
+        name: &str,
+    ) -> Least
+        requires numbers { numbers.now ≡ numbers_named 0 name.now self.now }
+        requires kept { LeastWhere is_kept kept.now self.now used.now }
+        ensures { LeastUsed self.now name.now used.now result }
     {
         used.differ();
-        least_used(self.entries(), numbers, used)
+        if !is_kept || numbers.len() <= FEW {
+            return least_used(self.entries(), numbers, used, Least::Nothing);
+        }
+        least_used(
+            self.entries(),
+            first_few(numbers),
+            used,
+            least_of(kept, name),
+        )
     }
 
     /// How a full name stands.
@@ -120,9 +157,11 @@ impl Table {
         ensures { standing_of (holders self.now name.now.vocab name.now.name) ≡ result }
     {
         standing_in(
-            self.entries(),
-            self.numbers(name.name.as_str()),
+            self.entries.as_slice(),
+            &self.late,
+            numbers_of(&self.index, name.name.as_str()),
             name.vocab.as_str(),
+            name.name.as_str(),
         )
     }
 
@@ -142,9 +181,23 @@ impl Table {
         if number == u32::MAX {
             return Err(Memory);
         }
+        let is_kept = note_late(
+            alloc,
+            self.late.is_kept,
+            &mut self.late.own,
+            &mut self.late.companions,
+            numbers_of(&self.index, name.name.as_str()),
+            name.vocab.as_str(),
+            name.name.as_str(),
+            number,
+        );
+        self.late.is_kept = false;
         self.entries.push(entry_of(alloc, name, word, is_defined)?)?;
         match add_number(alloc, &mut self.index, name.name.as_str(), number) {
-            Ok(_) => Ok(()),
+            Ok(_) => {
+                self.late.is_kept = is_kept;
+                Ok(())
+            }
             Err(_) => {
                 self.entries.pop();
                 Err(Memory)
@@ -157,7 +210,13 @@ impl Table {
         ensures { self.new ≡ settled name.now self.old }
     {
         let numbers = numbers_of(&self.index, name.name.as_str());
-        match first_number(self.entries.as_slice(), numbers, name.vocab.as_str()) {
+        match first_holder(
+            self.entries.as_slice(),
+            &self.late,
+            numbers,
+            name.vocab.as_str(),
+            name.name.as_str(),
+        ) {
             Some(number) => define_at(&mut self.entries, number),
             None => {}
         }

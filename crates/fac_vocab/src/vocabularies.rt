@@ -1,9 +1,9 @@
-//! The vocabularies that exist from the start, and those that a file uses first.
-ghost use Rattle.std.specs.Prelude.{◌≡◌, ◌∷◌, [], codes, map, IfOk};
+//! The vocabularies that exist from the start.
+ghost use Rattle.std.specs.Prelude.{◌≡◌, [], map, IfOk};
 ghost use Rattle.fac_vocab.specs.Scopes.{first_vocabularies as first_names};
 ghost use Rattle.fac_vocab.specs.inner.Rows.{with_vocabs};
 
-use crate::text_set::TextSet;
+use crate::named_vocabs::NamedVocabs;
 use fac_base::Memory;
 use std::alloc::Global;
 
@@ -13,11 +13,11 @@ static VOCABULARIES: [&str; 15] = [
     "strings", "words", "syntax", "accessors", "scratchpad", "locals", "fry",
 ];
 
-// A set of texts.
-fn set_of(alloc: Global, texts: &[&str]) -> Result<TextSet, Memory>
+// Vocabularies of these names.
+fn set_of(alloc: Global, texts: &[&str]) -> Result<NamedVocabs, Memory>
     ensures { IfOk result (λ set. set ≡ with_vocabs [] (map (λ text. text.now) texts.now)) }
 {
-    let mut set = TextSet::new(alloc);
+    let mut set = NamedVocabs::new(alloc);
     for text in texts {
         set.add(alloc, text)?;
     }
@@ -25,15 +25,8 @@ fn set_of(alloc: Global, texts: &[&str]) -> Result<TextSet, Memory>
 }
 
 /// The vocabularies that exist from the start, but for their companions.
-pub fn first_vocabularies(alloc: Global) -> Result<TextSet, Memory>
+pub fn first_vocabularies(alloc: Global) -> Result<NamedVocabs, Memory>
     ensures { IfOk result (λ set. set ≡ first_names) }
 {
     set_of(alloc, &VOCABULARIES)
-}
-
-/// What each file uses from its beginning.
-pub fn syntax_alone(alloc: Global) -> Result<TextSet, Memory>
-    ensures { IfOk result (λ set. set ≡ codes "syntax" ∷ []) }
-{
-    set_of(alloc, &["syntax"])
 }

@@ -1,15 +1,12 @@
 -- How a table is searched: by the numbers of the entries that have a name.
-use Rattle.std.specs.Prelude.{ℕ, zero, suc, ◌≡◌, ◌+◌, ◌++◌, List, [], ◌∷◌, Bool, true, false, ◌&&◌, ◌||◌, nat_eq, nat_lt, take, slice_get, Option, Some, None, Result, Ok, Err, if◌then◌else◌}
+use Rattle.std.specs.Prelude.{ℕ, zero, suc, ◌≡◌, ◌+◌, List, [], ◌∷◌, Bool, true, false, ◌&&◌, ◌||◌, nat_eq, nat_lt, map, take, slice_get, Option, Some, None, if◌then◌else◌}
 use Rattle.std.specs.List.{list_any, filter}
 use Rattle.std.specs.Str.{bytes_eq}
 use Rattle.fac_vocab.specs.declared.least.Least.{Least}
 use Rattle.fac_vocab.specs.declared.least.Least.TheVariants.{Nothing, One, Two}
 use Rattle.fac_vocab.specs.declared.answers.NameState.{NameState}
 use Rattle.fac_vocab.specs.declared.answers.NameState.TheVariants.{New, Deferred}
-use Rattle.fac_vocab.specs.declared.answers.ScopeFault.{ScopeFault}
-use Rattle.fac_vocab.specs.declared.answers.ScopeFault.TheVariants.{Unknown as Missing, Memory}
-use Rattle.std.specs.Global.{Vec}
-use Rattle.fac_vocab.specs.Scopes.{Entry, Brought, named, word_held, or_else, same_table, put_in_order, all_used, holders, now_defined, with_vocab}
+use Rattle.fac_vocab.specs.Scopes.{Entry, or_else, same_table, put_in_order, all_used, holders, now_defined, with_vocab}
 use Rattle.fac_base.specs.declared.name.Name.{Name as FullName}
 
 -- the numbers of the entries of a name, where the first entry has number k
@@ -100,9 +97,16 @@ abbrev pub deferred_at : List Entry → Option ℕ → NameState
 deferred_at table (Some n) = deferred_word (slice_get table n)
 deferred_at table None = New
 
--- the kept numbers are those of the first two that the used vocabularies hold under a name
+-- an entry and a table, but for what is defined
+abbrev pub bare : Entry → Entry
+bare e = record e { is_defined = false }
+
+abbrev pub bares : List Entry → List Entry
+bares table = map bare table
+
+-- the kept numbers are those of the first two that the used vocabularies hold under a name, but for whether these are defined
 abbrev pub LeastUsed : List Entry → List ℕ → List (List ℕ) → Least → Type 0
-LeastUsed table name used least = entries_at table (kept_numbers least) ≡ take 2 (all_used table name used)
+LeastUsed table name used least = bares (entries_at table (kept_numbers least)) ≡ bares (take 2 (all_used table name used))
 
 -- a table in which the first of these entries is defined
 abbrev pub first_defined : List Entry → List Entry → List Entry

@@ -1,5 +1,5 @@
 use Rattle.std.proofs.Common.{rules, ◌≡◌, ◌∙◌, ap, sym, subst, Option, ℕ, ◌<◌, List, ◌++◌, ◌∷◌, [], length, drop, take, append_assoc}
-use Rattle.fac_vocab.specs.inner.BroughtForms.{last_giving, later}
+use Rattle.fac_vocab.specs.inner.BroughtForms.{last_giving}
 use Rattle.fac_vocab.proofs.LatestLemmas.{Best, best_named, best_prefixed, best_of_all, best_is_latest, append_none, split_at}
 use Rattle.fac_vocab.proofs.brought_names.latest_number.Goals as goal
 
@@ -19,10 +19,8 @@ loop-before-preserved c =
     let after = drop h.1 front in
     let split : front ≡ before ++ 58 ∷ after = sym (split_at front h.0) ∙ ap (λ (xs : List ℕ). take h.0 front ++ xs) h.2.1.split ∙ ap (λ (xs : List ℕ). xs ++ 58 ∷ after) (sym h.3) in
     let tail = c.loop-before.invariant.1.0 in
-    let whole : c.args.name.now ≡ front ++ tail = c.loop-before.invariant.1.1 in
-    let last = c.last_number-number.ensures ∙ ap (last_giving c.args.table.now c.args.forms.now c.args.name.now) (c.numbers_of-in-Some.ensures ∙ c.requires.prefixed before) in
-    let best = best_prefixed c.args.table.now c.args.forms.now c.args.name.now front before after tail c.loop-before.best whole split (λ i l. h.2.0 i (subst (λ (n : ℕ). n < i) h.6 l)) c.loop-before.invariant.0 in (
-      subst (λ (o : Option ℕ). Best c.args.table.now c.args.forms.now c.args.name.now (length before) o) (sym (c.later_of-best.ensures ∙ ap (later c.loop-before.best) last)) best,
+    let whole : c.args.name.now ≡ front ++ tail = c.loop-before.invariant.1.1 in (
+      best_prefixed c.args.table.now c.args.forms.now c.args.name.now front before after tail c.loop-before.best c.best_behind-best.result whole split (λ i l. h.2.0 i (subst (λ (n : ℕ). n < i) h.6 l)) c.best_behind-best.ensures c.loop-before.invariant.0,
       (58 ∷ (after ++ tail), whole ∙ ap (λ (xs : List ℕ). xs ++ tail) split ∙ append_assoc before (58 ∷ after) tail),
       search rules,
     )

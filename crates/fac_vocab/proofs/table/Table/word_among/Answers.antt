@@ -5,8 +5,8 @@ use Rattle.fac_vocab.proofs.RowLemmas.{word_of_name}
 use Rattle.fac_vocab.proofs.table.Table.word_among.Goals as goal
 
 pub returns : goal.returns
-returns c = λ name h.
-    c.word_in.ensures
-    ∙ ap (λ (t : List Entry). word_among t c.args.vocab.now c.args.numbers.now) c.entries.ensures.all
-    ∙ ap (word_among c.args.self.now c.args.vocab.now) h
-    ∙ word_of_name c.args.self.now c.args.vocab.now name
+returns c =
+    c.word_of.ensures
+    ∙ ap (λ (t : List Entry). word_among t c.args.vocab.now c.args.numbers.now) (c.as_slice.ensures.value ∙ c.self.view_is)
+    ∙ ap (word_among c.args.self.now c.args.vocab.now) c.requires
+    ∙ word_of_name c.args.self.now c.args.vocab.now c.args.name.now
