@@ -4,4 +4,4 @@
 
 mod laws;
 
-pub use laws::runs_have_one_end;
+pub use laws::{runs_dont_tell_addresses, runs_have_one_end, runs_may_be_collected};
