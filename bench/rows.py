@@ -35,6 +35,7 @@ ANYWHERE = {
     "bench/examples.py": "worked examples",
     "bench/images.py": "images of cases",
     "bench/speed.py": "sources to measure",
+    "bench/shapes.py": "sources to measure",
     "bench/programs.py": "programs to measure",
     "bench/rows.py": "this script",
     "bench/map.py": "writes docs/MAP.md",

@@ -222,7 +222,8 @@ def constants(n):
 
 
 def choices(n):
-    return "USING: kernel combinators ;\n: w ( x -- ) { " + "{ [ dup ] [ drop ] } " * (2 * n) + "[ drop ] } cond ;\n"
+    cases = "{ [ dup ] [ drop ] } " * 40
+    return "USING: kernel combinators ;\n" + lines(n, ": w{k} ( x -- ) { " + cases + "[ drop ] } cond ;")
 
 
 SHAPES = [
@@ -264,7 +265,7 @@ SHAPES = [
     Shape("elements", "an array of many elements", 500, elements),
     Shape("items", "one run of many items", 500, items),
     Shape("constants", "many constants and symbols", 300, constants),
-    Shape("choices", "one `cond` of many cases", 100, choices),
+    Shape("choices", "words with a `cond` of many cases", 60, choices),
 ]
 
 

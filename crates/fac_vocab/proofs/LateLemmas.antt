@@ -77,7 +77,7 @@ word_append : (t : List Entry) (v xs ys : List ℕ) → word_among t v (xs ++ ys
 word_append t v [] ys = refl
 word_append t v (n ∷ xs) ys = ap (or_else (word_if v (slice_get t n))) (word_append t v xs ys) ∙ or_assoc (word_if v (slice_get t n)) (word_among t v xs) (word_among t v ys)
 
-words_by : (t : List Entry) (v ns : List ℕ) → word_among t v ns ≡ numbered_word t (number_by (bytes_eq v) t ns)
+pub words_by : (t : List Entry) (v ns : List ℕ) → word_among t v ns ≡ numbered_word t (number_by (bytes_eq v) t ns)
 words_by t v [] = refl
 words_by t v (n ∷ ns) = one (slice_get t n) refl (words_by t v ns)
   where

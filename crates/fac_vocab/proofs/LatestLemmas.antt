@@ -314,7 +314,7 @@ pair_not_below p v k (f ∷ fs) = one (last_pair (k + 1) p v fs) (is_pair p v f)
     one (Some m) b h = omega (arith, h)
 
 -- no form with the two comes behind it
-pair_covers : (p v : List ℕ) (k : ℕ) (fs : List Brought) (m : ℕ) → slice_get fs m ≡ Some (prefixed v p) → AtMost (k + m) (last_pair k p v fs)
+pub pair_covers : (p v : List ℕ) (k : ℕ) (fs : List Brought) (m : ℕ) → slice_get fs m ≡ Some (prefixed v p) → AtMost (k + m) (last_pair k p v fs)
 pair_covers p v k [] m e = absurd (none_some e)
 pair_covers p v k (f ∷ fs) zero e =
     let same : f ≡ prefixed v p = cc in
@@ -336,7 +336,7 @@ pair_here p v k n f (Some m) b all g at ih e = ih e
 pair_here p v k n f None true all g at ih e = let same : n ≡ k = cc in ap (slice_get all) same ∙ at ∙ ap (λ (x : Brought). Some x) (pair_alike p v f g)
 pair_here p v k n f None false all g at ih e = absurd (none_some e)
 
-pair_is : (p v : List ℕ) (k : ℕ) (done fs : List Brought) (n : ℕ) → k ≡ length done → last_pair k p v fs ≡ Some n → slice_get (done ++ fs) n ≡ Some (prefixed v p)
+pub pair_is : (p v : List ℕ) (k : ℕ) (done fs : List Brought) (n : ℕ) → k ≡ length done → last_pair k p v fs ≡ Some n → slice_get (done ++ fs) n ≡ Some (prefixed v p)
 pair_is p v k done [] n h e = absurd (none_some e)
 pair_is p v k done (f ∷ fs) n h e =
     pair_here p v k n f (last_pair (k + 1) p v fs) (is_pair p v f) (done ++ f ∷ fs) refl (ap (slice_get (done ++ f ∷ fs)) h ∙ form_behind done fs f)
@@ -372,31 +372,31 @@ entry_keeps table forms name None best m h = h
 entry_keeps table forms name (Some x) best m h = with_keeps table forms name x.1 best m h
 
 -- these numbers of vocabularies are covered
-abbrev pub CoversTo : {K : Type 0} → List Entry → List Brought → List ℕ → List (K × ℕ) → ℕ → Option ℕ → Type 0
-CoversTo {K = K} table forms name vocabs i next = (j : ℕ) (x : K × ℕ) → j < i → slice_get vocabs j ≡ Some x → gives table forms name x.1 ≡ true → AtMost x.1 next
+abbrev pub CoversTo : {K : Type 0} → List Entry → List Brought → List ℕ → (ℕ → Option (K × ℕ)) → ℕ → Option ℕ → Type 0
+CoversTo {K = K} table forms name vocab i next = (j : ℕ) (x : K × ℕ) → j < i → vocab j ≡ Some x → gives table forms name x.1 ≡ true → AtMost x.1 next
 
-pub covers_more : {K : Type 0} (table : List Entry) (forms : List Brought) (name : List ℕ) (vocabs : List (K × ℕ)) (i : ℕ) (next : Option ℕ) → CoversTo table forms name vocabs i next → CoversTo table forms name vocabs (i + 1) (with_vocab_number table forms name (slice_get vocabs i) next)
-covers_more {K = K} table forms name vocabs i next h = λ j x l e g. one j x l e g (nat_lt j i) refl
+pub covers_more : {K : Type 0} (table : List Entry) (forms : List Brought) (name : List ℕ) (vocab : ℕ → Option (K × ℕ)) (i : ℕ) (next : Option ℕ) → CoversTo table forms name vocab i next → CoversTo table forms name vocab (i + 1) (with_vocab_number table forms name (vocab i) next)
+covers_more {K = K} table forms name vocab i next h = λ j x l e g. one j x l e g (nat_lt j i) refl
   where
-    one : (j : ℕ) (x : K × ℕ) → j < i + 1 → slice_get vocabs j ≡ Some x → gives table forms name x.1 ≡ true → (b : Bool) → nat_lt j i ≡ b → AtMost x.1 (with_vocab_number table forms name (slice_get vocabs i) next)
-    one j x l e g true o = entry_keeps table forms name (slice_get vocabs i) next x.1 (h j x (ltb-true j i o) e g)
+    one : (j : ℕ) (x : K × ℕ) → j < i + 1 → vocab j ≡ Some x → gives table forms name x.1 ≡ true → (b : Bool) → nat_lt j i ≡ b → AtMost x.1 (with_vocab_number table forms name (vocab i) next)
+    one j x l e g true o = entry_keeps table forms name (vocab i) next x.1 (h j x (ltb-true j i o) e g)
     one j x l e g false o =
         let q = ltb-false j i o in
         let same : i ≡ j = omega (arith, l, q) in
-        subst (λ (r : Option (K × ℕ)). AtMost x.1 (with_vocab_number table forms name r next)) (sym (ap (slice_get vocabs) same ∙ e)) (with_covers table forms name x.1 next g)
+        subst (λ (r : Option (K × ℕ)). AtMost x.1 (with_vocab_number table forms name r next)) (sym (ap vocab same ∙ e)) (with_covers table forms name x.1 next g)
 
-at_most_by : (m n : ℕ) (o next : Option ℕ) → AtMost m o → o ≡ Some n → AtMost n next → AtMost m next
+pub at_most_by : (m n : ℕ) (o next : Option ℕ) → AtMost m o → o ≡ Some n → AtMost n next → AtMost m next
 at_most_by m n None next h e k = absurd h
 at_most_by m n (Some b) None h e k = k
 at_most_by m n (Some b) (Some c) h e k = let same : b ≡ n = cc in omega (arith, h, k, same)
 
 -- the number of the pair of a form
-pair_number : (o : Option ℕ) (m : ℕ) → AtMost m o → (n : ℕ) × (o ≡ Some n)
+pub pair_number : (o : Option ℕ) (m : ℕ) → AtMost m o → (n : ℕ) × (o ≡ Some n)
 pair_number None m h = absurd h
 pair_number (Some n) m h = (n, refl)
 
 pub all_vocabs_covered : {Y S : Type 0} (table : List Entry) (forms : List Brought) (name prefix : List ℕ) (vocabs : IndexMap (String Y) ℕ S) (next : Option ℕ) → ((v : List ℕ) → get_by_text vocabs v ≡ last_pair 0 prefix v forms) →
-    CoversTo table forms name vocabs.entries (length vocabs.entries) next → (m : ℕ) (v : List ℕ) → slice_get forms m ≡ Some (prefixed v prefix) → gives table forms name m ≡ true → AtMost m next
+    CoversTo table forms name (slice_get vocabs.entries) (length vocabs.entries) next → (m : ℕ) (v : List ℕ) → slice_get forms m ≡ Some (prefixed v prefix) → gives table forms name m ≡ true → AtMost m next
 all_vocabs_covered table forms name prefix vocabs next kept covered m v e g =
     let none : 0 + m ≡ m = omega arith in
     let most : AtMost m (last_pair 0 prefix v forms) = subst (λ (n : ℕ). AtMost n (last_pair 0 prefix v forms)) none (pair_covers prefix v 0 forms m e) in

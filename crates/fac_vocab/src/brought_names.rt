@@ -7,9 +7,11 @@ ghost use Rattle.fac_vocab.specs.inner.Index.{numbers_in};
 ghost use Rattle.std.specs.Str.{bytes_eq};
 ghost use Rattle.indexmap.specs.IndexMap.{get_by_text};
 ghost use Rattle.fac_vocab.specs.inner.Pairs.{number_in};
-ghost use Rattle.fac_vocab.specs.inner.BroughtForms.{gives, word_at, last_giving, later, is_name, is_pair, is_length, last_pair, AreIndexed, IndexedWhere, HasLengths, IsNext, with_vocab_number};
+ghost use Rattle.fac_vocab.specs.inner.BroughtForms.{gives, word_at, last_giving, later, is_name, is_pair, is_length, last_pair, AreIndexed, IndexedWhere, HasLengths, IsNext, with_vocab_number, entry_last, numbered_last, twice};
+ghost use Rattle.fac_vocab.specs.inner.Rows.{numbers_named};
 
 use crate::brought::Brought;
+use crate::entry::Entry;
 use crate::index::{add_number, numbers_of};
 use crate::pairs::put_number;
 use crate::table::Table;
@@ -197,6 +199,103 @@ fn best_of(
     next
 }
 
+// The number that the vocabulary of an entry has.
+fn last_of(vocabs: &IndexMap<String, u32>, entry: &Entry) -> Option<u32>
+    ensures { result ≡ get_by_text vocabs.now entry.now.vocab }
+{
+    vocabs.get(entry.vocab.as_str()).copied()
+}
+
+// The number that the vocabulary of the entry of a number has.
+fn last_numbered(entries: &[Entry], vocabs: &IndexMap<String, u32>, number: u32) -> Option<u32>
+    ensures { result ≡ entry_last vocabs.now (slice_get entries.now number) }
+{
+    match entries.get(number as usize) {
+        Some(entry) => last_of(vocabs, entry),
+        None => None,
+    }
+}
+
+// The number that the vocabulary of the entry with an index has.
+fn last_at(
+    entries: &[Entry],
+    vocabs: &IndexMap<String, u32>,
+    numbers: &[u32],
+    index: usize,
+) -> Option<u32>
+    ensures { result ≡ numbered_last vocabs.now entries.now (slice_get numbers.now index) }
+{
+    match numbers.get(index) {
+        Some(number) => last_numbered(entries, vocabs, *number),
+        None => None,
+    }
+}
+
+// The best number so far, or another, where its form gives a name a word and it is greater.
+fn with_last(
+    table: &Table,
+    forms: &[Brought],
+    name: &str,
+    last: Option<u32>,
+    best: Option<u32>,
+) -> Option<u32>
+    ensures { result ≡ with_vocab_number table.now forms.now name.now (twice last) best }
+{
+    match last {
+        Some(number) => with_number(table, forms, name, number, best),
+        None => best,
+    }
+}
+
+// The same as `best_of`, by the entries of what stands behind the prefix and a colon.
+fn best_by_entries(
+    table: &Table,
+    forms: &[Brought],
+    vocabs: &IndexMap<String, u32>,
+    numbers: &[u32],
+    rest: &str,
+    prefix: &str,
+    name: &str,
+    best: Option<u32>,
+) -> Option<u32>
+    requires kept { (v : List ℕ) → get_by_text vocabs.now v ≡ last_pair 0 prefix.now v forms.now }
+    requires numbers { numbers.now ≡ numbers_named 0 rest.now table.now }
+    requires rest { Some rest.now ≡ (if starts_with nat_eq name.now (prefix.now ++ codes ":") then Some (drop (length prefix.now + 1) name.now) else None) }
+    ensures { IsNext table.now forms.now name.now prefix.now best result }
+{
+    let mut next = best;
+    for index in 0..numbers.len() {
+        let last = last_at(table.entries(), vocabs, numbers, index);
+        next = with_last(table, forms, name, last, next);
+    }
+    next
+}
+
+// The best number so far, or that of a form of these vocabularies: by the vocabularies, or by the entries where these are fewer.
+fn best_of_fewer(
+    table: &Table,
+    forms: &[Brought],
+    vocabs: &IndexMap<String, u32>,
+    prefix: &str,
+    name: &str,
+    best: Option<u32>,
+) -> Option<u32>
+    requires { (v : List ℕ) → get_by_text vocabs.now v ≡ last_pair 0 prefix.now v forms.now }
+    ensures { IsNext table.now forms.now name.now prefix.now best result }
+{
+    match behind_prefix(name, prefix) {
+        Some(rest) => {
+            let numbers = table.numbers(rest);
+            if numbers.len() < vocabs.len() {
+                best_by_entries(table, forms, vocabs, numbers, rest, prefix, name, best)
+            } else {
+                best_of(table, forms, vocabs, prefix, name, best)
+            }
+        }
+        None => best_of(table, forms, vocabs, prefix, name, best),
+    }
+}
+
 // The best number so far, or that of a form with a prefix.
 fn best_behind(
     table: &Table,
@@ -215,7 +314,7 @@ fn best_behind(
         return best;
     }
     match prefixes.get(prefix) {
-        Some(vocabs) => best_of(table, forms, vocabs, prefix, name, best),
+        Some(vocabs) => best_of_fewer(table, forms, vocabs, prefix, name, best),
         None => best,
     }
 }

@@ -3,7 +3,7 @@ use Rattle.std.specs.Prelude.{ℕ, ◌≡◌, ◌≤◌, ◌+◌, nat_eq, nat_lt
 use Rattle.std.specs.List.{list_any}
 use Rattle.std.specs.Global.{Vec}
 use Rattle.std.specs.Str.{bytes_eq}
-use Rattle.indexmap.specs.IndexMap.{IndexMap}
+use Rattle.indexmap.specs.IndexMap.{IndexMap, get_by_text}
 use Rattle.fac_vocab.specs.Scopes.{Entry, Brought, named, prefixed, or_else, given_by}
 use Rattle.fac_vocab.specs.inner.Index.{numbers_in}
 use Rattle.fac_vocab.specs.inner.Pairs.{number_in}
@@ -91,3 +91,19 @@ pub record IsNext (table : List Entry) (forms : List Brought) (name prefix : Lis
 abbrev pub with_vocab_number : {K : Type 0} → List Entry → List Brought → List ℕ → Option (K × ℕ) → Option ℕ → Option ℕ
 with_vocab_number {K = K} table forms name None best = best
 with_vocab_number {K = K} table forms name (Some x) best = (if gives table forms name x.1 then later best (Some x.1) else best)
+
+-- the number that the vocabulary of an entry has
+abbrev pub entry_last : {Y S : Type 0} → IndexMap (String Y) ℕ S → Option Entry → Option ℕ
+entry_last vocabs None = None
+entry_last vocabs (Some e) = get_by_text vocabs e.vocab
+
+abbrev pub numbered_last : {Y S : Type 0} → IndexMap (String Y) ℕ S → List Entry → Option ℕ → Option ℕ
+numbered_last vocabs table None = None
+numbered_last vocabs table (Some k) = entry_last vocabs (slice_get table k)
+
+abbrev pub twice : Option ℕ → Option (ℕ × ℕ)
+twice None = None
+twice (Some n) = Some (n, n)
+
+abbrev pub entry_number : {Y S : Type 0} → IndexMap (String Y) ℕ S → List Entry → Option ℕ → Option (ℕ × ℕ)
+entry_number vocabs table o = twice (numbered_last vocabs table o)

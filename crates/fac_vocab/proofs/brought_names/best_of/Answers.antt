@@ -16,7 +16,7 @@ loop-index-preserved c =
     let is = sym c.with_vocab_at-next.ensures in (
       λ h. subst (λ (o : Option ℕ). GivesBest table forms name o) is (entry_gives table forms name entry c.loop-index.next (c.loop-index.invariant.0 h)),
       λ m h. subst (λ (o : Option ℕ). AtMost m o) is (entry_keeps table forms name entry c.loop-index.next m (c.loop-index.invariant.1 m h)),
-      subst (λ (o : Option ℕ). CoversTo table forms name c.args.vocabs.now.entries (c.loop-index.index + 1) o) is (covers_more table forms name c.args.vocabs.now.entries c.loop-index.index c.loop-index.next c.loop-index.invariant.2),
+      subst (λ (o : Option ℕ). CoversTo table forms name (slice_get c.args.vocabs.now.entries) (c.loop-index.index + 1) o) is (covers_more table forms name (slice_get c.args.vocabs.now.entries) c.loop-index.index c.loop-index.next c.loop-index.invariant.2),
     )
 
 pub returns : goal.returns
