@@ -16,7 +16,7 @@ use Rattle.fac_lang.specs.World.{World, State, pile, push, push_each}
 use Rattle.fac_lang.specs.Classes.{pick}
 use Rattle.fac_base.specs.HeightArithmetic.{curried_height, composed_height, fits}
 use Rattle.fac_lang.specs.Objects.{kind_of, get_slot, set_slot, put_slot}
-use Rattle.fac_lang.specs.Operations.{seen_no}
+use Rattle.fac_lang.specs.Operations.{seen_no, seen_word}
 use Rattle.fac_lang.specs.PrimitiveWords.{outputs_of}
 use Rattle.fac_lang.specs.Procedures.{Gives, gives, bad, Fn, fn0, fn1, fn2, fn3}
 use Rattle.fac_lang.specs.Primitives.{prim_fn}
@@ -36,7 +36,7 @@ use Rattle.fac_code.specs.declared.image.WordRow.{WordRow}
 use Rattle.fac_code.specs.declared.names.TrapWhy.TheVariants.{Kind as t_kind}
 use Rattle.fac_store.specs.MachineValues.{MValue, m_plain, m_fun, MCallable, m_lit, m_cur, m_com, kept_list, m_seen, machine_values}
 use Rattle.fac_store.specs.CallableHeights.{height_there, callable_height}
-use Rattle.fac_machine.specs.Machine.{Machine, Entry, resume, put_back, enter, Job, instr, acts, spent, failed, Step, goes_on, ends, after, given as machine_given, does as machine_does, word_with, or_trap, branch, method_for, template_heights, fits_in, row_height, back, returning, enters_method, enters_if, executes_if, does_core, does_action, fetched, step}
+use Rattle.fac_machine.specs.Machine.{Machine, Entry, resume, put_back, enter, Job, instr, acts, spent, failed, Step, goes_on, ends, after, given as machine_given, does as machine_does, popping1, word_with, or_trap, branch, method_for, template_heights, fits_in, row_height, back, returning, enters_method, enters_if, tested_call, executes, executes_if, tested_word, does_core, does_action, fetched, step}
 use Rattle.fac_machine.proofs.Leading.{leads_none, leads_step, ends_step}
 use Rattle.fac_carry.specs.Accessors.{Accessor, getting, setting, putting, accessor_action, accessor_ins, accessor_outs, accessor_fn}
 use Rattle.fac_carry.specs.MachineView.{Templates, value_view, callable_view, values_view, kept_view, world_view, state_view}
@@ -56,7 +56,7 @@ use Rattle.fac_carry.proofs.FittingHeights.{fits_so}
 use Rattle.fac_carry.specs.Setting.{Setting}
 use Rattle.fac_carry.proofs.Following.{state, HasNoGuard, at, left, Follows, step_before, fetch, spent_here, then_follows, Live, LivePhrase, Go, Behind, CallsTo, Templated, first_goes, first_runs, live_goes, live_runs, wrong_here, then_done, live_phrase}
 use Rattle.fac_carry.proofs.CaseLemmas.{prim_acts, prim_goes, prim_done, fails_so}
-use Rattle.fac_carry.proofs.CallLemmas.{pile_views, ret_resume, phrase_runs, enters, g_ran, g_entered, core_is, chosen}
+use Rattle.fac_carry.proofs.CallLemmas.{pile_views, Rest, entries, leaves, unguarded, goes_back, phrase_runs, enters, g_ran, g_entered, core_is, chosen}
 use Rattle.fac_carry.proofs.ClassCases.{accesses_so, accessor_done, kinds_same, m_isa, isa_done, boa_done, row_goes}
 
 module _ (Y : Setting) where
@@ -314,20 +314,21 @@ module _ (Y : Setting) where
 
   -- An instruction behind which a word comes next, and the rest behind it.
   g_executed : (f : ℕ) (F : List MValue) → Templated Y f → ((m a : ℕ) → HasCode P M m a → CallsTo Y (Some Ret) f [] a [] (word_phrase P m)) → ((a : ℕ) (d : WordDef) → slice_get P.words a ≡ Some d → is_top_phrase P a ≡ false → HasAction P M a) →
-      (last : Option Instr) (i : Item) (p : Place) (t : Phrase) (K : List Task) (pc : ℕ) → Go Y f F last zero [] (do_phrase t ∷ K) (pc + 1) → (R : List Entry) (base ms rs : List MValue) (vs : List Value) (L : List Left) (w : World MValue) (n : ℕ) → suc n < suc f →
+      (tail : Bool) (last : Option Instr) (i : Item) (p : Place) (t : Phrase) (K : List Task) (pc : ℕ) → Rest Y f F pc tail last t K → (R : List Entry) (base ms rs : List MValue) (vs : List Value) (L : List Left) (w : World MValue) (n : ℕ) → suc n < suc f →
       Keeps T base K rs L → (a : ℕ) → Fine F rs (m_plain (wrd a) ∷ ms) w → A i (state vs (V w)) ≡ runs (of_phrase (alone a)) (state_view T ms w) [] → Live Y (l_phrase (then i p t) ∷ L) (state vs (V w)) → (s : Machine) (N : ℕ) →
-      stepping s N ≡ goes_on (doing (acts a) F pc ms rs (resume (pc + 1) F ∷ R) w) n → Follows Y last R base s N (left Y (l_phrase (then i p t) ∷ L) (state vs (V w)) (suc n))
-  g_executed f F tpl words actions last i p t K pc go R base ms rs vs L w n lt h a ok acted lv s N e =
-      let own = resume (pc + 1) F ∷ R in
-      g_ran Y f F last i p t K pc go R (resume (pc + 1) F ∷ []) (tt, tt) base rs L n (omega (arith, lt)) ok.cells ok.held h (state vs (V w)) (state_view T ms w) (of_phrase (alone a)) [] tt acted (ret_resume Y F pc R rs) lv s N
+      stepping s N ≡ goes_on (doing (acts a) F pc ms rs (entries Y tail F pc ++ R) w) n → Follows Y last R base s N (left Y (l_phrase (then i p t) ∷ L) (state vs (V w)) (suc n))
+  g_executed f F tpl words actions tail last i p t K pc rest R base ms rs vs L w n lt h a ok acted lv s N e =
+      let own = entries Y tail F pc ++ R in
+      g_ran Y last i p t R (entries Y tail F pc) (unguarded Y tail F pc) base rs L n (state vs (V w)) (state_view T ms w) (of_phrase (alone a)) [] acted
+      (goes_back Y f F pc tail last t K rest R base rs L h ok.cells ok.held n (omega (arith, lt))) lv s N
       (λ live. step_before Y (Some Ret) own rs s (doing (acts a) F pc ms rs own w) N n _ e
       (executed f tpl words actions n (omega (arith, lt)) F pc own rs w a ms ok.values.0 (record { cells = ok.cells; held = ok.held; values = ok.values.1; objects = ok.objects }) live))
 
   pub g_execute : (f : ℕ) (F : List MValue) → Templated Y f → ((m a : ℕ) → HasCode P M m a → CallsTo Y (Some Ret) f [] a [] (word_phrase P m)) → ((a : ℕ) (d : WordDef) → slice_get P.words a ≡ Some d → is_top_phrase P a ≡ false → HasAction P M a) →
-      (last : Option Instr) (wd : ℕ) (p : Place) (t : Phrase) (S : List Sym) (K : List Task) (pc : ℕ) → sort_of P wd ≡ Some (core_sort c_execute) → AllHere S → slice_get M.code pc ≡ Some (Execute false) →
-      Go Y f F last zero [] (do_phrase t ∷ K) (pc + 1) → Go Y f F last zero S (do_phrase (then (word wd) p t) ∷ K) pc
-  g_execute f F tpl words actions last wd p t S K pc es a e go R base ms rs vs L w zero le ok lv l (keeps_phrase h) = spent_here Y last R base (at F pc ms rs R w) (state vs (V w)) (Some (word wd)) (Execute false) e refl refl
-  g_execute f F tpl words actions last wd p t S K pc es a e go R base ms rs vs L w (suc n) le ok lv l (keeps_phrase {L = L1} h) = one ms vs (sym (all_here T S ms vs a l)) ok lv
+      (tail : Bool) (last : Option Instr) (wd : ℕ) (p : Place) (t : Phrase) (S : List Sym) (K : List Task) (pc : ℕ) → sort_of P wd ≡ Some (core_sort c_execute) → AllHere S → slice_get M.code pc ≡ Some (Execute tail) →
+      Rest Y f F pc tail last t K → Go Y f F last zero S (do_phrase (then (word wd) p t) ∷ K) pc
+  g_execute f F tpl words actions tail last wd p t S K pc es a e rest R base ms rs vs L w zero le ok lv l (keeps_phrase h) = spent_here Y last R base (at F pc ms rs R w) (state vs (V w)) (Some (word wd)) (Execute tail) e refl refl
+  g_execute f F tpl words actions tail last wd p t S K pc es a e rest R base ms rs vs L w (suc n) le ok lv l (keeps_phrase {L = L1} h) = one ms vs (sym (all_here T S ms vs a l)) ok lv
     where
       stuck : (ms : List MValue) (vs : List Value) → A (word wd) (state vs (V w)) ≡ wrong → Live Y (l_phrase (then (word wd) p t) ∷ L1) (state vs (V w)) → Follows Y last R base (at F pc ms rs R w) (suc n) (left Y (l_phrase (then (word wd) p t) ∷ L1) (state vs (V w)) (suc n))
       stuck ms vs is lv = wrong_here Y (word wd) p t L1 (state vs (V w)) is lv
@@ -345,76 +346,83 @@ module _ (Y : Setting) where
       one (m_plain (tup b) ∷ ms) vs is ok lv = stuck (m_plain (tup b) ∷ ms) vs (core_is Y wd c_execute (state vs (V w)) es ∙ rw is refl) lv
       one (m_plain (wrd d) ∷ ms) vs is ok lv =
           let s = at F pc (m_plain (wrd d) ∷ ms) rs R w in
-          g_executed f F tpl words actions last (word wd) p t K pc go R base ms rs vs L1 w n (omega (arith, le)) h d ok (core_is Y wd c_execute (state vs (V w)) es ∙ rw is refl) lv s (suc n) (fetch Y s (suc n) (Execute false) e)
+          g_executed f F tpl words actions tail last (word wd) p t K pc rest R base ms rs vs L1 w n (omega (arith, le)) h d ok (core_is Y wd c_execute (state vs (V w)) es ∙ rw is refl) lv s (suc n)
+          (fetch Y s (suc n) (Execute tail) e ∙ ap (λ (u : Machine). executes M u n) (leaves Y tail F pc (m_plain (wrd d) ∷ ms) rs R w))
 
   -- a callable that is tested
-  pub g_call_effect : (f : ℕ) (F : List MValue) → Templated Y f → (last : Option Instr) (q : Height) (p : Place) (t : Phrase) (S : List Sym) (K : List Task) (pc : ℕ) → AllHere S → slice_get M.code pc ≡ Some (CallEffect q false) →
-      Go Y f F last zero [] (do_phrase t ∷ K) (pc + 1) → Go Y f F last zero S (do_phrase (then (call_effect q) p t) ∷ K) pc
-  g_call_effect f F tpl last q p t S K pc a e go R base ms rs vs L w zero le ok lv l (keeps_phrase h) = spent_here Y last R base (at F pc ms rs R w) (state vs (V w)) (Some (call_effect q)) (CallEffect q false) e refl refl
-  g_call_effect f F tpl last q p t S K pc a e go R base ms rs vs L w (suc n) le ok lv l (keeps_phrase {L = L1} h) = one ms vs (sym (all_here T S ms vs a l)) ok lv
+  pub g_call_effect : (f : ℕ) (F : List MValue) → Templated Y f → (tail : Bool) (last : Option Instr) (q : Height) (p : Place) (t : Phrase) (S : List Sym) (K : List Task) (pc : ℕ) → AllHere S → slice_get M.code pc ≡ Some (CallEffect q tail) →
+      Rest Y f F pc tail last t K → Go Y f F last zero S (do_phrase (then (call_effect q) p t) ∷ K) pc
+  g_call_effect f F tpl tail last q p t S K pc a e rest R base ms rs vs L w zero le ok lv l (keeps_phrase h) = spent_here Y last R base (at F pc ms rs R w) (state vs (V w)) (Some (call_effect q)) (CallEffect q tail) e refl refl
+  g_call_effect f F tpl tail last q p t S K pc a e rest R base ms rs vs L w (suc n) le ok lv l (keeps_phrase {L = L1} h) = one ms vs (sym (all_here T S ms vs a l)) ok lv
     where
+      tests : (v : MValue) (ms : List MValue) → fetched M (Some (CallEffect q tail)) (at F pc (v ∷ ms) rs R w) (suc n) ≡ tested_call M q v (at F pc ms rs (entries Y tail F pc ++ R) w) n
+      tests v ms = ap (λ (u : Machine). popping1 u.stack u n (λ v s'. tested_call M q v s' n)) (leaves Y tail F pc (v ∷ ms) rs R w)
+
       unfit : (v : MValue) (ms : List MValue) (vs : List Value) → A (call_effect q) (state vs (V w)) ≡ error WrongValues (value_view T v) word_call (state (values_view T ms) (V w)) →
-          fetched M (Some (CallEffect q false)) (at F pc (v ∷ ms) rs R w) (suc n) ≡ ends (failed (record { name = WrongValues; value = Some v; word = word_call }) (at F pc ms rs (resume (pc + 1) F ∷ R) w) n) →
+          fetched M (Some (CallEffect q tail)) (at F pc (v ∷ ms) rs R w) (suc n) ≡ ends (failed (record { name = WrongValues; value = Some v; word = word_call }) (at F pc ms rs (entries Y tail F pc ++ R) w) n) →
           Follows Y last R base (at F pc (v ∷ ms) rs R w) (suc n) (left Y (l_phrase (then (call_effect q) p t) ∷ L1) (state vs (V w)) (suc n))
       unfit v ms vs acted steps =
           let s = at F pc (v ∷ ms) rs R w in
-          fails_so Y F last (call_effect q) p t L1 R (resume (pc + 1) F ∷ []) (tt, tt) base rs ms (state vs (V w)) w pc n WrongValues v word_call acted s (suc n) (fetch Y s (suc n) (CallEffect q false) e ∙ steps)
+          fails_so Y F last (call_effect q) p t L1 R (entries Y tail F pc) (unguarded Y tail F pc) base rs ms (state vs (V w)) w pc n WrongValues v word_call acted s (suc n) (fetch Y s (suc n) (CallEffect q tail) e ∙ steps)
 
       -- by whether it fits
       by : (b : Bool) (c : MCallable) (ms : List MValue) (vs : List Value) → A (call_effect q) (state vs (V w)) ≡ either b (runs (callable_view T c) (state_view T ms w) []) (error WrongValues (fun (callable_view T c)) word_call (state_view T ms w)) →
-          fetched M (Some (CallEffect q false)) (at F pc (m_fun c ∷ ms) rs R w) (suc n) ≡ enters_if M b c (at F pc ms rs (resume (pc + 1) F ∷ R) w) n → Fine F rs (m_fun c ∷ ms) w → Live Y (l_phrase (then (call_effect q) p t) ∷ L1) (state vs (V w)) →
+          fetched M (Some (CallEffect q tail)) (at F pc (m_fun c ∷ ms) rs R w) (suc n) ≡ enters_if M b c (at F pc ms rs (entries Y tail F pc ++ R) w) n → Fine F rs (m_fun c ∷ ms) w → Live Y (l_phrase (then (call_effect q) p t) ∷ L1) (state vs (V w)) →
           Follows Y last R base (at F pc (m_fun c ∷ ms) rs R w) (suc n) (left Y (l_phrase (then (call_effect q) p t) ∷ L1) (state vs (V w)) (suc n))
       by true c ms vs acted steps ok lv =
           let s = at F pc (m_fun c ∷ ms) rs R w in
-          g_entered Y f F tpl last (call_effect q) p t K pc go R (resume (pc + 1) F ∷ []) (tt, tt) base (m_fun c ∷ ms) ms rs vs L1 w n le ok.cells (record { cells = tt; held = ok.held; values = ok.values.1; objects = ok.objects }) h c ok.values.0
-          [] tt acted (fetch Y s (suc n) (CallEffect q false) e ∙ steps) (ret_resume Y F pc R rs) lv
+          g_entered Y f F tpl last (call_effect q) p t pc R (entries Y tail F pc) (unguarded Y tail F pc) base (m_fun c ∷ ms) ms rs vs L1 w n le (record { cells = tt; held = ok.held; values = ok.values.1; objects = ok.objects }) c ok.values.0
+          [] acted (fetch Y s (suc n) (CallEffect q tail) e ∙ steps) (goes_back Y f F pc tail last t K rest R base rs L1 h ok.cells ok.held n (omega (arith, le))) lv
       by false c ms vs acted steps ok lv = unfit (m_fun c) ms vs acted steps
 
       one : (ms : List MValue) (vs : List Value) → vs ≡ values_view T ms → Fine F rs ms w → Live Y (l_phrase (then (call_effect q) p t) ∷ L1) (state vs (V w)) →
           Follows Y last R base (at F pc ms rs R w) (suc n) (left Y (l_phrase (then (call_effect q) p t) ∷ L1) (state vs (V w)) (suc n))
       one [] vs is ok lv = wrong_here Y (call_effect q) p t L1 (state vs (V w)) (rw is refl) lv
-      one (m_plain x ∷ ms) vs is ok lv = unfit (m_plain x) ms vs (rw is refl) refl
+      one (m_plain x ∷ ms) vs is ok lv = unfit (m_plain x) ms vs (rw is refl) (tests (m_plain x) ms)
       one (m_fun c ∷ ms) vs is ok lv =
           let st' = state_view T ms w in
           let cv = callable_view T c in
           let b = fits_in q (machine_height c) in
-          by b c ms vs (rw is (ap (λ (b : Bool). either b (runs cv st' []) (error WrongValues (fun cv) word_call st')) (callables_tested (record { place = pc; height = q; tail = false; there = e }) q c ok.values.0))) refl ok lv
+          by b c ms vs (rw is (ap (λ (b : Bool). either b (runs cv st' []) (error WrongValues (fun cv) word_call st')) (callables_tested (record { place = pc; height = q; tail = tail; there = e }) q c ok.values.0))) (tests (m_fun c) ms) ok lv
 
   -- a word that is tested
   pub g_execute_effect : (f : ℕ) (F : List MValue) → Templated Y f → ((m a : ℕ) → HasCode P M m a → CallsTo Y (Some Ret) f [] a [] (word_phrase P m)) → ((a : ℕ) (d : WordDef) → slice_get P.words a ≡ Some d → is_top_phrase P a ≡ false → HasAction P M a) →
-      (last : Option Instr) (q : Height) (p : Place) (t : Phrase) (S : List Sym) (K : List Task) (pc : ℕ) → AllHere S → slice_get M.code pc ≡ Some (ExecuteEffect q false) → Go Y f F last zero [] (do_phrase t ∷ K) (pc + 1) →
+      (tail : Bool) (last : Option Instr) (q : Height) (p : Place) (t : Phrase) (S : List Sym) (K : List Task) (pc : ℕ) → AllHere S → slice_get M.code pc ≡ Some (ExecuteEffect q tail) → Rest Y f F pc tail last t K →
       Go Y f F last zero S (do_phrase (then (execute_effect q) p t) ∷ K) pc
-  g_execute_effect f F tpl words actions last q p t S K pc a e go R base ms rs vs L w zero le ok lv l (keeps_phrase h) = spent_here Y last R base (at F pc ms rs R w) (state vs (V w)) (Some (execute_effect q)) (ExecuteEffect q false) e refl refl
-  g_execute_effect f F tpl words actions last q p t S K pc a e go R base ms rs vs L w (suc n) le ok lv l (keeps_phrase {L = L1} h) = one ms vs (sym (all_here T S ms vs a l)) ok lv
+  g_execute_effect f F tpl words actions tail last q p t S K pc a e rest R base ms rs vs L w zero le ok lv l (keeps_phrase h) = spent_here Y last R base (at F pc ms rs R w) (state vs (V w)) (Some (execute_effect q)) (ExecuteEffect q tail) e refl refl
+  g_execute_effect f F tpl words actions tail last q p t S K pc a e rest R base ms rs vs L w (suc n) le ok lv l (keeps_phrase {L = L1} h) = one ms vs (sym (all_here T S ms vs a l)) ok lv
     where
+      tests : (v : MValue) (ms : List MValue) → fetched M (Some (ExecuteEffect q tail)) (at F pc (v ∷ ms) rs R w) (suc n) ≡ tested_word M q v (seen_word (m_seen v)) (at F pc ms rs (entries Y tail F pc ++ R) w) n
+      tests v ms = ap (λ (u : Machine). popping1 u.stack u n (λ v s'. tested_word M q v (seen_word (m_seen v)) s' n)) (leaves Y tail F pc (v ∷ ms) rs R w)
+
       unfit : (v : MValue) (ms : List MValue) (vs : List Value) → A (execute_effect q) (state vs (V w)) ≡ error WrongValues (value_view T v) word_execute (state (values_view T ms) (V w)) →
-          fetched M (Some (ExecuteEffect q false)) (at F pc (v ∷ ms) rs R w) (suc n) ≡ ends (failed (record { name = WrongValues; value = Some v; word = word_execute }) (at F pc ms rs (resume (pc + 1) F ∷ R) w) n) →
+          fetched M (Some (ExecuteEffect q tail)) (at F pc (v ∷ ms) rs R w) (suc n) ≡ ends (failed (record { name = WrongValues; value = Some v; word = word_execute }) (at F pc ms rs (entries Y tail F pc ++ R) w) n) →
           Follows Y last R base (at F pc (v ∷ ms) rs R w) (suc n) (left Y (l_phrase (then (execute_effect q) p t) ∷ L1) (state vs (V w)) (suc n))
       unfit v ms vs acted steps =
           let s = at F pc (v ∷ ms) rs R w in
-          fails_so Y F last (execute_effect q) p t L1 R (resume (pc + 1) F ∷ []) (tt, tt) base rs ms (state vs (V w)) w pc n WrongValues v word_execute acted s (suc n) (fetch Y s (suc n) (ExecuteEffect q false) e ∙ steps)
+          fails_so Y F last (execute_effect q) p t L1 R (entries Y tail F pc) (unguarded Y tail F pc) base rs ms (state vs (V w)) w pc n WrongValues v word_execute acted s (suc n) (fetch Y s (suc n) (ExecuteEffect q tail) e ∙ steps)
 
       -- by whether it fits
       by : (b : Bool) (d : ℕ) (ms : List MValue) (vs : List Value) → A (execute_effect q) (state vs (V w)) ≡ either b (run_phrase (alone d) (state_view T ms w)) (error WrongValues (plain (wrd d)) word_execute (state_view T ms w)) →
-          fetched M (Some (ExecuteEffect q false)) (at F pc (m_plain (wrd d) ∷ ms) rs R w) (suc n) ≡ executes_if M b (m_plain (wrd d)) d (at F pc ms rs (resume (pc + 1) F ∷ R) w) n → Fine F rs (m_plain (wrd d) ∷ ms) w →
+          fetched M (Some (ExecuteEffect q tail)) (at F pc (m_plain (wrd d) ∷ ms) rs R w) (suc n) ≡ executes_if M b (m_plain (wrd d)) d (at F pc ms rs (entries Y tail F pc ++ R) w) n → Fine F rs (m_plain (wrd d) ∷ ms) w →
           Live Y (l_phrase (then (execute_effect q) p t) ∷ L1) (state vs (V w)) → Follows Y last R base (at F pc (m_plain (wrd d) ∷ ms) rs R w) (suc n) (left Y (l_phrase (then (execute_effect q) p t) ∷ L1) (state vs (V w)) (suc n))
       by true d ms vs acted steps ok lv =
           let s = at F pc (m_plain (wrd d) ∷ ms) rs R w in
-          g_executed f F tpl words actions last (execute_effect q) p t K pc go R base ms rs vs L1 w n (omega (arith, le)) h d ok acted lv s (suc n) (fetch Y s (suc n) (ExecuteEffect q false) e ∙ steps)
+          g_executed f F tpl words actions tail last (execute_effect q) p t K pc rest R base ms rs vs L1 w n (omega (arith, le)) h d ok acted lv s (suc n) (fetch Y s (suc n) (ExecuteEffect q tail) e ∙ steps)
       by false d ms vs acted steps ok lv = unfit (m_plain (wrd d)) ms vs acted steps
 
       one : (ms : List MValue) (vs : List Value) → vs ≡ values_view T ms → Fine F rs ms w → Live Y (l_phrase (then (execute_effect q) p t) ∷ L1) (state vs (V w)) →
           Follows Y last R base (at F pc ms rs R w) (suc n) (left Y (l_phrase (then (execute_effect q) p t) ∷ L1) (state vs (V w)) (suc n))
       one [] vs is ok lv = wrong_here Y (execute_effect q) p t L1 (state vs (V w)) (rw is refl) lv
-      one (m_fun c ∷ ms) vs is ok lv = unfit (m_fun c) ms vs (rw is refl) refl
-      one (m_plain (int z) ∷ ms) vs is ok lv = unfit (m_plain (int z)) ms vs (rw is refl) refl
-      one (m_plain yes ∷ ms) vs is ok lv = unfit (m_plain yes) ms vs (rw is refl) refl
-      one (m_plain no ∷ ms) vs is ok lv = unfit (m_plain no) ms vs (rw is refl) refl
-      one (m_plain (str cs) ∷ ms) vs is ok lv = unfit (m_plain (str cs)) ms vs (rw is refl) refl
-      one (m_plain (iota i) ∷ ms) vs is ok lv = unfit (m_plain (iota i)) ms vs (rw is refl) refl
-      one (m_plain (arr b) ∷ ms) vs is ok lv = unfit (m_plain (arr b)) ms vs (rw is refl) refl
-      one (m_plain (tup b) ∷ ms) vs is ok lv = unfit (m_plain (tup b)) ms vs (rw is refl) refl
+      one (m_fun c ∷ ms) vs is ok lv = unfit (m_fun c) ms vs (rw is refl) (tests (m_fun c) ms)
+      one (m_plain (int z) ∷ ms) vs is ok lv = unfit (m_plain (int z)) ms vs (rw is refl) (tests (m_plain (int z)) ms)
+      one (m_plain yes ∷ ms) vs is ok lv = unfit (m_plain yes) ms vs (rw is refl) (tests (m_plain yes) ms)
+      one (m_plain no ∷ ms) vs is ok lv = unfit (m_plain no) ms vs (rw is refl) (tests (m_plain no) ms)
+      one (m_plain (str cs) ∷ ms) vs is ok lv = unfit (m_plain (str cs)) ms vs (rw is refl) (tests (m_plain (str cs)) ms)
+      one (m_plain (iota i) ∷ ms) vs is ok lv = unfit (m_plain (iota i)) ms vs (rw is refl) (tests (m_plain (iota i)) ms)
+      one (m_plain (arr b) ∷ ms) vs is ok lv = unfit (m_plain (arr b)) ms vs (rw is refl) (tests (m_plain (arr b)) ms)
+      one (m_plain (tup b) ∷ ms) vs is ok lv = unfit (m_plain (tup b)) ms vs (rw is refl) (tests (m_plain (tup b)) ms)
       one (m_plain (wrd d) ∷ ms) vs is ok lv =
           let st' = state_view T ms w in
           let b = fits_in q (row_height (slice_get M.words d)) in
-          by b d ms vs (rw is (ap (λ (b : Bool). either b (run_phrase (alone d) st') (error WrongValues (plain (wrd d)) word_execute st')) (sym (Y.words d q)))) refl ok lv
+          by b d ms vs (rw is (ap (λ (b : Bool). either b (run_phrase (alone d) st') (error WrongValues (plain (wrd d)) word_execute st')) (sym (Y.words d q)))) (tests (m_plain (wrd d)) ms) ok lv

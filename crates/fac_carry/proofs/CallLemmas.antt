@@ -5,10 +5,10 @@ use Rattle.fac_base.specs.declared.place.Place.{Place}
 use Rattle.fac_lang.specs.declared.program.Program.{Program}
 use Rattle.fac_lang.specs.declared.program.Sort.{Sort}
 use Rattle.fac_lang.specs.declared.program.Sort.TheVariants.{Core as core_sort, Body as body, Method as method}
-use Rattle.fac_lang.specs.Phrases.{Phrase, then, Item, word, Value, fun, Callable, of_phrase}
+use Rattle.fac_lang.specs.Phrases.{Phrase, end, then, Item, word, Value, fun, Callable, of_phrase}
 use Rattle.fac_lang.specs.World.{World, State, pile, push_each}
 use Rattle.fac_lang.specs.Operations.{seen_no}
-use Rattle.fac_lang.specs.Eval.{Result, Stuck, then_do, Act, runs, Run, run_callable}
+use Rattle.fac_lang.specs.Eval.{Result, Done, Stuck, then_do, Act, runs, Run, run_callable}
 use Rattle.fac_base.specs.HeightArithmetic.{fits}
 use Rattle.fac_lang.specs.declared.core_table.CoreWord.{CoreWord}
 use Rattle.fac_lang.specs.declared.core_table.CoreWord.TheVariants.{Call as w_call, Dip as w_dip, If as w_if}
@@ -21,14 +21,14 @@ use Rattle.fac_code.specs.declared.image.WordRow.{WordRow}
 use Rattle.fac_code.specs.declared.image.Action.TheVariants as action
 use Rattle.fac_code.specs.declared.names.TrapWhy.TheVariants.{Kind as t_kind}
 use Rattle.fac_store.specs.MachineValues.{MValue, m_plain, m_fun, MCallable, m_lit, m_cur, m_com, kept_list, m_seen}
-use Rattle.fac_machine.specs.Machine.{Machine, Entry, resume, put_back, enter, Step, goes_on, or_trap, code_of, branch, entering, fetched, step}
-use Rattle.fac_machine.proofs.Leading.{ends_step}
+use Rattle.fac_machine.specs.Machine.{Machine, Entry, resume, put_back, enter, Step, goes_on, or_trap, code_of, leaving, branch, entering, enters_word, calls as machine_calls, ifs, fetched, step}
+use Rattle.fac_machine.proofs.Leading.{leads_none, ends_step}
 use Rattle.fac_carry.specs.MachineView.{Templates, value_view, callable_view, values_view, world_view, state_view}
 use Rattle.fac_carry.specs.Stands.{RunsPhrase, HasCode}
 use Rattle.fac_carry.specs.WholeValues as whole
-use Rattle.fac_carry.specs.Symbols.{Sym, Task, do_phrase, AllHere}
+use Rattle.fac_carry.specs.Symbols.{Sym, Task, do_phrase, Empties, no_task, end_task, AllHere}
 use Rattle.fac_carry.proofs.RunLaws.{free, spares, Stays, stays_phrase, stays_call, live_first, live_rest}
-use Rattle.fac_carry.proofs.SymbolicStacks.{Left, l_phrase, Lies, lies_none, Keeps, keeps_phrase, all_here}
+use Rattle.fac_carry.proofs.SymbolicStacks.{Left, l_phrase, Lies, lies_none, Keeps, keeps_none, keeps_phrase, all_here}
 use Rattle.fac_carry.proofs.WholeValueLemmas.{pile_whole, kept_whole, branch_whole}
 use Rattle.fac_carry.proofs.SamePrimitives.{seen_same}
 use Rattle.fac_carry.specs.Setting.{Setting}
@@ -74,25 +74,79 @@ module _ (Y : Setting) where
   pile_views [] ms = refl
   pile_views (v ∷ put) ms = pile_views put (v ∷ ms)
 
-  -- What runs behind a run that a step entered: at its `ret` the machine goes on behind the instruction, where values are put back.
-  behind : (f : ℕ) (F : List MValue) (last : Option Instr) (t : Phrase) (K : List Task) (pc : ℕ) → Go Y f F last zero [] (do_phrase t ∷ K) (pc + 1) → (R own : List Entry) → HasNoGuard own → (base rs : List MValue) (L : List Left) →
+  -- Behind a run: from a step of its `ret`, with entries of its own above R, values are put back and the machine follows what is left.
+  abbrev pub GoesBack : Option Instr → List Entry → List Entry → List MValue → List MValue → List MValue → List Left → ℕ → Type 0
+  GoesBack last R own base rs put L n =
+      (s : Machine) (k : ℕ) (G : List MValue) (pc : ℕ) (ms : List MValue) (w : World MValue) (m : ℕ) → m ≤ n → Fine [] [] ms w → Live Y L (push_each (values_view T put) (state_view T ms w)) → stepping s k ≡ fetched M (Some Ret) (at G pc ms rs (own ++ R) w) m →
+      Follows Y last R base s k (left Y L (push_each (values_view T put) (state_view T ms w)) m)
+
+  -- What runs behind a run that a step entered.
+  behind : (last : Option Instr) (R own : List Entry) → HasNoGuard own → (base rs : List MValue) (L : List Left) (put : List MValue) (n : ℕ) → GoesBack last R own base rs put L n → (X : ℕ → Result) → Stays X → (s : Machine) (N : ℕ) → Within n (X n) →
+      ((m : ℕ) → then_do (X m) (λ st k. left Y L (push_each (values_view T put) st) k) ≢ Stuck) → Follows Y (Some Ret) (own ++ R) rs s N (X n) →
+      Follows Y last R base s N (then_do (X n) (λ st k. left Y L (push_each (values_view T put) st) k))
+  behind last R own none base rs L put n back X stays s N within lv first =
+      let rest = λ (st : State Value) (k : ℕ). left Y L (push_each (values_view T put) st) k in
+      let rest_stays = λ (st : State Value). stays_left Y L (push_each (values_view T put) st) in
+      then_follows Y n last R own none base rs s N (X n) rest within first
+      (λ x j G pc2 ms2 w2 m lem ok is does. back x j G pc2 ms2 w2 m lem ok (live_rest X rest stays rest_stays lv n m (state_view T ms2 w2) is) does)
+
+  -- where the machine goes on behind the instruction, once values were put back
+  goes_behind : (f : ℕ) (F : List MValue) (last : Option Instr) (t : Phrase) (K : List Task) (pc : ℕ) → Go Y f F last zero [] (do_phrase t ∷ K) (pc + 1) → (R own : List Entry) (base rs : List MValue) (L : List Left) →
       Keeps T base K rs L → AllWhole F → AllWhole rs → (put : List MValue) → AllWhole put →
-      ((G : List MValue) (pc2 : ℕ) (ms2 : List MValue) (w2 : World MValue) (m : ℕ) → fetched M (Some Ret) (at G pc2 ms2 rs (own ++ R) w2) m ≡ goes_on (at F (pc + 1) (pile put ms2) rs R w2) m) → (X : ℕ → Result) →
-      Stays X → (s : Machine) (N n : ℕ) → n ≤ f → Within n (X n) → ((m : ℕ) → then_do (X m) (λ st k. left Y (l_phrase t ∷ L) (push_each (values_view T put) st) k) ≢ Stuck) → Follows Y (Some Ret) (own ++ R) rs s N (X n) →
-      Follows Y last R base s N (then_do (X n) (λ st k. left Y (l_phrase t ∷ L) (push_each (values_view T put) st) k))
-  behind f F last t K pc go R own none base rs L h hf hr put hp back_step X stays s N n le within lv first =
-      let rest = λ (st : State Value) (k : ℕ). left Y (l_phrase t ∷ L) (push_each (values_view T put) st) k in
-      let rest_stays = λ (st : State Value). stays_left Y (l_phrase t ∷ L) (push_each (values_view T put) st) in
-      then_follows Y n last R own none base rs s N (X n) rest within first (λ x j G pc2 ms2 w2 m lem ok is does.
-      let live = live_rest X rest stays rest_stays lv n m (state_view T ms2 w2) is in
+      ((G : List MValue) (pc2 : ℕ) (ms2 : List MValue) (w2 : World MValue) (m : ℕ) → fetched M (Some Ret) (at G pc2 ms2 rs (own ++ R) w2) m ≡ goes_on (at F (pc + 1) (pile put ms2) rs R w2) m) → (n : ℕ) → n ≤ f →
+      GoesBack last R own base rs put (l_phrase t ∷ L) n
+  goes_behind f F last t K pc go R own base rs L h hf hr put hp back_step n le s k G pc2 ms2 w2 m lem ok live does =
       let same = pile_views put ms2 in
       let ok1 : Fine F rs (pile put ms2) w2 = record { cells = hf; held = hr; values = pile_whole P M put ms2 hp ok.values; objects = ok.objects } in
-      step_before Y last R base x (at F (pc + 1) (pile put ms2) rs R w2) j m _ (does ∙ back_step G pc2 ms2 w2 m)
+      step_before Y last R base s (at F (pc + 1) (pile put ms2) rs R w2) k m _ (does ∙ back_step G pc2 ms2 w2 m)
       (subst (λ (us : List Value). Follows Y last R base (at F (pc + 1) (pile put ms2) rs R w2) m (left Y (l_phrase t ∷ L) (state us (V w2)) m)) same
-      (go R base (pile put ms2) rs (values_view T (pile put ms2)) (l_phrase t ∷ L) w2 m (omega (arith, lem, le)) ok1 (λ k. subst (λ (us : List Value). left Y (l_phrase t ∷ L) (state us (V w2)) k ≢ Stuck) (sym same) (live k)) lies_none (keeps_phrase h))))
+      (go R base (pile put ms2) rs (values_view T (pile put ms2)) (l_phrase t ∷ L) w2 m (omega (arith, lem, le)) ok1 (λ k. subst (λ (us : List Value). left Y (l_phrase t ∷ L) (state us (V w2)) k ≢ Stuck) (sym same) (live k)) lies_none (keeps_phrase h)))
+
+  -- where nothing is left to do: no value is held, and the meaning ends
+  record Nothing (base rs : List MValue) (L : List Left) : Type 0 where
+    same : rs ≡ base
+    ends : (st : State Value) (n : ℕ) → left Y L st n ≡ Done st n
+
+  nothing : (base rs : List MValue) (K : List Task) (L : List Left) → Empties K → Keeps T base K rs L → Nothing base rs L
+  nothing base rs K L no_task keeps_none = record { same = refl; ends = λ st n. refl }
+  nothing base rs K L (end_task {K = K1} e) (keeps_phrase {L = L1} h) = let x = nothing base rs K1 L1 e h in record { same = x.same; ends = x.ends }
+
+  nothing_behind : (K : List Task) → Empties K → (R : List Entry) (base rs : List MValue) (L : List Left) → Keeps T base K rs L → (n : ℕ) → GoesBack (Some Ret) R [] base rs [] (l_phrase end ∷ L) n
+  nothing_behind K empties R base rs L h n s k G pc ms w m lem ok live does =
+      let none = nothing base rs K L empties h in
+      subst (λ (r : Result). Follows Y (Some Ret) R base s k r) (sym (none.ends (state_view T ms w) m)) (record {
+        stood = s;
+        ticks = k;
+        leads = leads_none M s k;
+        pc = pc;
+        frame = G;
+        stack = ms;
+        world = w;
+        does = subst (λ (xs : List MValue). stepping s k ≡ fetched M (Some Ret) (at G pc ms xs R w) m) none.same does;
+        same = refl;
+        fine = ok;
+      })
+
+  -- What stands behind a call: code for the rest of the phrase, or nothing behind a tail call, whose code ends in `ret`.
+  pub data Rest (f : ℕ) (F : List MValue) (pc : ℕ) : Bool → Option Instr → Phrase → List Task → Type 0 where
+    on : {last : Option Instr} {t : Phrase} {K : List Task} → Go Y f F last zero [] (do_phrase t ∷ K) (pc + 1) → Rest f F pc false last t K
+    none_left : {K : List Task} → Empties K → Rest f F pc true (Some Ret) end K
+
+  -- the return entries that a call leaves
+  abbrev pub entries : Bool → List MValue → ℕ → List Entry
+  entries true F pc = []
+  entries false F pc = resume (pc + 1) F ∷ []
+
+  pub leaves : (tail : Bool) (F : List MValue) (pc : ℕ) (ms rs : List MValue) (R : List Entry) (w : World MValue) → leaving tail (at F pc ms rs R w) ≡ at F pc ms rs (entries tail F pc ++ R) w
+  leaves true F pc ms rs R w = refl
+  leaves false F pc ms rs R w = refl
+
+  pub unguarded : (tail : Bool) (F : List MValue) (pc : ℕ) → HasNoGuard (entries tail F pc)
+  unguarded true F pc = tt
+  unguarded false F pc = (tt, tt)
 
   -- a `ret` goes on behind the call
-  pub ret_resume : (F : List MValue) (pc : ℕ) (R : List Entry) (rs G : List MValue) (pc2 : ℕ) (ms2 : List MValue) (w2 : World MValue) (m : ℕ) → fetched M (Some Ret) (at G pc2 ms2 rs (resume (pc + 1) F ∷ R) w2) m ≡ goes_on (at F (pc + 1) ms2 rs R w2) m
+  ret_resume : (F : List MValue) (pc : ℕ) (R : List Entry) (rs G : List MValue) (pc2 : ℕ) (ms2 : List MValue) (w2 : World MValue) (m : ℕ) → fetched M (Some Ret) (at G pc2 ms2 rs (resume (pc + 1) F ∷ R) w2) m ≡ goes_on (at F (pc + 1) ms2 rs R w2) m
   ret_resume F pc R rs G pc2 ms2 w2 m = refl
 
   -- and behind a `dip` it first puts the value back
@@ -100,21 +154,26 @@ module _ (Y : Setting) where
       fetched M (Some Ret) (at G pc2 ms2 rs (put_back x ∷ resume (pc + 1) F ∷ R) w2) m ≡ goes_on (at F (pc + 1) (x ∷ ms2) rs R w2) m
   ret_put x F pc R rs G pc2 ms2 w2 m = refl
 
+  pub goes_back : (f : ℕ) (F : List MValue) (pc : ℕ) (tail : Bool) (last : Option Instr) (t : Phrase) (K : List Task) → Rest f F pc tail last t K → (R : List Entry) (base rs : List MValue) (L : List Left) → Keeps T base K rs L →
+      AllWhole F → AllWhole rs → (n : ℕ) → n ≤ f → GoesBack last R (entries tail F pc) base rs [] (l_phrase t ∷ L) n
+  goes_back f F pc tail last t K (on go) R base rs L h hf hr n le = goes_behind f F last t K pc go R (resume (pc + 1) F ∷ []) base rs L h hf hr [] tt (ret_resume F pc R rs) n le
+  goes_back f F pc tail last t K (none_left empties) R base rs L h hf hr n le = nothing_behind K empties R base rs L h n
+
   -- a phrase whose code is called at a place under a frame, and the rest behind the instruction
-  pub called_at : (f : ℕ) (F : List MValue) (last : Option Instr) (x : Instr) (i : Item) (b : Phrase) (p : Place) (t : Phrase) (G : List MValue) (a : ℕ) (S : List Sym) (K : List Task) (pc : ℕ) → AllWhole G → slice_get M.code pc ≡ Some x →
-      CallsTo Y (Some Ret) f G a S b → Go Y f F last zero [] (do_phrase t ∷ K) (pc + 1) → (R : List Entry) (base ms rs : List MValue) (vs : List Value) (L : List Left) (w : World MValue) (n : ℕ) → suc n ≤ f → Fine F rs ms w →
-      Live Y (l_phrase (then i p t) ∷ L) (state vs (V w)) → Lies T S ms vs → Keeps T base K rs L → A i (state vs (V w)) ≡ runs (of_phrase b) (state vs (V w)) [] → fetched M (Some x) (at F pc ms rs R w) (suc n) ≡ goes_on (at G a ms rs (resume (pc + 1) F ∷ R) w) n →
+  pub called_at : (f : ℕ) (F : List MValue) (tail : Bool) (last : Option Instr) (x : Instr) (i : Item) (b : Phrase) (p : Place) (t : Phrase) (G : List MValue) (a : ℕ) (S : List Sym) (K : List Task) (pc : ℕ) → AllWhole G → slice_get M.code pc ≡ Some x →
+      CallsTo Y (Some Ret) f G a S b → Rest f F pc tail last t K → (R : List Entry) (base ms rs : List MValue) (vs : List Value) (L : List Left) (w : World MValue) (n : ℕ) → suc n ≤ f → Fine F rs ms w →
+      Live Y (l_phrase (then i p t) ∷ L) (state vs (V w)) → Lies T S ms vs → Keeps T base K rs L → A i (state vs (V w)) ≡ runs (of_phrase b) (state vs (V w)) [] → fetched M (Some x) (at F pc ms rs R w) (suc n) ≡ goes_on (at G a ms rs (entries tail F pc ++ R) w) n →
       Follows Y last R base (at F pc ms rs R w) (suc n) (left Y (l_phrase (then i p t) ∷ L) (state vs (V w)) (suc n))
-  called_at f F last x i b p t G a S K pc hg e calls go R base ms rs vs L w n le ok lv l h acts steps =
+  called_at f F tail last x i b p t G a S K pc hg e calls rest R base ms rs vs L w n le ok lv l h acts steps =
       let s = at F pc ms rs R w in
       let st = state vs (V w) in
-      let entry = resume (pc + 1) F in
+      let own = entries tail F pc in
       let live = live_runs Y i p t L st st (of_phrase b) [] acts lv in
       let ok1 : Fine G rs ms w = record { cells = hg; held = ok.held; values = ok.values; objects = ok.objects } in
-      let first = step_before Y (Some Ret) (entry ∷ R) rs s (at G a ms rs (entry ∷ R) w) (suc n) n (run b st n) (fetch Y s (suc n) x e ∙ steps)
-      (calls (entry ∷ R) rs ms vs w n (omega (arith, le)) ok1 (live_first (run b st) (left Y (l_phrase t ∷ L)) live) l) in
+      let first = step_before Y (Some Ret) (own ++ R) rs s (at G a ms rs (own ++ R) w) (suc n) n (run b st n) (fetch Y s (suc n) x e ∙ steps)
+      (calls (own ++ R) rs ms vs w n (omega (arith, le)) ok1 (live_first (run b st) (left Y (l_phrase t ∷ L)) live) l) in
       subst (λ (r : Result). Follows Y last R base s (suc n) r) (sym (first_runs Y i p t L st st (of_phrase b) [] n acts))
-      (behind f F last t K pc go R (entry ∷ []) (tt, tt) base rs L h ok.cells ok.held [] tt (ret_resume F pc R rs) (run b st) (stays_phrase A b st) s (suc n) n (omega (arith, le)) (spares A n b st n (omega arith)) live first)
+      (behind last R own (unguarded tail F pc) base rs (l_phrase t ∷ L) [] n (goes_back f F pc tail last t K rest R base rs L h ok.cells ok.held n (omega (arith, le))) (run b st) (stays_phrase A b st) s (suc n) (spares A n b st n (omega arith)) live first)
 
   -- what the item of a word does that runs a phrase
   pub phrase_runs : (wd : ℕ) (o : Option Sort) (st : State Value) → RunsPhrase o → sort_act P wd o st ≡ runs (of_phrase (sort_phrase P wd o)) st []
@@ -123,19 +182,20 @@ module _ (Y : Setting) where
   phrase_runs wd (Some _) st h = absurd h
   phrase_runs wd None st h = absurd h
 
-  word_goes : (wd a : ℕ) (r : WordRow) (F : List MValue) (pc : ℕ) → slice_get M.words wd ≡ Some r → r.action ≡ action.Code a → (ms rs : List MValue) (R : List Entry) (w : World MValue) (n : ℕ) →
-      fetched M (Some (Callw wd false)) (at F pc ms rs R w) (suc n) ≡ goes_on (at [] a ms rs (resume (pc + 1) F ∷ R) w) n
-  word_goes wd a r F pc er ea ms rs R w n =
-      let s = at F pc ms rs (resume (pc + 1) F ∷ R) w in
-      let one = ap (λ o. or_trap o t_kind s n (λ r. or_trap (code_of r.action) t_kind s n (λ d. goes_on (at [] d ms rs (resume (pc + 1) F ∷ R) w) n))) er in
-      let two = ap (λ c. or_trap (code_of c) t_kind s n (λ d. goes_on (at [] d ms rs (resume (pc + 1) F ∷ R) w) n)) ea in
-      one ∙ two
+  word_goes : (tail : Bool) (wd a : ℕ) (r : WordRow) (F : List MValue) (pc : ℕ) → slice_get M.words wd ≡ Some r → r.action ≡ action.Code a → (ms rs : List MValue) (R : List Entry) (w : World MValue) (n : ℕ) →
+      fetched M (Some (Callw wd tail)) (at F pc ms rs R w) (suc n) ≡ goes_on (at [] a ms rs (entries tail F pc ++ R) w) n
+  word_goes tail wd a r F pc er ea ms rs R w n =
+      let own = entries tail F pc ++ R in
+      let s = at F pc ms rs own w in
+      let one = ap (λ o. or_trap o t_kind s n (λ r. or_trap (code_of r.action) t_kind s n (λ d. goes_on (at [] d ms rs own w) n))) er in
+      let two = ap (λ c. or_trap (code_of c) t_kind s n (λ d. goes_on (at [] d ms rs own w) n)) ea in
+      ap (λ (u : Machine). enters_word M wd u n) (leaves tail F pc ms rs R w) ∙ one ∙ two
 
-  pub g_word : (f : ℕ) (F : List MValue) (last : Option Instr) (wd a : ℕ) (p : Place) (t : Phrase) (S : List Sym) (K : List Task) (pc : ℕ) → HasCode P M wd a → slice_get M.code pc ≡ Some (Callw wd false) → CallsTo Y (Some Ret) f [] a S (word_phrase P wd) →
-      Go Y f F last zero [] (do_phrase t ∷ K) (pc + 1) → Go Y f F last zero S (do_phrase (then (word wd) p t) ∷ K) pc
-  g_word f F last wd a p t S K pc hc e calls go R base ms rs vs L w zero le ok lv l (keeps_phrase h) = spent_here Y last R base (at F pc ms rs R w) (state vs (V w)) (Some (word wd)) (Callw wd false) e refl refl
-  g_word f F last wd a p t S K pc hc e calls go R base ms rs vs L w (suc n) le ok lv l (keeps_phrase {L = L1} h) =
-      called_at f F last (Callw wd false) (word wd) (word_phrase P wd) p t [] a S K pc tt e calls go R base ms rs vs L1 w n le ok lv l h (phrase_runs wd (sort_of P wd) (state vs (V w)) hc.runs) (word_goes wd a hc.row F pc hc.there hc.does ms rs R w n)
+  pub g_word : (f : ℕ) (F : List MValue) (tail : Bool) (last : Option Instr) (wd a : ℕ) (p : Place) (t : Phrase) (S : List Sym) (K : List Task) (pc : ℕ) → HasCode P M wd a → slice_get M.code pc ≡ Some (Callw wd tail) → CallsTo Y (Some Ret) f [] a S (word_phrase P wd) →
+      Rest f F pc tail last t K → Go Y f F last zero S (do_phrase (then (word wd) p t) ∷ K) pc
+  g_word f F tail last wd a p t S K pc hc e calls rest R base ms rs vs L w zero le ok lv l (keeps_phrase h) = spent_here Y last R base (at F pc ms rs R w) (state vs (V w)) (Some (word wd)) (Callw wd tail) e refl refl
+  g_word f F tail last wd a p t S K pc hc e calls rest R base ms rs vs L w (suc n) le ok lv l (keeps_phrase {L = L1} h) =
+      called_at f F tail last (Callw wd tail) (word wd) (word_phrase P wd) p t [] a S K pc tt e calls rest R base ms rs vs L1 w n le ok lv l h (phrase_runs wd (sort_of P wd) (state vs (V w)) hc.runs) (word_goes tail wd a hc.row F pc hc.there hc.does ms rs R w n)
 
   -- A callable that a step enters. What `compose` made leaves an entry for its second part, which is entered at the `ret` of the first.
   pub enters : (f : ℕ) → Templated Y f → (c : MCallable) → WholeCallable c → (F : List MValue) (pc : ℕ) (R : List Entry) (base ms : List MValue) (w : World MValue) (n : ℕ) → n < f → Fine [] base ms w →
@@ -160,36 +220,32 @@ module _ (Y : Setting) where
       enters f tpl d h.1 G pc2 R base ms2 w2 m (omega (arith, lem, lt)) ok3 (live_rest X go (stays_call A (callable_view T c) st) (stays_call A (callable_view T d)) live n m (state_view T ms2 w2) is) x j does)
 
   -- an instruction that runs a callable of the meaning, and the rest behind it
-  pub g_ran : (f : ℕ) (F : List MValue) (last : Option Instr) (i : Item) (p : Place) (t : Phrase) (K : List Task) (pc : ℕ) → Go Y f F last zero [] (do_phrase t ∷ K) (pc + 1) → (R own : List Entry) → HasNoGuard own → (base rs : List MValue) (L : List Left) (n : ℕ) →
-      suc n ≤ f → AllWhole F → AllWhole rs → Keeps T base K rs L → (st st' : State Value) (c : Callable) (put : List MValue) → AllWhole put → A i st ≡ runs c st' (values_view T put) →
-      ((G : List MValue) (pc2 : ℕ) (ms2 : List MValue) (w2 : World MValue) (m : ℕ) → fetched M (Some Ret) (at G pc2 ms2 rs (own ++ R) w2) m ≡ goes_on (at F (pc + 1) (pile put ms2) rs R w2) m) → Live Y (l_phrase (then i p t) ∷ L) st → (s : Machine) (N : ℕ) →
+  pub g_ran : (last : Option Instr) (i : Item) (p : Place) (t : Phrase) (R own : List Entry) → HasNoGuard own → (base rs : List MValue) (L : List Left) (n : ℕ) (st st' : State Value) (c : Callable) (put : List MValue) → A i st ≡ runs c st' (values_view T put) →
+      GoesBack last R own base rs put (l_phrase t ∷ L) n → Live Y (l_phrase (then i p t) ∷ L) st → (s : Machine) (N : ℕ) →
       (((m : ℕ) → run_callable run c st' m ≢ Stuck) → Follows Y (Some Ret) (own ++ R) rs s N (run_callable run c st' n)) → Follows Y last R base s N (left Y (l_phrase (then i p t) ∷ L) st (suc n))
-  g_ran f F last i p t K pc go R own none base rs L n le hf hr h st st' c put hp acts back_step lv s N first =
+  g_ran last i p t R own none base rs L n st st' c put acts back lv s N first =
       let rest = λ (st : State Value) (k : ℕ). left Y (l_phrase t ∷ L) (push_each (values_view T put) st) k in
       let live = live_runs Y i p t L st st' c (values_view T put) acts lv in
       subst (λ (r : Result). Follows Y last R base s N r) (sym (first_runs Y i p t L st st' c (values_view T put) n acts))
-      (behind f F last t K pc go R own none base rs L h hf hr put hp back_step (run_callable run c st') (stays_call A c st') s N n (omega (arith, le)) (within_call run (spares A) n c st' n (omega arith)) live
-      (first (live_first (run_callable run c st') rest live)))
+      (behind last R own none base rs (l_phrase t ∷ L) put n back (run_callable run c st') (stays_call A c st') s N (within_call run (spares A) n c st' n (omega arith)) live (first (live_first (run_callable run c st') rest live)))
 
   -- an instruction that enters a callable of the machine, and the rest behind it
-  pub g_entered : (f : ℕ) (F : List MValue) → Templated Y f → (last : Option Instr) (i : Item) (p : Place) (t : Phrase) (K : List Task) (pc : ℕ) → Go Y f F last zero [] (do_phrase t ∷ K) (pc + 1) → (R own : List Entry) → HasNoGuard own →
-      (base all ms rs : List MValue) (vs : List Value) (L : List Left) (w : World MValue) (n : ℕ) → suc n ≤ f → AllWhole F → Fine [] rs ms w → Keeps T base K rs L → (c : MCallable) → WholeCallable c → (put : List MValue) → AllWhole put →
-      A i (state vs (V w)) ≡ runs (callable_view T c) (state_view T ms w) (values_view T put) → stepping (at F pc all rs R w) (suc n) ≡ entering M c (at F pc ms rs (own ++ R) w) n →
-      ((G : List MValue) (pc2 : ℕ) (ms2 : List MValue) (w2 : World MValue) (m : ℕ) → fetched M (Some Ret) (at G pc2 ms2 rs (own ++ R) w2) m ≡ goes_on (at F (pc + 1) (pile put ms2) rs R w2) m) →
+  pub g_entered : (f : ℕ) (F : List MValue) → Templated Y f → (last : Option Instr) (i : Item) (p : Place) (t : Phrase) (pc : ℕ) (R own : List Entry) → HasNoGuard own →
+      (base all ms rs : List MValue) (vs : List Value) (L : List Left) (w : World MValue) (n : ℕ) → suc n ≤ f → Fine [] rs ms w → (c : MCallable) → WholeCallable c → (put : List MValue) → A i (state vs (V w)) ≡ runs (callable_view T c) (state_view T ms w) (values_view T put) →
+      stepping (at F pc all rs R w) (suc n) ≡ entering M c (at F pc ms rs (own ++ R) w) n → GoesBack last R own base rs put (l_phrase t ∷ L) n →
       Live Y (l_phrase (then i p t) ∷ L) (state vs (V w)) → Follows Y last R base (at F pc all rs R w) (suc n) (left Y (l_phrase (then i p t) ∷ L) (state vs (V w)) (suc n))
-  g_entered f F tpl last i p t K pc go R own none base all ms rs vs L w n le hf ok h c hc put hp acts e back_step lv =
+  g_entered f F tpl last i p t pc R own none base all ms rs vs L w n le ok c hc put acts e back lv =
       let s = at F pc all rs R w in
-      g_ran f F last i p t K pc go R own none base rs L n le hf ok.held h (state vs (V w)) (state_view T ms w) (callable_view T c) put hp acts back_step lv s (suc n)
-      (λ live. enters f tpl c hc F pc (own ++ R) rs ms w n (omega (arith, le)) ok live s (suc n) e)
+      g_ran last i p t R own none base rs L n (state vs (V w)) (state_view T ms w) (callable_view T c) put acts back lv s (suc n) (λ live. enters f tpl c hc F pc (own ++ R) rs ms w n (omega (arith, le)) ok live s (suc n) e)
 
   -- `call`, `dip` and `if` of values
   pub core_is : (wd : ℕ) (c : CoreWord) (st : State Value) → sort_of P wd ≡ Some (core_sort c) → A (word wd) st ≡ core_act P c st
   core_is wd c st es = ap (λ (o : Option Sort). sort_act P wd o st) es
 
-  pub g_call : (f : ℕ) (F : List MValue) → Templated Y f → (last : Option Instr) (wd : ℕ) (p : Place) (t : Phrase) (S : List Sym) (K : List Task) (pc : ℕ) → sort_of P wd ≡ Some (core_sort w_call) → AllHere S →
-      slice_get M.code pc ≡ Some (Call false) → Go Y f F last zero [] (do_phrase t ∷ K) (pc + 1) → Go Y f F last zero S (do_phrase (then (word wd) p t) ∷ K) pc
-  g_call f F tpl last wd p t S K pc es a e go R base ms rs vs L w zero le ok lv l (keeps_phrase h) = spent_here Y last R base (at F pc ms rs R w) (state vs (V w)) (Some (word wd)) (Call false) e refl refl
-  g_call f F tpl last wd p t S K pc es a e go R base ms rs vs L w (suc n) le ok lv l (keeps_phrase {L = L1} h) = one ms vs (sym (all_here T S ms vs a l)) ok lv
+  pub g_call : (f : ℕ) (F : List MValue) → Templated Y f → (tail : Bool) (last : Option Instr) (wd : ℕ) (p : Place) (t : Phrase) (S : List Sym) (K : List Task) (pc : ℕ) → sort_of P wd ≡ Some (core_sort w_call) → AllHere S →
+      slice_get M.code pc ≡ Some (Call tail) → Rest f F pc tail last t K → Go Y f F last zero S (do_phrase (then (word wd) p t) ∷ K) pc
+  g_call f F tpl tail last wd p t S K pc es a e rest R base ms rs vs L w zero le ok lv l (keeps_phrase h) = spent_here Y last R base (at F pc ms rs R w) (state vs (V w)) (Some (word wd)) (Call tail) e refl refl
+  g_call f F tpl tail last wd p t S K pc es a e rest R base ms rs vs L w (suc n) le ok lv l (keeps_phrase {L = L1} h) = one ms vs (sym (all_here T S ms vs a l)) ok lv
     where
       one : (ms : List MValue) (vs : List Value) → vs ≡ values_view T ms → Fine F rs ms w → Live Y (l_phrase (then (word wd) p t) ∷ L1) (state vs (V w)) →
           Follows Y last R base (at F pc ms rs R w) (suc n) (left Y (l_phrase (then (word wd) p t) ∷ L1) (state vs (V w)) (suc n))
@@ -197,8 +253,9 @@ module _ (Y : Setting) where
       one (m_plain x ∷ ms) vs is ok lv = wrong_here Y (word wd) p t L1 (state vs (V w)) (core_is wd w_call (state vs (V w)) es ∙ rw is refl) lv
       one (m_fun c ∷ ms) vs is ok lv =
           let s = at F pc (m_fun c ∷ ms) rs R w in
-          g_entered f F tpl last (word wd) p t K pc go R (resume (pc + 1) F ∷ []) (tt, tt) base (m_fun c ∷ ms) ms rs vs L1 w n le ok.cells (record { cells = tt; held = ok.held; values = ok.values.1; objects = ok.objects }) h c ok.values.0
-          [] tt (core_is wd w_call (state vs (V w)) es ∙ rw is refl) (fetch Y s (suc n) (Call false) e) (ret_resume F pc R rs) lv
+          g_entered f F tpl last (word wd) p t pc R (entries tail F pc) (unguarded tail F pc) base (m_fun c ∷ ms) ms rs vs L1 w n le (record { cells = tt; held = ok.held; values = ok.values.1; objects = ok.objects }) c ok.values.0
+          [] (core_is wd w_call (state vs (V w)) es ∙ rw is refl) (fetch Y s (suc n) (Call tail) e ∙ ap (λ (u : Machine). machine_calls M u n) (leaves tail F pc (m_fun c ∷ ms) rs R w))
+          (goes_back f F pc tail last t K rest R base rs L1 h ok.cells ok.held n (omega (arith, le))) lv
 
   pub g_dip : (f : ℕ) (F : List MValue) → Templated Y f → (last : Option Instr) (wd : ℕ) (p : Place) (t : Phrase) (S : List Sym) (K : List Task) (pc : ℕ) → sort_of P wd ≡ Some (core_sort w_dip) → AllHere S →
       slice_get M.code pc ≡ Some Dip → Go Y f F last zero [] (do_phrase t ∷ K) (pc + 1) → Go Y f F last zero S (do_phrase (then (word wd) p t) ∷ K) pc
@@ -212,8 +269,10 @@ module _ (Y : Setting) where
       one (m_plain y ∷ x ∷ ms) vs is ok lv = wrong_here Y (word wd) p t L1 (state vs (V w)) (core_is wd w_dip (state vs (V w)) es ∙ rw is refl) lv
       one (m_fun c ∷ x ∷ ms) vs is ok lv =
           let s = at F pc (m_fun c ∷ x ∷ ms) rs R w in
-          g_entered f F tpl last (word wd) p t K pc go R (put_back x ∷ resume (pc + 1) F ∷ []) (tt, (tt, tt)) base (m_fun c ∷ x ∷ ms) ms rs vs L1 w n le ok.cells
-          (record { cells = tt; held = ok.held; values = ok.values.1.1; objects = ok.objects }) h c ok.values.0 (x ∷ []) (ok.values.1.0, tt) (core_is wd w_dip (state vs (V w)) es ∙ rw is refl) (fetch Y s (suc n) Dip e) (ret_put x F pc R rs) lv
+          let own = put_back x ∷ resume (pc + 1) F ∷ [] in
+          g_entered f F tpl last (word wd) p t pc R own (tt, (tt, tt)) base (m_fun c ∷ x ∷ ms) ms rs vs L1 w n le
+          (record { cells = tt; held = ok.held; values = ok.values.1.1; objects = ok.objects }) c ok.values.0 (x ∷ []) (core_is wd w_dip (state vs (V w)) es ∙ rw is refl) (fetch Y s (suc n) Dip e)
+          (goes_behind f F last t K pc go R own base rs L1 h ok.cells ok.held (x ∷ []) (ok.values.1.0, tt) (ret_put x F pc R rs) n (omega (arith, le))) lv
 
   -- which of two callables `if` runs: the second exactly for `f`
   pub chosen : (m : MValue) (c d : MCallable) (us : List Value) (w : World Value) →
@@ -224,10 +283,10 @@ module _ (Y : Setting) where
       choose true = refl
       choose false = refl
 
-  pub g_if : (f : ℕ) (F : List MValue) → Templated Y f → (last : Option Instr) (wd : ℕ) (p : Place) (t : Phrase) (S : List Sym) (K : List Task) (pc : ℕ) → sort_of P wd ≡ Some (core_sort w_if) → AllHere S →
-      slice_get M.code pc ≡ Some (If false) → Go Y f F last zero [] (do_phrase t ∷ K) (pc + 1) → Go Y f F last zero S (do_phrase (then (word wd) p t) ∷ K) pc
-  g_if f F tpl last wd p t S K pc es a e go R base ms rs vs L w zero le ok lv l (keeps_phrase h) = spent_here Y last R base (at F pc ms rs R w) (state vs (V w)) (Some (word wd)) (If false) e refl refl
-  g_if f F tpl last wd p t S K pc es a e go R base ms rs vs L w (suc n) le ok lv l (keeps_phrase {L = L1} h) = one ms vs (sym (all_here T S ms vs a l)) ok lv
+  pub g_if : (f : ℕ) (F : List MValue) → Templated Y f → (tail : Bool) (last : Option Instr) (wd : ℕ) (p : Place) (t : Phrase) (S : List Sym) (K : List Task) (pc : ℕ) → sort_of P wd ≡ Some (core_sort w_if) → AllHere S →
+      slice_get M.code pc ≡ Some (If tail) → Rest f F pc tail last t K → Go Y f F last zero S (do_phrase (then (word wd) p t) ∷ K) pc
+  g_if f F tpl tail last wd p t S K pc es a e rest R base ms rs vs L w zero le ok lv l (keeps_phrase h) = spent_here Y last R base (at F pc ms rs R w) (state vs (V w)) (Some (word wd)) (If tail) e refl refl
+  g_if f F tpl tail last wd p t S K pc es a e rest R base ms rs vs L w (suc n) le ok lv l (keeps_phrase {L = L1} h) = one ms vs (sym (all_here T S ms vs a l)) ok lv
     where
       one : (ms : List MValue) (vs : List Value) → vs ≡ values_view T ms → Fine F rs ms w → Live Y (l_phrase (then (word wd) p t) ∷ L1) (state vs (V w)) →
           Follows Y last R base (at F pc ms rs R w) (suc n) (left Y (l_phrase (then (word wd) p t) ∷ L1) (state vs (V w)) (suc n))
@@ -240,5 +299,6 @@ module _ (Y : Setting) where
           let s = at F pc (m_fun d ∷ m_fun c ∷ x ∷ ms) rs R w in
           let b = seen_no (m_seen x) in
           let acts : A (word wd) (state vs (V w)) ≡ runs (callable_view T (branch b c d)) (state_view T ms w) [] = core_is wd w_if (state vs (V w)) es ∙ rw is (chosen x c d (values_view T ms) (V w)) in
-          g_entered f F tpl last (word wd) p t K pc go R (resume (pc + 1) F ∷ []) (tt, tt) base (m_fun d ∷ m_fun c ∷ x ∷ ms) ms rs vs L1 w n le ok.cells
-          (record { cells = tt; held = ok.held; values = ok.values.1.1.1; objects = ok.objects }) h (branch b c d) (branch_whole P M b c d ok.values.1.0 ok.values.0) [] tt acts (fetch Y s (suc n) (If false) e) (ret_resume F pc R rs) lv
+          g_entered f F tpl last (word wd) p t pc R (entries tail F pc) (unguarded tail F pc) base (m_fun d ∷ m_fun c ∷ x ∷ ms) ms rs vs L1 w n le
+          (record { cells = tt; held = ok.held; values = ok.values.1.1.1; objects = ok.objects }) (branch b c d) (branch_whole P M b c d ok.values.1.0 ok.values.0) [] acts
+          (fetch Y s (suc n) (If tail) e ∙ ap (λ (u : Machine). ifs M u n) (leaves tail F pc (m_fun d ∷ m_fun c ∷ x ∷ ms) rs R w)) (goes_back f F pc tail last t K rest R base rs L1 h ok.cells ok.held n (omega (arith, le))) lv

@@ -1,5 +1,5 @@
 -- The step of each case that has to do with classes: accessors, predicates, new tuples, generics and next methods.
-use Rattle.std.proofs.Common.{◌≡◌, ℕ, zero, suc, ◌+◌, ◌≤◌, List, [], ◌∷◌, drop, Bool, true, false, Option, Some, None, refl, ap, sym, subst, ◌∙◌, arith}
+use Rattle.std.proofs.Common.{◌≡◌, ℕ, zero, suc, ◌+◌, ◌≤◌, List, [], ◌∷◌, ◌++◌, drop, Bool, true, false, Option, Some, None, refl, ap, sym, subst, ◌∙◌, arith}
 use Rattle.std.specs.Prelude.{slice_get}
 use Rattle.fac_lang.specs.declared.error_name.ErrorName.{ErrorName}
 use Rattle.fac_lang.specs.declared.error_name.ErrorName.TheVariants.{NoMethod, NoNextMethod}
@@ -27,7 +27,7 @@ use Rattle.fac_code.specs.declared.image.MethodRow.{MethodRow}
 use Rattle.fac_code.specs.ImageNames.{image_names}
 use Rattle.fac_code.specs.declared.names.TrapWhy.TheVariants.{Kind as t_kind}
 use Rattle.fac_store.specs.MachineValues.{MValue, m_plain, m_fun, machine_values}
-use Rattle.fac_machine.specs.Machine.{Machine, Entry, resume, spent, Step, goes_on, ends, after, given as machine_given, does as machine_does, word_with, or_trap, popping, set_has, method_for, method_after, method_place, goes_on_from, truth, accesses, makes_tuple as machine_makes_tuple, kind_in, enters_method, enters_for, fetched, step}
+use Rattle.fac_machine.specs.Machine.{Machine, Entry, spent, Step, goes_on, ends, after, given as machine_given, does as machine_does, word_with, or_trap, popping, set_has, method_for, method_after, method_place, dispatches_on, goes_on_from, truth, accesses, makes_tuple as machine_makes_tuple, kind_in, enters_method, enters_for, fetched, step}
 use Rattle.fac_carry.specs.Accessors.{Accessor, getting, setting, putting, accessor_sort, accessor_instr, accessor_action, accessor_ins, accessor_outs, accessor_fn}
 use Rattle.fac_carry.specs.MachineView.{Templates, value_view, values_view, world_view}
 use Rattle.fac_carry.specs.Stands.{HasCode, SameMethod}
@@ -35,7 +35,7 @@ use Rattle.fac_carry.specs.Symbols.{Sym, here, Task, do_phrase, Needs, heres, Al
 use Rattle.fac_carry.specs.WholeValues as whole
 use Rattle.fac_carry.proofs.AccessorLemmas.{accessor_counted, accessor_same, accessor_keeps, kind_same, tuple_made_same, tuple_keeps}
 use Rattle.fac_carry.proofs.CaseLemmas.{behind_instr, gave, prim_done, fails_so}
-use Rattle.fac_carry.proofs.CallLemmas.{called_at, core_is}
+use Rattle.fac_carry.proofs.CallLemmas.{Rest, entries, leaves, unguarded, called_at, core_is}
 use Rattle.fac_carry.specs.Setting.{Setting}
 use Rattle.fac_carry.proofs.Following.{state, at, left, Follows, fetch, spent_here, Live, Go, Behind, CallsTo, first_is, live_is, wrong_here}
 use Rattle.fac_carry.proofs.GivenValues.{IsCounted}
@@ -246,37 +246,37 @@ module _ (Y : Setting) where
 
   -- An item that runs a method for the top value, which stays.
   dispatched :
-      (f : ℕ) (F : List MValue) (last : Option Instr) (x : Instr) (i : Item) (p : Place) (t : Phrase) (S : List Sym) (K : List Task) (pc : ℕ) (name : ErrorName) (g : ℕ) → slice_get M.code pc ≡ Some x →
-      ((m a : ℕ) → HasCode P M m a → CallsTo Y (Some Ret) f [] a S (word_phrase P m)) → Go Y f F last zero [] (do_phrase t ∷ K) (pc + 1) → (R : List Entry) (base rs : List MValue) (v : MValue) (ms : List MValue) (L : List Left) (w : World MValue) (n : ℕ) →
+      (f : ℕ) (F : List MValue) (tail : Bool) (last : Option Instr) (x : Instr) (i : Item) (p : Place) (t : Phrase) (S : List Sym) (K : List Task) (pc : ℕ) (name : ErrorName) (g : ℕ) → slice_get M.code pc ≡ Some x →
+      ((m a : ℕ) → HasCode P M m a → CallsTo Y (Some Ret) f [] a S (word_phrase P m)) → Rest Y f F pc tail last t K → (R : List Entry) (base rs : List MValue) (v : MValue) (ms : List MValue) (L : List Left) (w : World MValue) (n : ℕ) →
       suc n ≤ f → Fine F rs (v ∷ ms) w → Live Y (l_phrase (then i p t) ∷ L) (state (values_view T (v ∷ ms)) (V w)) → Lies T S (v ∷ ms) (values_view T (v ∷ ms)) → Keeps T base K rs L → (o : Option MethodRow) (o' : Option ℕ) → SameMethod P M o o' →
       A i (state (values_view T (v ∷ ms)) (V w)) ≡ enters P o' name g (value_view T v) (state (values_view T ms) (V w)) →
-      fetched M (Some x) (at F pc (v ∷ ms) rs R w) (suc n) ≡ enters_method M o name g v (at F pc ms rs (resume (pc + 1) F ∷ R) w) n →
+      fetched M (Some x) (at F pc (v ∷ ms) rs R w) (suc n) ≡ enters_method M o name g v (at F pc ms rs (entries Y tail F pc ++ R) w) n →
       Follows Y last R base (at F pc (v ∷ ms) rs R w) (suc n) (left Y (l_phrase (then i p t) ∷ L) (state (values_view T (v ∷ ms)) (V w)) (suc n))
-  dispatched f F last x i p t S K pc name g e calls go R base rs v ms L w n le ok lv l h None None same acts steps =
+  dispatched f F tail last x i p t S K pc name g e calls rest R base rs v ms L w n le ok lv l h None None same acts steps =
       let s = at F pc (v ∷ ms) rs R w in
-      fails_so Y F last i p t L R (resume (pc + 1) F ∷ []) (tt, tt) base rs ms (state (values_view T (v ∷ ms)) (V w)) w pc n name v g acts s (suc n) (fetch Y s (suc n) x e ∙ steps)
-  dispatched f F last x i p t S K pc name g e calls go R base rs v ms L w n le ok lv l h (Some r) (Some m) same acts steps =
-      called_at Y f F last x i (word_phrase P m) p t [] r.entry S K pc tt e (calls m r.entry same) go R base (v ∷ ms) rs (values_view T (v ∷ ms)) L w n le ok lv l h acts steps
-  dispatched f F last x i p t S K pc name g e calls go R base rs v ms L w n le ok lv l h None (Some m) same acts steps = absurd same
-  dispatched f F last x i p t S K pc name g e calls go R base rs v ms L w n le ok lv l h (Some r) None same acts steps = absurd same
+      fails_so Y F last i p t L R (entries Y tail F pc) (unguarded Y tail F pc) base rs ms (state (values_view T (v ∷ ms)) (V w)) w pc n name v g acts s (suc n) (fetch Y s (suc n) x e ∙ steps)
+  dispatched f F tail last x i p t S K pc name g e calls rest R base rs v ms L w n le ok lv l h (Some r) (Some m) same acts steps =
+      called_at Y f F tail last x i (word_phrase P m) p t [] r.entry S K pc tt e (calls m r.entry same) rest R base (v ∷ ms) rs (values_view T (v ∷ ms)) L w n le ok lv l h acts steps
+  dispatched f F tail last x i p t S K pc name g e calls rest R base rs v ms L w n le ok lv l h None (Some m) same acts steps = absurd same
+  dispatched f F tail last x i p t S K pc name g e calls rest R base rs v ms L w n le ok lv l h (Some r) None same acts steps = absurd same
 
   g_dispatched :
-      (f : ℕ) (F : List MValue) (last : Option Instr) (x : Instr) (i : Item) (p : Place) (t : Phrase) (S : List Sym) (K : List Task) (pc : ℕ) (name : ErrorName) (g : ℕ) (row : ℕ → Option MethodRow) (chosen : ℕ → Option ℕ) → AllHere S →
+      (f : ℕ) (F : List MValue) (tail : Bool) (last : Option Instr) (x : Instr) (i : Item) (p : Place) (t : Phrase) (S : List Sym) (K : List Task) (pc : ℕ) (name : ErrorName) (g : ℕ) (row : ℕ → Option MethodRow) (chosen : ℕ → Option ℕ) → AllHere S →
       slice_get M.code pc ≡ Some x → ((s : Machine) → fetched M (Some x) s zero ≡ ends (spent s)) → ((k : ℕ) → SameMethod P M (row k) (chosen k)) → ((m a : ℕ) → HasCode P M m a → CallsTo Y (Some Ret) f [] a S (word_phrase P m)) →
       ((st : State Value) → A i st ≡ taking1 st.stack st.world (λ v st'. enters P (chosen (kind_of meaning_values (names P) st'.world v)) name g v st')) →
-      ((ms rs : List MValue) (R : List Entry) (w : World MValue) (n : ℕ) → fetched M (Some x) (at F pc ms rs R w) (suc n) ≡ enters_for M row name g (at F pc ms rs (resume (pc + 1) F ∷ R) w) n) →
-      Go Y f F last zero [] (do_phrase t ∷ K) (pc + 1) → Go Y f F last zero S (do_phrase (then i p t) ∷ K) pc
-  g_dispatched f F last x i p t S K pc name g row chosen a e none same calls acts steps go R base ms rs vs L w zero le ok lv l (keeps_phrase h) = spent_here Y last R base (at F pc ms rs R w) (state vs (V w)) (Some i) x e (none (at F pc ms rs R w)) refl
-  g_dispatched f F last x i p t S K pc name g row chosen a e none same calls acts steps go R base ms rs vs L w (suc n) le ok lv l (keeps_phrase {L = L1} h) =
+      ((ms rs : List MValue) (R : List Entry) (w : World MValue) (n : ℕ) → fetched M (Some x) (at F pc ms rs R w) (suc n) ≡ enters_for M row name g (at F pc ms rs (entries Y tail F pc ++ R) w) n) →
+      Rest Y f F pc tail last t K → Go Y f F last zero S (do_phrase (then i p t) ∷ K) pc
+  g_dispatched f F tail last x i p t S K pc name g row chosen a e none same calls acts steps rest R base ms rs vs L w zero le ok lv l (keeps_phrase h) = spent_here Y last R base (at F pc ms rs R w) (state vs (V w)) (Some i) x e (none (at F pc ms rs R w)) refl
+  g_dispatched f F tail last x i p t S K pc name g row chosen a e none same calls acts steps rest R base ms rs vs L w (suc n) le ok lv l (keeps_phrase {L = L1} h) =
       subst (λ (us : List Value). Live Y (l_phrase (then i p t) ∷ L1) (state us (V w)) → Lies T S ms us → Follows Y last R base (at F pc ms rs R w) (suc n) (left Y (l_phrase (then i p t) ∷ L1) (state us (V w)) (suc n))) (all_here T S ms vs a l) (one ms ok) lv l
     where
       one : (ms : List MValue) → Fine F rs ms w → Live Y (l_phrase (then i p t) ∷ L1) (state (values_view T ms) (V w)) → Lies T S ms (values_view T ms) →
           Follows Y last R base (at F pc ms rs R w) (suc n) (left Y (l_phrase (then i p t) ∷ L1) (state (values_view T ms) (V w)) (suc n))
       one [] ok lv l = wrong_here Y i p t L1 (state [] (V w)) (acts (state [] (V w))) lv
       one (v ∷ ms) ok lv l =
-          let s = at F pc ms rs (resume (pc + 1) F ∷ R) w in
+          let s = at F pc ms rs (entries Y tail F pc ++ R) w in
           let kind = kind_of meaning_values (names P) (V w) (value_view T v) in
-          dispatched f F last x i p t S K pc name g e calls go R base rs v ms L1 w n le ok lv l h (row kind) (chosen kind) (same kind) (acts (state (values_view T (v ∷ ms)) (V w)))
+          dispatched f F tail last x i p t S K pc name g e calls rest R base rs v ms L1 w n le ok lv l h (row kind) (chosen kind) (same kind) (acts (state (values_view T (v ∷ ms)) (V w)))
           (steps (v ∷ ms) rs R w n ∙ ap (λ (j : ℕ). enters_method M (row j) name g v s n) (kinds_same s v))
 
   pub row_goes : (n : ℕ) (r : GenericRow) (sel : GenericRow → ℕ → Option MethodRow) (name : ErrorName) (g : ℕ) (stood s : Machine) (m : ℕ) → slice_get M.generics n ≡ Some r → r.word ≡ g →
@@ -284,18 +284,20 @@ module _ (Y : Setting) where
   row_goes n r sel name g stood s m er ew = ap (λ (o : Option GenericRow). or_trap o t_kind stood m (λ r. enters_for M (sel r) name r.word s m)) er ∙ ap (λ (v : ℕ). enters_for M (sel r) name v s m) ew
 
   pub g_generic :
-      (f : ℕ) (F : List MValue) (last : Option Instr) (wd n : ℕ) (r : GenericRow) (p : Place) (t : Phrase) (S : List Sym) (K : List Task) (pc : ℕ) → sort_of P wd ≡ Some generic → slice_get M.generics n ≡ Some r → r.word ≡ wd →
-      ((k : ℕ) → SameMethod P M (method_for M.sets k r.methods) (pick P wd k)) → AllHere S → slice_get M.code pc ≡ Some (Generic n false) → ((m a : ℕ) → HasCode P M m a → CallsTo Y (Some Ret) f [] a S (word_phrase P m)) →
-      Go Y f F last zero [] (do_phrase t ∷ K) (pc + 1) → Go Y f F last zero S (do_phrase (then (word wd) p t) ∷ K) pc
-  g_generic f F last wd n r p t S K pc es er ew same a e calls go =
-      g_dispatched f F last (Generic n false) (word wd) p t S K pc NoMethod wd (λ k. method_for M.sets k r.methods) (pick P wd) a e (λ s. refl) same calls (λ st. ap (λ (o : Option Sort). sort_act P wd o st) es)
-      (λ ms rs R w m. row_goes n r (λ r k. method_for M.sets k r.methods) NoMethod wd (at F pc ms rs R w) (at F pc ms rs (resume (pc + 1) F ∷ R) w) m er ew) go
+      (f : ℕ) (F : List MValue) (tail : Bool) (last : Option Instr) (wd n : ℕ) (r : GenericRow) (p : Place) (t : Phrase) (S : List Sym) (K : List Task) (pc : ℕ) → sort_of P wd ≡ Some generic → slice_get M.generics n ≡ Some r → r.word ≡ wd →
+      ((k : ℕ) → SameMethod P M (method_for M.sets k r.methods) (pick P wd k)) → AllHere S → slice_get M.code pc ≡ Some (Generic n tail) → ((m a : ℕ) → HasCode P M m a → CallsTo Y (Some Ret) f [] a S (word_phrase P m)) →
+      Rest Y f F pc tail last t K → Go Y f F last zero S (do_phrase (then (word wd) p t) ∷ K) pc
+  g_generic f F tail last wd n r p t S K pc es er ew same a e calls rest =
+      g_dispatched f F tail last (Generic n tail) (word wd) p t S K pc NoMethod wd (λ k. method_for M.sets k r.methods) (pick P wd) a e (λ s. refl) same calls (λ st. ap (λ (o : Option Sort). sort_act P wd o st) es)
+      (λ ms rs R w m. ap (λ (u : Machine). dispatches_on M n (at F pc ms rs R w) u m) (leaves Y tail F pc ms rs R w)
+      ∙ row_goes n r (λ r k. method_for M.sets k r.methods) NoMethod wd (at F pc ms rs R w) (at F pc ms rs (entries Y tail F pc ++ R) w) m er ew) rest
 
   pub g_next :
-      (f : ℕ) (F : List MValue) (last : Option Instr) (d n j : ℕ) (r : GenericRow) (p : Place) (t : Phrase) (S : List Sym) (K : List Task) (pc : ℕ) → method_place d M.generics ≡ Some (n, j) → slice_get M.generics n ≡ Some r → r.word ≡ generic_of P (sort_of P d) →
-      ((k : ℕ) → SameMethod P M (method_after M.sets k (drop j r.methods)) (next P d k)) → AllHere S → slice_get M.code pc ≡ Some (Next d false) → ((m a : ℕ) → HasCode P M m a → CallsTo Y (Some Ret) f [] a S (word_phrase P m)) →
-      Go Y f F last zero [] (do_phrase t ∷ K) (pc + 1) → Go Y f F last zero S (do_phrase (then (next_after d) p t) ∷ K) pc
-  g_next f F last d n j r p t S K pc em er ew same a e calls go =
-      g_dispatched f F last (Next d false) (next_after d) p t S K pc NoNextMethod (generic_of P (sort_of P d)) (λ k. method_after M.sets k (drop j r.methods)) (next P d) a e (λ s. refl) same calls (λ st. refl)
-      (λ ms rs R w m. ap (λ (o : Option (ℕ × ℕ)). or_trap o t_kind (at F pc ms rs R w) m (λ x. goes_on_from M x.0 x.1 (at F pc ms rs R w) (at F pc ms rs (resume (pc + 1) F ∷ R) w) m)) em
-      ∙ row_goes n r (λ r k. method_after M.sets k (drop j r.methods)) NoNextMethod (generic_of P (sort_of P d)) (at F pc ms rs R w) (at F pc ms rs (resume (pc + 1) F ∷ R) w) m er ew) go
+      (f : ℕ) (F : List MValue) (tail : Bool) (last : Option Instr) (d n j : ℕ) (r : GenericRow) (p : Place) (t : Phrase) (S : List Sym) (K : List Task) (pc : ℕ) → method_place d M.generics ≡ Some (n, j) → slice_get M.generics n ≡ Some r → r.word ≡ generic_of P (sort_of P d) →
+      ((k : ℕ) → SameMethod P M (method_after M.sets k (drop j r.methods)) (next P d k)) → AllHere S → slice_get M.code pc ≡ Some (Next d tail) → ((m a : ℕ) → HasCode P M m a → CallsTo Y (Some Ret) f [] a S (word_phrase P m)) →
+      Rest Y f F pc tail last t K → Go Y f F last zero S (do_phrase (then (next_after d) p t) ∷ K) pc
+  g_next f F tail last d n j r p t S K pc em er ew same a e calls rest =
+      g_dispatched f F tail last (Next d tail) (next_after d) p t S K pc NoNextMethod (generic_of P (sort_of P d)) (λ k. method_after M.sets k (drop j r.methods)) (next P d) a e (λ s. refl) same calls (λ st. refl)
+      (λ ms rs R w m. ap (λ (u : Machine). or_trap (method_place d M.generics) t_kind (at F pc ms rs R w) m (λ x. goes_on_from M x.0 x.1 (at F pc ms rs R w) u m)) (leaves Y tail F pc ms rs R w)
+      ∙ ap (λ (o : Option (ℕ × ℕ)). or_trap o t_kind (at F pc ms rs R w) m (λ x. goes_on_from M x.0 x.1 (at F pc ms rs R w) (at F pc ms rs (entries Y tail F pc ++ R) w) m)) em
+      ∙ row_goes n r (λ r k. method_after M.sets k (drop j r.methods)) NoNextMethod (generic_of P (sort_of P d)) (at F pc ms rs R w) (at F pc ms rs (entries Y tail F pc ++ R) w) m er ew) rest

@@ -1,10 +1,10 @@
 -- The plain code of a phrase is code in which a quotation is made where it is pushed, whatever stands behind it.
-use Rattle.std.proofs.Common.{◌≡◌, ℕ, zero, ◌+◌, List, [], ◌∷◌, ◌++◌, length, Option, Some, true, false}
+use Rattle.std.proofs.Common.{◌≡◌, ℕ, zero, ◌+◌, List, [], ◌∷◌, ◌++◌, length, Option, Some, true, false, sym, subst}
 use Rattle.std.proofs.lemmas.Bool.{ltb-true}
 use Rattle.std.specs.Prelude.{slice_get}
 use Rattle.fac_base.specs.declared.place.Place.{Place}
 use Rattle.fac_lang.specs.declared.program.Program.{Program}
-use Rattle.fac_lang.specs.Phrases.{Phrase, then, Item, held}
+use Rattle.fac_lang.specs.Phrases.{Phrase, end, then, Item, held}
 use Rattle.fac_lang.specs.Substitution.{put_local}
 use Rattle.fac_lang.specs.Primitives.{Primitive, prim_numbered, is_built_primitive, built_primitives, built_count}
 use Rattle.fac_code.specs.declared.image.Instr.{Instr}
@@ -13,9 +13,9 @@ use Rattle.fac_code.specs.declared.image.Image.{Image}
 use Rattle.fac_store.specs.MachineValues.{MValue}
 use Rattle.fac_carry.specs.Accessors.{accessor_ins, accessor_outs}
 use Rattle.fac_carry.specs.MachineView.{Templates, template_phrases, value_view, kept_view}
-use Rattle.fac_carry.specs.Symbols.{Sym, here, Task, do_phrase, heres, AllHere, all_none, all_more, ins, outs, Special}
-use Rattle.fac_carry.specs.Expanded.{Code, c_last, c_make, c_trim, c_end, c_off, c_int, c_true, c_false, c_text, c_array, c_reference, c_symbol, c_prim, c_accessor, c_isa, c_boa, c_held, c_bind, c_fry, c_stuck, c_word, c_call, c_dip, c_if, c_execute, c_call_effect, c_execute_effect, c_generic, c_next, EachCalled, ExpandedCode}
-use Rattle.fac_carry.specs.Stands.{Calling, l_word, l_call, l_if, l_execute, l_call_effect, l_execute_effect, l_generic, l_next, Translates, t_int, t_true, t_false, t_text, t_array, t_reference, t_symbol, t_held, t_quot, t_fry, t_prim, t_accessor, t_isa, t_dip, t_boa, t_stuck, t_calling, Stands, s_end, s_item, s_bind, Coded, PlainCode}
+use Rattle.fac_carry.specs.Symbols.{Sym, here, Task, do_phrase, no_task, heres, AllHere, all_none, all_more, ins, outs, Special}
+use Rattle.fac_carry.specs.Expanded.{Code, c_last, c_make, c_trim, c_end, c_off, c_int, c_true, c_false, c_text, c_array, c_reference, c_symbol, c_prim, c_accessor, c_isa, c_boa, c_held, c_bind, c_fry, c_stuck, c_word, c_call, c_dip, c_if, c_execute, c_call_effect, c_execute_effect, c_generic, c_next, c_tail, EachCalled, ExpandedCode}
+use Rattle.fac_carry.specs.Stands.{Calling, l_word, l_call, l_if, l_execute, l_call_effect, l_execute_effect, l_generic, l_next, Translates, t_int, t_true, t_false, t_text, t_array, t_reference, t_symbol, t_held, t_quot, t_fry, t_prim, t_accessor, t_isa, t_dip, t_boa, t_stuck, t_calling, Stands, s_end, s_item, s_tail, s_bind, Coded, PlainCode}
 use Rattle.fac_carry.proofs.ElementLemmas.{element_at}
 use Rattle.fac_carry.proofs.SymbolicStacks.{needs_any, all_heres}
 
@@ -62,6 +62,7 @@ module _ (P : Program) (M : Image) (T : Templates) where
   pub plain_is_code : (last : Instr) (F : List MValue) (pc : ℕ) (t : Phrase) → Stands P M T last F pc t → Code P M T [] (Some last) F zero [] (do_phrase t ∷ []) pc
   plain_is_code last F pc t (s_end e) = c_end (c_last all_none e)
   plain_is_code last F pc t (s_item {i = i} {p = p} {t = u} x e tr st) = item_code [] (Some last) F i x p u [] pc e tr (λ S a. c_trim {S = []} S a (plain_is_code last F (pc + 1) u st))
+  plain_is_code last F pc t (s_tail {i = i} {p = p} x is e c) = subst (λ (l : Instr). Code P M T [] (Some l) F zero [] (do_phrase (then i p end) ∷ []) pc) (sym is) (c_tail c no_task all_none e)
   plain_is_code last F pc t (s_bind {y = y} {t = u} e st) = c_bind (needs_any 1) e (λ v h. plain_is_code last (F ++ v ∷ []) (pc + 1) (put_local y (held (value_view T v)) u) (st v h))
 
   pub each_called : Coded P M T → EachCalled P M T

@@ -1,8 +1,9 @@
 -- The machine follows the meaning, tick for tick.
-use Rattle.std.proofs.Common.{◌≡◌, ◌≢◌, ℕ, zero, suc, ◌+◌, ◌<◌, List, [], ◌∷◌, ◌++◌, Option, Some, refl, ap, subst, arith}
+use Rattle.std.proofs.Common.{◌≡◌, ◌≢◌, ℕ, zero, suc, ◌+◌, ◌<◌, List, [], ◌∷◌, ◌++◌, true, false, Option, Some, refl, ap, subst, arith}
 use Rattle.std.specs.Prelude.{slice_get}
 use Rattle.fac_lang.specs.declared.program.Program.{Program}
-use Rattle.fac_lang.specs.Phrases.{int, yes, no, str, wrd, Phrase, Item, lit, word, held, Value}
+use Rattle.fac_base.specs.declared.place.Place.{Place}
+use Rattle.fac_lang.specs.Phrases.{int, yes, no, str, wrd, Phrase, end, then, Item, lit, word, held, Value}
 use Rattle.fac_lang.specs.Substitution.{put_local}
 use Rattle.fac_lang.specs.World.{World, State, pile}
 use Rattle.fac_lang.specs.Eval.{Result, Done, Failed, Spent, Stuck, Act, Run}
@@ -20,15 +21,15 @@ use Rattle.fac_carry.specs.MachineView.{Templates, value_view, values_view, kept
 use Rattle.fac_carry.specs.Carries.{SameEnd}
 use Rattle.fac_carry.specs.WholeValues as whole
 use Rattle.fac_carry.specs.Accessors.{accessor_outs}
-use Rattle.fac_carry.specs.Stands.{HasCode}
-use Rattle.fac_carry.specs.Symbols.{Sym, here, off, kept, k_phrase, k_cur, k_com, Task, do_phrase, do_back, do_call, below as under, heres, AllHere, all_none, outs, Special}
-use Rattle.fac_carry.specs.Expanded.{Code, c_last, c_tick, c_jump, c_unbind, c_hold, c_back, c_fetch, c_make, c_trim, c_end, c_run, c_cur, c_com, c_off, c_move_off, c_curry_off, c_compose_off, c_call_off, c_dip_off, c_if_off, c_expand, c_move, c_curry, c_int, c_true, c_false, c_text, c_array, c_reference, c_symbol, c_prim, c_accessor, c_isa, c_boa, c_held, c_bind, c_fry, c_stuck, c_word, c_call, c_dip, c_if, c_execute, c_call_effect, c_execute_effect, c_generic, c_next, EachCalled}
+use Rattle.fac_carry.specs.Stands.{HasCode, Calling, l_word, l_call, l_if, l_execute, l_call_effect, l_execute_effect, l_generic, l_next}
+use Rattle.fac_carry.specs.Symbols.{Sym, here, off, kept, k_phrase, k_cur, k_com, Task, do_phrase, do_back, do_call, below as under, heres, AllHere, all_none, outs, Empties, Special}
+use Rattle.fac_carry.specs.Expanded.{Code, c_last, c_tick, c_jump, c_unbind, c_hold, c_back, c_fetch, c_make, c_trim, c_end, c_run, c_cur, c_com, c_off, c_move_off, c_curry_off, c_compose_off, c_call_off, c_dip_off, c_if_off, c_expand, c_move, c_curry, c_int, c_true, c_false, c_text, c_array, c_reference, c_symbol, c_prim, c_accessor, c_isa, c_boa, c_held, c_bind, c_fry, c_stuck, c_word, c_call, c_dip, c_if, c_execute, c_call_effect, c_execute_effect, c_generic, c_next, c_tail, EachCalled}
 use Rattle.fac_carry.proofs.RunLaws.{free}
 use Rattle.fac_carry.proofs.SymbolicStacks.{l_phrase, Lies, lies_none, keeps_none, keeps_phrase, all_here}
 use Rattle.fac_carry.specs.Setting.{Setting}
 use Rattle.fac_carry.proofs.Following.{state, at, Follows, LivePhrase, Go, CallsTo, Templated, Valid, then_done, live_phrase}
 use Rattle.fac_carry.proofs.CaseLemmas.{g_array, g_end, g_last, g_make, g_off, g_prim, g_push, g_stuck, g_trim}
-use Rattle.fac_carry.proofs.CallLemmas.{g_call, g_dip, g_if, g_word}
+use Rattle.fac_carry.proofs.CallLemmas.{on, none_left, g_call, g_dip, g_if, g_word}
 use Rattle.fac_carry.proofs.FrameCases.{g_held, g_bind, g_fry}
 use Rattle.fac_carry.proofs.PutOffCases.{g_tick, g_jump, g_unbind, g_hold, g_back, g_fetch, g_run, g_cur, g_com, g_move_off, g_curry_off, g_compose_off, g_call_off, g_dip_off, g_if_off, g_expand, g_move, g_curry}
 use Rattle.fac_carry.proofs.ClassCases.{g_accessor, g_boa, g_generic, g_isa, g_next}
@@ -83,6 +84,18 @@ module _ (Y : Setting) where
   -- the code of a word that runs a phrase, or of a method, at fewer ticks
   word_called : (f : ℕ) → Below f → EachCalled P M T → (S : List Sym) → AllHere S → (wd a : ℕ) → HasCode P M wd a → CallsTo Y (Some Ret) f [] a S (word_phrase P wd)
   word_called f below each S h wd a code = on_all S [] a (word_phrase P wd) f h (called_phrase (Some Ret) f below [] [] a [] (word_phrase P wd) (each.words wd a code) (λ g less. tt))
+
+  -- a tail call, behind which nothing is left to do
+  g_tail : (f : ℕ) → Below f → EachCalled P M T → Templated Y f → (F : List MValue) (i : Item) (x : Instr) (p : Place) (S : List Sym) (K : List Task) (pc : ℕ) → Calling P M true i x → Empties K → AllHere S → slice_get M.code pc ≡ Some x →
+      Go Y f F (Some Ret) zero S (do_phrase (then i p end) ∷ K) pc
+  g_tail f below each tpl F i x p S K pc (l_word wd at code) k a e = g_word Y f F true (Some Ret) wd at p end S K pc code e (word_called f below each S a wd at code) (none_left k)
+  g_tail f below each tpl F i x p S K pc (l_call wd es) k a e = g_call Y f F tpl true (Some Ret) wd p end S K pc es a e (none_left k)
+  g_tail f below each tpl F i x p S K pc (l_if wd es) k a e = g_if Y f F tpl true (Some Ret) wd p end S K pc es a e (none_left k)
+  g_tail f below each tpl F i x p S K pc (l_execute wd es) k a e = g_execute Y f F tpl (word_called f below each [] all_none) each.actions true (Some Ret) wd p end S K pc es a e (none_left k)
+  g_tail f below each tpl F i x p S K pc (l_call_effect h) k a e = g_call_effect Y f F tpl true (Some Ret) h p end S K pc a e (none_left k)
+  g_tail f below each tpl F i x p S K pc (l_execute_effect h) k a e = g_execute_effect Y f F tpl (word_called f below each [] all_none) each.actions true (Some Ret) h p end S K pc a e (none_left k)
+  g_tail f below each tpl F i x p S K pc (l_generic wd n r es er ew same) k a e = g_generic Y f F true (Some Ret) wd n r p end S K pc es er ew same a e (word_called f below each S a) (none_left k)
+  g_tail f below each tpl F i x p S K pc (l_next m n j r em er ew same) k a e = g_next Y f F true (Some Ret) m n j r p end S K pc em er ew same a e (word_called f below each S a) (none_left k)
 
   main : (f : ℕ) → Below f → EachCalled P M T → Templated Y f → Main f
   main f below each tpl Γ last F d S K pc (c_last {last = x} a e) v = g_last Y f F x S pc a e
@@ -140,19 +153,20 @@ module _ (Y : Setting) where
   main f below each tpl Γ last F d S K pc (c_fry {p = p} {t = t} {S1 = S1} {K = K1} q r ks b e et ec eh needs c) v =
       g_fry Y f F last d q r ks b p t S S1 K1 pc e et ec eh needs (main f below each tpl Γ last F d (here ∷ S1) (do_phrase t ∷ K1) (pc + 1) c v)
   main f below each tpl Γ last F d S K pc (c_stuck {p = p} {t = t} {i = i} {K = K1} stuck) v = g_stuck Y f F last d i p t S K1 pc (stuck fits Y.callable_height)
-  main f below each tpl Γ last F d S K pc (c_word {p = p} {t = t} {K = K1} wd at code a e c) v = g_word Y f F last wd at p t S K1 pc code e (word_called f below each S a wd at code) (main f below each tpl Γ last F zero [] (do_phrase t ∷ K1) (pc + 1) c v)
-  main f below each tpl Γ last F d S K pc (c_call {p = p} {t = t} {K = K1} wd es a e c) v = g_call Y f F tpl last wd p t S K1 pc es a e (main f below each tpl Γ last F zero [] (do_phrase t ∷ K1) (pc + 1) c v)
+  main f below each tpl Γ last F d S K pc (c_word {p = p} {t = t} {K = K1} wd at code a e c) v = g_word Y f F false last wd at p t S K1 pc code e (word_called f below each S a wd at code) (on (main f below each tpl Γ last F zero [] (do_phrase t ∷ K1) (pc + 1) c v))
+  main f below each tpl Γ last F d S K pc (c_call {p = p} {t = t} {K = K1} wd es a e c) v = g_call Y f F tpl false last wd p t S K1 pc es a e (on (main f below each tpl Γ last F zero [] (do_phrase t ∷ K1) (pc + 1) c v))
   main f below each tpl Γ last F d S K pc (c_dip {p = p} {t = t} {K = K1} wd es a e c) v = g_dip Y f F tpl last wd p t S K1 pc es a e (main f below each tpl Γ last F zero [] (do_phrase t ∷ K1) (pc + 1) c v)
-  main f below each tpl Γ last F d S K pc (c_if {p = p} {t = t} {K = K1} wd es a e c) v = g_if Y f F tpl last wd p t S K1 pc es a e (main f below each tpl Γ last F zero [] (do_phrase t ∷ K1) (pc + 1) c v)
+  main f below each tpl Γ last F d S K pc (c_if {p = p} {t = t} {K = K1} wd es a e c) v = g_if Y f F tpl false last wd p t S K1 pc es a e (on (main f below each tpl Γ last F zero [] (do_phrase t ∷ K1) (pc + 1) c v))
   main f below each tpl Γ last F d S K pc (c_execute {p = p} {t = t} {K = K1} wd es a e c) v =
-      g_execute Y f F tpl (word_called f below each [] all_none) each.actions last wd p t S K1 pc es a e (main f below each tpl Γ last F zero [] (do_phrase t ∷ K1) (pc + 1) c v)
-  main f below each tpl Γ last F d S K pc (c_call_effect {p = p} {t = t} {K = K1} h a e c) v = g_call_effect Y f F tpl last h p t S K1 pc a e (main f below each tpl Γ last F zero [] (do_phrase t ∷ K1) (pc + 1) c v)
+      g_execute Y f F tpl (word_called f below each [] all_none) each.actions false last wd p t S K1 pc es a e (on (main f below each tpl Γ last F zero [] (do_phrase t ∷ K1) (pc + 1) c v))
+  main f below each tpl Γ last F d S K pc (c_call_effect {p = p} {t = t} {K = K1} h a e c) v = g_call_effect Y f F tpl false last h p t S K1 pc a e (on (main f below each tpl Γ last F zero [] (do_phrase t ∷ K1) (pc + 1) c v))
   main f below each tpl Γ last F d S K pc (c_execute_effect {p = p} {t = t} {K = K1} h a e c) v =
-      g_execute_effect Y f F tpl (word_called f below each [] all_none) each.actions last h p t S K1 pc a e (main f below each tpl Γ last F zero [] (do_phrase t ∷ K1) (pc + 1) c v)
+      g_execute_effect Y f F tpl (word_called f below each [] all_none) each.actions false last h p t S K1 pc a e (on (main f below each tpl Γ last F zero [] (do_phrase t ∷ K1) (pc + 1) c v))
   main f below each tpl Γ last F d S K pc (c_generic {p = p} {t = t} {K = K1} wd n r es er ew same a e c) v =
-      g_generic Y f F last wd n r p t S K1 pc es er ew same a e (word_called f below each S a) (main f below each tpl Γ last F zero [] (do_phrase t ∷ K1) (pc + 1) c v)
+      g_generic Y f F false last wd n r p t S K1 pc es er ew same a e (word_called f below each S a) (on (main f below each tpl Γ last F zero [] (do_phrase t ∷ K1) (pc + 1) c v))
   main f below each tpl Γ last F d S K pc (c_next {p = p} {t = t} {K = K1} m n j r em er ew same a e c) v =
-      g_next Y f F last m n j r p t S K1 pc em er ew same a e (word_called f below each S a) (main f below each tpl Γ last F zero [] (do_phrase t ∷ K1) (pc + 1) c v)
+      g_next Y f F false last m n j r p t S K1 pc em er ew same a e (word_called f below each S a) (on (main f below each tpl Γ last F zero [] (do_phrase t ∷ K1) (pc + 1) c v))
+  main f below each tpl Γ last F d S K pc (c_tail {p = p} {i = i} {x = x} {K = K1} calling k a e) v = g_tail f below each tpl F i x p S K1 pc calling k a e
 
   below_all : EachCalled P M T → (f : ℕ) → Below f
   below_all each zero g lt = absurd (omega (arith, lt))

@@ -130,6 +130,8 @@ module _ (P : Program) (M : Image) (T : Templates) where
   pub data Stands (last : Instr) : List MValue → ℕ → Phrase → Type 0 where
     s_end : {F : List MValue} {pc : ℕ} → slice_get M.code pc ≡ Some last → Stands last F pc end
     s_item : {F : List MValue} {pc : ℕ} {i : Item} {p : Place} {t : Phrase} (x : Instr) → slice_get M.code pc ≡ Some x → Translates F i x → Stands last F (pc + 1) t → Stands last F pc (then i p t)
+    -- the last item of a phrase that goes back is called with no return entry
+    s_tail : {F : List MValue} {pc : ℕ} {i : Item} {p : Place} (x : Instr) → last ≡ Ret → slice_get M.code pc ≡ Some x → Calling P M true i x → Stands last F pc (then i p end)
     -- behind a binding they stand for the rest with whatever value was put
     s_bind :
         {F : List MValue} {pc : ℕ} {y : ℕ} {p : Place} {t : Phrase} →

@@ -14,9 +14,10 @@ use Rattle.fac_lang.specs.Phrases.{int, yes, no, str, wrd, Phrase, end, then, It
 use Rattle.fac_locals.specs.declared.closing.Closed.{Closed}
 use Rattle.fac_code.specs.declared.image.Image.{Image}
 use Rattle.fac_code.specs.declared.image.Instr.{Instr}
-use Rattle.fac_code.specs.declared.image.Instr.TheVariants.{CallEffect, Ret}
+use Rattle.fac_code.specs.declared.image.Instr.TheVariants.{Callw, Call, If, Execute, CallEffect, ExecuteEffect, Ret, Generic, Next}
 use Rattle.fac_emit.specs.Heights.{asks, phrase_asks, sort_asks, template_asks, word_asks, asks_effects}
-use Rattle.fac_emit.specs.ProgramCode.{core_instr, sort_instr, word_instr, made_instr, item_instr, phrase_code, templates_code, last_instr, sort_code, code_from, program_code}
+use Rattle.fac_emit.specs.ProgramCode.{core_instr, sort_instr, word_instr, made_instr, item_instr, tailed, before, phrase_code, templates_code, last_instr, sort_code, code_from, program_code}
+use Rattle.fac_emit.proofs.TailCalls.{before_same}
 use Rattle.fac_carry.specs.Stands.{making}
 use Rattle.fac_carry.specs.TestedCalls.{TestsCallables}
 
@@ -44,6 +45,17 @@ made_tests q (Some t) = by t.holes
     by zero = refl
     by (suc n) = refl
 
+tailed_tests : (i : Instr) → tests (tailed i) ≡ tests i
+tailed_tests (Callw w t) = refl
+tailed_tests (Call t) = refl
+tailed_tests (If t) = refl
+tailed_tests (Execute t) = refl
+tailed_tests (CallEffect h t) = refl
+tailed_tests (ExecuteEffect h t) = refl
+tailed_tests (Generic g t) = refl
+tailed_tests (Next m t) = refl
+tailed_tests _ = refl
+
 -- what is asked here or there
 either_asks : (a b c d : Bool) → a ≡ b → c ≡ d → (a || c) ≡ (b || d)
 either_asks a b c d p q = ap (λ (x : Bool). x || c) p ∙ ap (λ (x : Bool). b || x) q
@@ -70,7 +82,9 @@ module _ (C : Closed) where
 
   phrase_tests : (last : Instr) (t : Phrase) → tests last ≡ false → list_any tests (phrase_code C last t) ≡ phrase_asks t
   phrase_tests last end l = ap (λ (x : Bool). x || false) l
-  phrase_tests last (then i p t) l = either_asks (tests (item_instr C i)) (asks i) (list_any tests (phrase_code C last t)) (phrase_asks t) (item_tests i) (phrase_tests last t l)
+  phrase_tests last (then i p t) l =
+      let i_tests : tests (before t last (item_instr C i)) ≡ asks i = before_same tests tailed_tests t last (item_instr C i) ∙ item_tests i in
+      either_asks (tests (before t last (item_instr C i))) (asks i) (list_any tests (phrase_code C last t)) (phrase_asks t) i_tests (phrase_tests last t l)
 
   both_test : (xs ys : List Instr) (b d : Bool) → list_any tests xs ≡ b → list_any tests ys ≡ d → list_any tests (xs ++ ys) ≡ (b || d)
   both_test xs ys b d p q = list_any-append tests xs ys ∙ either_asks (list_any tests xs) b (list_any tests ys) d p q

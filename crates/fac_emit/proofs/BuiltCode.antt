@@ -16,10 +16,11 @@ use Rattle.fac_lang.specs.Primitives.{is_built_primitive}
 use Rattle.fac_locals.specs.Closed.{Closes}
 use Rattle.fac_locals.specs.declared.closing.Closed.{Closed}
 use Rattle.fac_code.specs.declared.image.Instr.{Instr}
-use Rattle.fac_code.specs.declared.image.Instr.TheVariants.{Ret, Callp, Jump, Branch}
+use Rattle.fac_code.specs.declared.image.Instr.TheVariants.{Callw, Callp, Call, If, Execute, CallEffect, ExecuteEffect, Ret, Jump, Branch, Generic, Next}
 use Rattle.fac_code.specs.Code.{is_built_instr, has_built_code}
 use Rattle.fac_code.specs.References.{place_refers, places_refer}
-use Rattle.fac_emit.specs.ProgramCode.{core_instr, sort_instr, word_instr, made_instr, item_instr, phrase_code, templates_code, last_instr, sort_code, code_from, program_code}
+use Rattle.fac_emit.specs.ProgramCode.{core_instr, sort_instr, word_instr, made_instr, item_instr, tailed, before, phrase_code, templates_code, last_instr, sort_code, code_from, program_code}
+use Rattle.fac_emit.proofs.TailCalls.{before_same}
 use Rattle.fac_carry.specs.Stands.{making}
 use Rattle.fac_emit.proofs.Closings.{Alike, a_same, a_body, a_past, a_method, AlikeWords, alike_words}
 
@@ -88,6 +89,17 @@ core_plain c_execute = refl
 core_plain c_boa = refl
 core_plain c_cond = refl
 
+tailed_plain : (i : Instr) → is_plain (tailed i) ≡ is_plain i
+tailed_plain (Callw w t) = refl
+tailed_plain (Call t) = refl
+tailed_plain (If t) = refl
+tailed_plain (Execute t) = refl
+tailed_plain (CallEffect h t) = refl
+tailed_plain (ExecuteEffect h t) = refl
+tailed_plain (Generic g t) = refl
+tailed_plain (Next m t) = refl
+tailed_plain _ = refl
+
 -- the instruction of a quotation or fry
 made_plain : (q : ℕ) (o : Option Template) → is_plain (made_instr q o) ≡ true
 made_plain q None = refl
@@ -122,7 +134,9 @@ module _ (C : Closed) where
 
     phrase_plain : (last : Instr) (t : Phrase) → is_plain last ≡ true → ArePlain (phrase_code C last t)
     phrase_plain last end l = and_true (is_plain last) true l refl
-    phrase_plain last (then i p t) l = and_true (is_plain (item_instr C i)) (list_all is_plain (phrase_code C last t)) (item_plain i) (phrase_plain last t l)
+    phrase_plain last (then i p t) l =
+        let i_plain : is_plain (before t last (item_instr C i)) ≡ true = before_same is_plain tailed_plain t last (item_instr C i) ∙ item_plain i in
+        and_true (is_plain (before t last (item_instr C i))) (list_all is_plain (phrase_code C last t)) i_plain (phrase_plain last t l)
 
     templates_plain : (ts : List Template) → ArePlain (templates_code C ts)
     templates_plain [] = refl

@@ -21,7 +21,7 @@ use Rattle.fac_locals.specs.declared.closing.Closed.{Closed}
 use Rattle.fac_code.specs.declared.image.Instr.{Instr}
 use Rattle.fac_code.specs.declared.image.Tables.{Tables}
 use Rattle.fac_code.specs.References.{instr_refers}
-use Rattle.fac_emit.specs.ProgramCode.{core_instr, item_instr, phrase_code, last_instr}
+use Rattle.fac_emit.specs.ProgramCode.{core_instr, item_instr, before, phrase_code, last_instr}
 use Rattle.fac_emit.proofs.BuiltCode.{and_true}
 use Rattle.fac_emit.proofs.Closings.{Closing, closing}
 use Rattle.fac_emit.proofs.NamedArrays.{NamesArrays, SortNames}
@@ -55,7 +55,7 @@ one_passes test (y ∷ xs) (suc k) x h e = one_passes test xs k x (first_true (t
 -- code of a phrase isn't empty
 phrase_first : (C : Closed) (last : Instr) (t : Phrase) → (x : Instr) × (more : List Instr) × (phrase_code C last t ≡ x ∷ more)
 phrase_first C last end = (last, [], refl)
-phrase_first C last (then i p t) = (item_instr C i, phrase_code C last t, refl)
+phrase_first C last (then i p t) = (before t last (item_instr C i), phrase_code C last t, refl)
 
 -- so it begins at a place in the code
 pub begins_within : (code : List Instr) (C : Closed) (last : Instr) (t : Phrase) (at : ℕ) (more : List Instr) → drop at code ≡ phrase_code C last t ++ more → nat_lt at (length code) ≡ true

@@ -14,7 +14,7 @@ use Rattle.fac_lang.specs.declared.program.Shape.{Shape}
 use Rattle.fac_lang.specs.declared.program.Shape.TheVariants.{Kind as built_in, Tuple as tuple_class}
 use Rattle.fac_lang.specs.declared.program.WordDef.{WordDef}
 use Rattle.fac_lang.specs.declared.program.Sort.{Sort}
-use Rattle.fac_lang.specs.declared.core_table.CoreWord.TheVariants.{Call as w_call, Dip as w_dip, Execute as w_execute, Boa as w_boa, Cond as w_cond}
+use Rattle.fac_lang.specs.declared.core_table.CoreWord.TheVariants.{Call as w_call, Dip as w_dip, If as w_if, Execute as w_execute, Boa as w_boa, Cond as w_cond}
 use Rattle.fac_lang.specs.declared.program.Sort.TheVariants.{Prim as prim, Core as core, Body as body, Itself as itself, Class as class, Isa as isa, Getter as getter, Generic as generic, Method as method}
 use Rattle.fac_lang.specs.Phrases.{int, str, wrd, Phrase, end, then, Item, lit, lit_arr, quot, word, bind, local, fry, hole, call_effect, execute_effect, next_method, held}
 use Rattle.fac_lang.specs.Substitution.{put_holes}
@@ -24,7 +24,7 @@ use Rattle.fac_code.specs.References.{refers}
 use Rattle.fac_lang.specs.Meaning.{nowhere}
 use Rattle.fac_locals.specs.declared.closing.Closed.{Closed}
 use Rattle.fac_locals.proofs.ClosedForms.{made_words, made_templates}
-use Rattle.fac_code.specs.declared.image.Instr.TheVariants.{Halt, Int, Text, Array, Word, Quot, Fry, Bind, Local, Prim, Callw, Call, Dip, Execute, CallEffect, ExecuteEffect, Ret, Boa, Generic, Next}
+use Rattle.fac_code.specs.declared.image.Instr.TheVariants.{Halt, Int, Text, Array, Word, Quot, Fry, Bind, Local, Prim, Callw, Call, Dip, If, Execute, CallEffect, ExecuteEffect, Ret, Boa, Generic, Next}
 use Rattle.fac_code.specs.declared.image.Elem.TheVariants as elem
 use Rattle.fac_code.specs.declared.image.Action.TheVariants as action
 use Rattle.fac_code.specs.declared.image.Action.{Action}
@@ -32,7 +32,7 @@ use Rattle.fac_code.specs.declared.image.TemplateRow.{TemplateRow}
 use Rattle.fac_code.specs.declared.image.WordRow.{WordRow}
 use Rattle.fac_code.specs.declared.image.Image.{Image}
 use Rattle.fac_store.specs.MachineValues.{MValue, m_plain}
-use Rattle.fac_machine.specs.Machine.{End, done, failed, steps, first_world, starting}
+use Rattle.fac_machine.specs.Machine.{Entry, resume, End, done, failed, spent, steps, first_world, starting}
 use Rattle.fac_emit.specs.ProgramTexts.{text_levels, program_texts}
 use Rattle.fac_emit.specs.ProgramTables.{program_kinds, program_sets, program_pairs}
 use Rattle.fac_emit.specs.ProgramCode.{core_action, program_code, program_templates, program_words, program_generics, program_arrays, program_tables}
@@ -409,3 +409,59 @@ unfit_ends = refl
 
 unknown_ends : failing (steps (tested_image []) 60 (starting (tested_image []) [] (first_world (tested_image []) [])) 20) ≡ Some (WrongValues, 4294967294, 17)
 unknown_ends = refl
+
+-- The last item of each phrase but the top-level one is a tail call where it calls. A `dip` isn't one, since its value comes back, nor is a call before another item:
+-- : w w ;   : .. call ;   : .. if ;   : .. execute ;   : .. call( x -- y ) ;   : .. execute( x -- y ) ;   : .. size ;   M: .. size call-next-method ;   : .. dip ;   : .. w 1 ;   w
+abbrev ending_in : Item → WordDef
+ending_in i = named (body (items (i ∷ [])))
+
+abbrev tails : Closed
+tails =
+    closed_from (named (core w_call) ∷ named (core w_if) ∷ named (core w_execute) ∷ named (core w_dip) ∷ named generic ∷
+    ending_in (word 5) ∷ ending_in (word 0) ∷ ending_in (word 1) ∷ ending_in (word 2) ∷ ending_in (call_effect (from 1 1)) ∷ ending_in (execute_effect (from 1 1)) ∷ ending_in (word 4) ∷ named (method 0 4 (items (next_method ∷ []))) ∷ ending_in (word 3) ∷
+    named (body (items (word 5 ∷ number 1 ∷ []))) ∷ ending_in (word 5) ∷ []) 15
+
+tails_code : program_code tails ≡
+    Callw 5 true ∷ Ret ∷ Call true ∷ Ret ∷ If true ∷ Ret ∷ Execute true ∷ Ret ∷ CallEffect (from 1 1) true ∷ Ret ∷ ExecuteEffect (from 1 1) true ∷ Ret ∷ Generic 0 true ∷ Ret ∷ Next 12 true ∷ Ret ∷ Dip ∷ Ret ∷
+    Callw 5 false ∷ Int (pos 1) ∷ Ret ∷ Callw 5 false ∷ Halt ∷ []
+tails_code = refl
+
+-- So a word that calls itself last leaves nothing: : w [ w ] call ;   w
+abbrev endless : Closed
+endless = closed_from (named (core w_call) ∷ named (body (items (quot (items (word 1 ∷ [])) ∷ word 0 ∷ []))) ∷ ending_in (word 1) ∷ []) 2
+
+endless_code : program_code endless ≡ Callw 1 true ∷ Ret ∷ Quot 0 ∷ Call true ∷ Ret ∷ Callw 1 false ∷ Halt ∷ []
+endless_code = refl
+
+pub endless_built : has_built_code (program_code endless) ≡ true
+endless_built = refl
+
+pub endless_refers : refers (program_tables endless []) (program_code endless) 5 ≡ true
+unfolding program_texts text_levels
+endless_refers = refl
+
+abbrev endless_image : Image
+endless_image =
+    record {
+      arrays = [];
+      kinds = [];
+      sets = [];
+      generics = [];
+      pairs = [];
+      templates = program_templates endless [];
+      words = program_words endless;
+      texts = program_texts endless;
+      code = program_code endless;
+      start = 5;
+      built = endless_built;
+      refers = endless_refers;
+    }
+
+-- the return entries where the ticks are spent
+abbrev entries_left : Option End → Option (List Entry)
+entries_left (Some (spent s)) = Some s.returns
+entries_left _ = None
+
+-- after a thousand ticks there is the top-level phrase's entry alone
+endless_entries : entries_left (steps endless_image 1001 (starting endless_image [] (first_world endless_image [])) 1000) ≡ Some (resume 6 [] ∷ [])
+endless_entries = refl

@@ -19,6 +19,7 @@ pub mod NamedArrays
 pub mod TableReferences
 pub mod NextMethods
 pub mod ClosedWords
+pub mod TailCalls
 pub mod ReferenceLemmas
 pub mod EmitLemmas
 pub mod CodedItems

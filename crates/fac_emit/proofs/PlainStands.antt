@@ -3,12 +3,13 @@ use Rattle.std.proofs.Common.{◌≡◌, ◌<◌, ℕ, ◌+◌, List, [], ◌∷
 use Rattle.std.proofs.lemmas.Bool.{ne_eqb}
 use Rattle.std.specs.Prelude.{nat_eq, slice_get}
 use Rattle.fac_base.specs.declared.height.Height.{Height}
+use Rattle.fac_base.specs.declared.place.Place.{Place}
 use Rattle.fac_lang.specs.declared.phrase.Template.{Template}
 use Rattle.fac_lang.specs.declared.program.Program.{Program}
 use Rattle.fac_lang.specs.declared.program.WordDef.{WordDef}
 use Rattle.fac_lang.specs.declared.program.Sort.{Sort}
 use Rattle.fac_lang.specs.declared.program.Sort.TheVariants.{Prim as prim_sort, Core as core_sort, Body as body, Itself as itself, Class as class, Isa as isa, Getter as getter, Setter as setter, Putter as putter, Generic as generic, Method as method}
-use Rattle.fac_lang.specs.Phrases.{int, yes, no, str, wrd, Literal, Phrase, Item, lit, lit_arr, quot, word, bind, fry, call_effect, execute_effect, next_method, next_after, held, Value}
+use Rattle.fac_lang.specs.Phrases.{int, yes, no, str, wrd, Literal, Phrase, end, then, Item, lit, lit_arr, quot, word, bind, fry, call_effect, execute_effect, next_method, next_after, held, Value}
 use Rattle.fac_lang.specs.Substitution.{put_local, put_holes}
 use Rattle.fac_lang.proofs.SourcePrograms.{IsSourceProgram, IsSourceSort}
 use Rattle.fac_lang.specs.Whole.{IsWhole}
@@ -26,7 +27,7 @@ use Rattle.fac_locals.specs.OpenedPrograms.{OpensSort, OpensProgram}
 use Rattle.fac_locals.proofs.OpeningLaws.{programs_open}
 use Rattle.fac_locals.proofs.Lookups.{word_closed, template_closed}
 use Rattle.fac_code.specs.declared.image.Instr.{Instr}
-use Rattle.fac_code.specs.declared.image.Instr.TheVariants.{Halt, Quot, Bind, Local, Callw, Ret, Boa}
+use Rattle.fac_code.specs.declared.image.Instr.TheVariants.{Halt, Quot, Bind, Local, Callw, Call, If, Execute, CallEffect, ExecuteEffect, Ret, Boa, Generic, Next}
 use Rattle.fac_code.specs.declared.image.Action.TheVariants as action
 use Rattle.fac_code.specs.declared.image.GenericRow.{GenericRow}
 use Rattle.fac_code.specs.declared.image.Image.{Image}
@@ -39,8 +40,8 @@ use Rattle.fac_carry.specs.MachineView.{Templates, template_phrases, value_view,
 use Rattle.fac_machine.specs.Machine.{method_after, method_place}
 use Rattle.fac_emit.specs.ProgramTexts.{own_texts, own_item_texts, program_texts, text_number}
 use Rattle.fac_emit.specs.ProgramTables.{generic_number, method_row}
-use Rattle.fac_emit.specs.ProgramCode.{core_instr, core_action, sort_instr, made_instr, item_instr, phrase_code, last_instr, sort_action, sort_code, word_row, code_place, program_words, program_generics, IsPlain}
-use Rattle.fac_carry.specs.Stands.{RunsPhrase, making, SameMethod, l_word, l_call, l_if, l_execute, l_call_effect, l_execute_effect, l_generic, l_next, Acting, a_itself, a_prim, a_accessor, a_isa, a_core, a_stuck, a_code, a_generic, HasAction, Translates, t_int, t_true, t_false, t_text, t_array, t_reference, t_symbol, t_held, t_quot, t_fry, t_prim, t_accessor, t_isa, t_dip, t_boa, t_stuck, t_calling, Stands, s_end, s_item, s_bind, Coded, PlainCode}
+use Rattle.fac_emit.specs.ProgramCode.{core_instr, core_action, sort_instr, made_instr, item_instr, tailed, before, phrase_code, last_instr, sort_action, sort_code, word_row, code_place, program_words, program_generics, IsPlain}
+use Rattle.fac_carry.specs.Stands.{RunsPhrase, making, SameMethod, l_word, l_call, l_if, l_execute, l_call_effect, l_execute_effect, l_generic, l_next, Acting, a_itself, a_prim, a_accessor, a_isa, a_core, a_stuck, a_code, a_generic, HasAction, Translates, t_int, t_true, t_false, t_text, t_array, t_reference, t_symbol, t_held, t_quot, t_fry, t_prim, t_accessor, t_isa, t_dip, t_boa, t_stuck, t_calling, Stands, s_end, s_item, s_tail, s_bind, Coded, PlainCode}
 use Rattle.fac_emit.proofs.Closings.{alike, closing, closed_runs, IsClosedItem, AreClosedItems}
 use Rattle.fac_carry.proofs.HeldFrames.{helds, helds_put, helds_count, helds_more, held_at, captured_values, kept_list_view}
 use Rattle.fac_emit.proofs.FirstWords.{Named, named_alike, accessor_slot, word_slot, DoAsSorts, first_prim, first_accessor}
@@ -49,6 +50,7 @@ use Rattle.fac_emit.proofs.NextMethods.{method_found}
 use Rattle.fac_emit.proofs.Placed.{Rows, code_at, row_of, template_at, all_rows}
 use Rattle.fac_emit.proofs.PlacedWords.{found_below, Ran, ran, text_in, WordPut, word_put, word_does, place_by, has_code, one_place, in_set, picked_same, next_same, generic_row}
 use Rattle.fac_carry.proofs.ElementLemmas.{element_at}
+use Rattle.fac_emit.proofs.TailCalls.{bind_before, tailed_making, tailed_accessor}
 use Rattle.fac_emit.proofs.TopPhrases.{no_top, before_top}
 use Rattle.fac_locals.proofs.RunningPhrases.{IsMethod, word_runs, literal_runs}
 use Rattle.fac_emit.proofs.TableNumbers.{order_same}
@@ -229,19 +231,44 @@ module _ (P : Program) (C : Closed) (heights : List (Option Height)) (M : Image)
   item_does F at j i (o_quotation k t is et eh where_at ei) r n = quotation_does F k t is et eh ei
   item_does F at j i (o_fry k t is u et where_at ei puts) r n = fry_does F k t is u et ei puts
 
+  -- the last item of a phrase that goes back: a tail call where it calls, and as elsewhere where it doesn't
+  tail_does : (F : List MValue) (i : Item) (x : Instr) (p : Place) (pc : ℕ) → slice_get M.code pc ≡ Some (tailed x) → Translates P M T F i x → Stands P M T Ret F (pc + 1) end → Stands P M T Ret F pc (then i p end)
+  tail_does F i x p pc e (t_calling (l_word w a h)) rest = s_tail (Callw w true) refl e (l_word w a h)
+  tail_does F i x p pc e (t_calling (l_call w is)) rest = s_tail (Call true) refl e (l_call w is)
+  tail_does F i x p pc e (t_calling (l_if w is)) rest = s_tail (If true) refl e (l_if w is)
+  tail_does F i x p pc e (t_calling (l_execute w is)) rest = s_tail (Execute true) refl e (l_execute w is)
+  tail_does F i x p pc e (t_calling (l_call_effect h)) rest = s_tail (CallEffect h true) refl e (l_call_effect h)
+  tail_does F i x p pc e (t_calling (l_execute_effect h)) rest = s_tail (ExecuteEffect h true) refl e (l_execute_effect h)
+  tail_does F i x p pc e (t_calling (l_generic w n r is there own same)) rest = s_tail (Generic n true) refl e (l_generic w n r is there own same)
+  tail_does F i x p pc e (t_calling (l_next m n j r at there own same)) rest = s_tail (Next m true) refl e (l_next m n j r at there own same)
+  tail_does F i x p pc e (t_stuck y stuck) rest = s_item (tailed y) e (t_stuck (tailed y) stuck) rest
+  tail_does F i x p pc e (t_fry q r vs b there cells put) rest = s_item (making q r.holes) (e ∙ ap Some (tailed_making q r.holes)) (t_fry q r vs b there cells put) rest
+  tail_does F i x p pc e (t_accessor y w k s is there first) rest = s_item (accessor_instr y k) (e ∙ ap Some (tailed_accessor y k)) (t_accessor y w k s is there first) rest
+  tail_does F i x p pc e does rest = s_item x e does rest
+
+  -- an item before the rest of a phrase
+  item_stands :
+      (last : Instr) (F : List MValue) (frame : List Item) (at : Literal) (i : Item) (x : Instr) (p : Place) (pc : ℕ) (c t : Phrase) → slice_get M.code pc ≡ Some (before c last x) → Translates P M T F i x → Opens P C.templates frame at c t →
+      Stands P M T last F (pc + 1) t → Stands P M T last F pc (then i p t)
+  item_stands Ret F frame at i x p pc c t e does o_end rest = tail_does F i x p pc e does rest
+  item_stands last F frame at i x p pc c t e does o_end rest = s_item x e does rest
+  item_stands last F frame at i x p pc c t e does (o_item h later) rest = s_item x e does rest
+  item_stands last F frame at i x p pc c t e does (o_bind later) rest = s_item x e does rest
+
   -- The code of a closed phrase stands for the phrase that it opens to under a frame, whatever comes behind.
   phrase_stands :
       (last : Instr) (F : List MValue) (frame : List Item) (pc : ℕ) (at : Literal) (c t : Phrase) (more : List Instr) → frame ≡ helds T F → Opens P C.templates frame at c t → AreClosedItems P c → AreAmong (program_texts C) (own_texts c) →
       drop pc M.code ≡ phrase_code C last c ++ more → Stands P M T last F pc t
   phrase_stands last F frame pc at c t more is o_end r n e = s_end (code_at M.code pc last more e).0
-  phrase_stands last F frame pc at c t more is (o_item {j = j} {i = i} {c = d} h later) r n e =
+  phrase_stands last F frame pc at c t more is (o_item {j = j} {i = i} {p = p} {c = d} {t = u} h later) r n e =
       let x = item_instr C j in
-      let found = code_at M.code pc x (phrase_code C last d ++ more) e in
+      let found = code_at M.code pc (before d last x) (phrase_code C last d ++ more) e in
       let named = both_among (program_texts C) (own_item_texts j) (own_texts d) n in
-      s_item x found.0 (item_does F at j i (subst (λ (fs : List Item). OpensItem P C.templates fs at j i) is h) r.0 named.0) (phrase_stands last F frame (pc + 1) (behind at i) d _ more is later r.1 named.1 found.1)
+      item_stands last F frame (behind at i) i x p pc d u found.0 (item_does F at j i (subst (λ (fs : List Item). OpensItem P C.templates fs at j i) is h) r.0 named.0) later
+      (phrase_stands last F frame (pc + 1) (behind at i) d u more is later r.1 named.1 found.1)
   phrase_stands last F frame pc at c t more is (o_bind {x = y} {c = d} {t = u} later) r n e =
-      let found = code_at M.code pc Bind (phrase_code C last d ++ more) e in
-      s_bind found.0 (λ v whole. phrase_stands last (F ++ v ∷ []) (frame ++ held (value_view T v) ∷ []) (pc + 1) (behind at (bind y)) d (put_local y (held (value_view T v)) u) more
+      let found = code_at M.code pc (before d last Bind) (phrase_code C last d ++ more) e in
+      s_bind (found.0 ∙ ap Some (bind_before d last)) (λ v whole. phrase_stands last (F ++ v ∷ []) (frame ++ held (value_view T v) ∷ []) (pc + 1) (behind at (bind y)) d (put_local y (held (value_view T v)) u) more
       (ap (λ (fs : List Item). fs ++ held (value_view T v) ∷ []) is ∙ sym (helds_more T F (v ∷ []))) (later (held (value_view T v)) tt) r.1 n found.1)
 
   -- the closed phrase of a word that runs a phrase

@@ -1,5 +1,5 @@
 -- Each number in plain code and its tables names something.
-use Rattle.std.proofs.Common.{◌≡◌, ◌<◌, ℕ, zero, suc, ◌+◌, List, [], ◌∷◌, ◌++◌, length, map, drop, Bool, true, ◌&&◌, Option, Some, None, refl, ap, sym, subst, ◌∙◌, arith}
+use Rattle.std.proofs.Common.{◌≡◌, ◌<◌, ℕ, zero, suc, ◌+◌, List, [], ◌∷◌, ◌++◌, length, map, drop, Bool, true, false, ◌&&◌, Option, Some, None, refl, ap, sym, subst, ◌∙◌, arith}
 use Rattle.std.proofs.lemmas.Bool.{lt-ltb, ltb-true}
 use Rattle.std.proofs.lemmas.List.{length-map, append-nil}
 use Rattle.std.proofs.lemmas.List.Folds.{list_all-append}
@@ -27,7 +27,7 @@ use Rattle.fac_locals.specs.declared.closing.Closed.{Closed}
 use Rattle.fac_locals.proofs.Lookups.{word_open, word_closed, template_closed}
 use Rattle.fac_lang.proofs.FormsLemmas.{word_below, top_word}
 use Rattle.fac_code.specs.declared.image.Instr.{Instr}
-use Rattle.fac_code.specs.declared.image.Instr.TheVariants.{Ret}
+use Rattle.fac_code.specs.declared.image.Instr.TheVariants.{Int, True, False, Text, Array, Word, Bind, Local, Callw, Call, If, Execute, CallEffect, ExecuteEffect, Ret, Generic, Next}
 use Rattle.fac_code.specs.declared.image.Action.{Action}
 use Rattle.fac_code.specs.declared.image.Action.TheVariants as action
 use Rattle.fac_code.specs.declared.image.GenericRow.{GenericRow}
@@ -39,9 +39,10 @@ use Rattle.fac_code.specs.References.{is_code, names_code, has_method, names_met
 use Rattle.fac_generic.specs.Methods.{methods_in_order}
 use Rattle.fac_emit.specs.ProgramTexts.{own_texts, own_elements_texts, sort_texts, arrays_texts, program_texts, text_number}
 use Rattle.fac_emit.specs.ProgramTables.{generic_number, method_row, generics_from}
-use Rattle.fac_emit.specs.ProgramCode.{core_action, sort_instr, word_instr, made_instr, phrase_code, templates_code, last_instr, sort_action, word_row, sort_code, word_code, code_from, words_from, program_code, program_tables, elem_of, elems_of}
+use Rattle.fac_emit.specs.ProgramCode.{core_action, sort_instr, word_instr, made_instr, stuck_instr, tailed, before, phrase_code, templates_code, last_instr, sort_action, word_row, sort_code, word_code, code_from, words_from, program_code, program_tables, elem_of, elems_of}
 use Rattle.fac_carry.specs.Stands.{RunsPhrase, making}
 use Rattle.fac_emit.proofs.BuiltCode.{and_true, code_plain, places_of}
+use Rattle.fac_emit.proofs.TailCalls.{before_same}
 use Rattle.fac_emit.proofs.FirstWords.{any_there}
 use Rattle.fac_emit.proofs.Closings.{alike, drop_behind, Closing, c_end, c_int, c_true, c_false, c_text, c_array, c_ref, c_word, c_quot, c_fry, c_bind, c_local, c_hole, c_call_effect, c_execute_effect, c_outside, c_next, closing}
 use Rattle.fac_emit.proofs.MadeArrays.{has_first}
@@ -134,31 +135,45 @@ module _ (P : Program) (C : Closed) (heights : List (Option Height)) (built : Is
   abbrev Refers : List Instr → Type 0
   Refers is = list_all (instr_refers T) is ≡ true
 
+  tailed_refers : (i : Instr) → instr_refers T (tailed i) ≡ instr_refers T i
+  tailed_refers (Callw w t) = refl
+  tailed_refers (Call t) = refl
+  tailed_refers (If t) = refl
+  tailed_refers (Execute t) = refl
+  tailed_refers (CallEffect h t) = refl
+  tailed_refers (ExecuteEffect h t) = refl
+  tailed_refers (Generic g t) = refl
+  tailed_refers (Next m t) = refl
+  tailed_refers _ = refl
+
+  -- an instruction before the rest of a phrase
+  both_refer : (last i : Instr) (d : Phrase) → instr_refers T i ≡ true → Refers (phrase_code C last d) → Refers (before d last i ∷ phrase_code C last d)
+  both_refer last i d h rest = and_true (instr_refers T (before d last i)) (list_all (instr_refers T) (phrase_code C last d)) (before_same (instr_refers T) tailed_refers d last i ∙ h) rest
+
   phrase_refers : (last : Instr) (cells : List Cell) (at : Literal) (t c : Phrase) → instr_refers T last ≡ true → Closing P cells at t c → at.word < length P.words → Named (own_texts c) → NamesArrays P t → Refers (phrase_code C last c)
   phrase_refers last cells at t c l c_end lt n f = and_true (instr_refers T last) true l refl
-  phrase_refers last cells at t c l (c_int z h) lt n f = phrase_refers last _ _ _ _ l h lt n f.1
-  phrase_refers last cells at t c l (c_true h) lt n f = phrase_refers last _ _ _ _ l h lt n f.1
-  phrase_refers last cells at t c l (c_false h) lt n f = phrase_refers last _ _ _ _ l h lt n f.1
-  phrase_refers last cells at t c l (c_text {c = d} cs h) lt n f =
-      and_true (nat_lt (text_number C cs) (length T.texts)) (list_all (instr_refers T) (phrase_code C last d)) (text_below C cs n.0) (phrase_refers last _ _ _ d l h lt n.1 f.1)
-  phrase_refers last cells at t c l (c_array {c = d} a h) lt n f = and_true (nat_lt a (length T.arrays)) (list_all (instr_refers T) (phrase_code C last d)) (ap (nat_lt a) all_arrays ∙ f.0) (phrase_refers last _ _ _ d l h lt n f.1)
+  phrase_refers last cells at t c l (c_int {c = d} z h) lt n f = both_refer last (Int z) d refl (phrase_refers last _ _ _ d l h lt n f.1)
+  phrase_refers last cells at t c l (c_true {c = d} h) lt n f = both_refer last True d refl (phrase_refers last _ _ _ d l h lt n f.1)
+  phrase_refers last cells at t c l (c_false {c = d} h) lt n f = both_refer last False d refl (phrase_refers last _ _ _ d l h lt n f.1)
+  phrase_refers last cells at t c l (c_text {c = d} cs h) lt n f = both_refer last (Text (text_number C cs)) d (text_below C cs n.0) (phrase_refers last _ _ _ d l h lt n.1 f.1)
+  phrase_refers last cells at t c l (c_array {c = d} a h) lt n f = both_refer last (Array a) d (ap (nat_lt a) all_arrays ∙ f.0) (phrase_refers last _ _ _ d l h lt n f.1)
   phrase_refers last cells at t c l (c_ref {c = d} w below h) lt n f =
       let found = word_below P built w below in
       let closed = word_closed P C.program C.templates closes w found.def found.at in
-      and_true (nat_lt w (length T.words)) (list_all (instr_refers T) (phrase_code C last d)) (word_row_there w closed.closed closed.at) (phrase_refers last _ _ _ d l h lt n f.1)
+      both_refer last (Word w) d (word_row_there w closed.closed closed.at) (phrase_refers last _ _ _ d l h lt n f.1)
   phrase_refers last cells at t c l (c_word {c = d} w below h) lt n f =
-      and_true (instr_refers T (word_instr C w (slice_get C.program.words w))) (list_all (instr_refers T) (phrase_code C last d)) (word_refers_to w (slice_get C.program.words w) refl) (phrase_refers last _ _ _ d l h lt n f.1)
+      both_refer last (word_instr C w (slice_get C.program.words w)) d (word_refers_to w (slice_get C.program.words w) refl) (phrase_refers last _ _ _ d l h lt n f.1)
   phrase_refers last cells at t c l (c_quot {c = d} u q is h) lt n f =
-      and_true (instr_refers T (made_instr q (slice_get C.templates q))) (list_all (instr_refers T) (phrase_code C last d)) (literal_refers q (record { at = at; cells = cells; item = quot u }) lt is) (phrase_refers last _ _ _ d l h lt n f.1)
+      both_refer last (made_instr q (slice_get C.templates q)) d (literal_refers q (record { at = at; cells = cells; item = quot u }) lt is) (phrase_refers last _ _ _ d l h lt n f.1)
   phrase_refers last cells at t c l (c_fry {c = d} u k q is h) lt n f =
-      and_true (instr_refers T (made_instr q (slice_get C.templates q))) (list_all (instr_refers T) (phrase_code C last d)) (literal_refers q (record { at = at; cells = cells; item = fry u k }) lt is) (phrase_refers last _ _ _ d l h lt n f.1)
-  phrase_refers last cells at t c l (c_bind x h) lt n f = phrase_refers last _ _ _ _ l h lt n f.1
-  phrase_refers last cells at t c l (c_local x k is h) lt n f = phrase_refers last _ _ _ _ l h lt n f.1
-  phrase_refers last cells at t c l (c_hole j k is h) lt n f = phrase_refers last _ _ _ _ l h lt n f.1
-  phrase_refers last cells at t c l (c_call_effect k h) lt n f = phrase_refers last _ _ _ _ l h lt n f.1
-  phrase_refers last cells at t c l (c_execute_effect k h) lt n f = phrase_refers last _ _ _ _ l h lt n f.1
-  phrase_refers last cells at t c l (c_outside h) lt n f = phrase_refers last _ _ _ _ l h lt n f.1
-  phrase_refers last cells at t c l (c_next {c = d} m is h) lt n f = and_true (names_method T.generics m) (list_all (instr_refers T) (phrase_code C last d)) (next_refers m is) (phrase_refers last _ _ _ d l h lt n f.1)
+      both_refer last (made_instr q (slice_get C.templates q)) d (literal_refers q (record { at = at; cells = cells; item = fry u k }) lt is) (phrase_refers last _ _ _ d l h lt n f.1)
+  phrase_refers last cells at t c l (c_bind {c = d} x h) lt n f = both_refer last Bind d refl (phrase_refers last _ _ _ d l h lt n f.1)
+  phrase_refers last cells at t c l (c_local {c = d} x k is h) lt n f = both_refer last (Local k) d refl (phrase_refers last _ _ _ d l h lt n f.1)
+  phrase_refers last cells at t c l (c_hole {c = d} j k is h) lt n f = both_refer last (Local k) d refl (phrase_refers last _ _ _ d l h lt n f.1)
+  phrase_refers last cells at t c l (c_call_effect {c = d} k h) lt n f = both_refer last (CallEffect k false) d refl (phrase_refers last _ _ _ d l h lt n f.1)
+  phrase_refers last cells at t c l (c_execute_effect {c = d} k h) lt n f = both_refer last (ExecuteEffect k false) d refl (phrase_refers last _ _ _ d l h lt n f.1)
+  phrase_refers last cells at t c l (c_outside {c = d} h) lt n f = both_refer last stuck_instr d refl (phrase_refers last _ _ _ d l h lt n f.1)
+  phrase_refers last cells at t c l (c_next {c = d} m is h) lt n f = both_refer last (Next m false) d (next_refers m is) (phrase_refers last _ _ _ d l h lt n f.1)
 
   template_refers_to : (q : ℕ) (t : Template) → slice_get C.templates q ≡ Some t → Refers (phrase_code C Ret t.body)
   template_refers_to q t e =

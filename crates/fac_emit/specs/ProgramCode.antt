@@ -57,6 +57,23 @@ abbrev pub last_instr : Bool → Instr
 last_instr true = Halt
 last_instr false = Ret
 
+-- an instruction as a tail call, where it calls
+abbrev pub tailed : Instr → Instr
+tailed (Callw w t) = Callw w true
+tailed (Call t) = Call true
+tailed (If t) = If true
+tailed (Execute t) = Execute true
+tailed (CallEffect h t) = CallEffect h true
+tailed (ExecuteEffect h t) = ExecuteEffect h true
+tailed (Generic g t) = Generic g true
+tailed (Next m t) = Next m true
+tailed i = i
+
+-- an instruction before the rest of a phrase and its last instruction: before `ret` alone it is a tail call
+abbrev pub before : Phrase → Instr → Instr → Instr
+before end Ret i = tailed i
+before _ _ i = i
+
 -- the row of a template with this effect, whose code stands at a place
 abbrev pub row_at : Option Height → ℕ → Template → TemplateRow
 row_at h at t = record { entry = at; cells = t.captures; holes = t.holes; height = h }
@@ -103,7 +120,7 @@ module _ (C : Closed) where
   -- the code of a phrase
   abbrev pub phrase_code : Instr → Phrase → List Instr
   phrase_code last end = last ∷ []
-  phrase_code last (then i place t) = item_instr i ∷ phrase_code last t
+  phrase_code last (then i place t) = before t last (item_instr i) ∷ phrase_code last t
 
   -- the code of templates, one behind the other
   abbrev pub templates_code : List Template → List Instr

@@ -1,16 +1,16 @@
 //! The plain code of words and templates.
 ghost use Rattle.std.specs.Prelude.{◌≡◌, ◌++◌, ◌∷◌, [], slice_get, OnOk};
-ghost use Rattle.fac_lang.specs.PhraseView.{what_item};
+ghost use Rattle.fac_lang.specs.PhraseView.{what_item, items_phrase};
 ghost use Rattle.fac_store.specs.CallableHeights.{height_there};
 ghost use Rattle.fac_carry.specs.Stands.{making};
-ghost use Rattle.fac_emit.specs.ProgramCode.{core_instr, word_instr, made_instr, item_instr, phrase_code, last_instr, sort_code};
+ghost use Rattle.fac_emit.specs.ProgramCode.{core_instr, word_instr, made_instr, item_instr, tailed, before, phrase_code, last_instr, sort_code};
 ghost use Rattle.fac_emit.specs.inner.AddedTemplates.{AddsTemplate, AddsTemplates};
 ghost use Rattle.fac_emit.specs.inner.NumberedWords.{numbered_instr};
 
 use crate::emission::Emission;
 use fac_base::{Duplicate, Height, List, Memory};
 use fac_code::{Instr, TemplateRow};
-use fac_lang::{CoreWord, Phrase, Sort, Template, What};
+use fac_lang::{CoreWord, Item, Phrase, Sort, Template, What};
 
 // The instruction of a core word. `cond` stands nowhere but in a phrase that nothing can do.
 fn instr_of_core(core: CoreWord) -> Instr
@@ -109,6 +109,39 @@ fn instr_of(emission: &Emission<'_>, what: &What) -> Instr
     }
 }
 
+// An instruction as a tail call, where it calls.
+fn as_tail_call(instr: Instr) -> Instr
+    ensures { result ≡ tailed instr }
+{
+    match instr {
+        Instr::Callw { word, .. } => Instr::Callw { word, tail: true },
+        Instr::Call { .. } => Instr::Call { tail: true },
+        Instr::If { .. } => Instr::If { tail: true },
+        Instr::Execute { .. } => Instr::Execute { tail: true },
+        Instr::CallEffect { height, .. } => Instr::CallEffect { height, tail: true },
+        Instr::ExecuteEffect { height, .. } => Instr::ExecuteEffect { height, tail: true },
+        Instr::Generic { generic, .. } => Instr::Generic {
+            generic,
+            tail: true,
+        },
+        Instr::Next { method, .. } => Instr::Next { method, tail: true },
+        _ => instr,
+    }
+}
+
+// An instruction before the rest of a phrase and its last instruction.
+fn instr_before(rest: &[Item], last: Instr, instr: Instr) -> Instr
+    ensures { result ≡ before (items_phrase rest.now) last instr }
+{
+    match rest.first() {
+        Some(_) => instr,
+        None => match last {
+            Instr::Ret => as_tail_call(instr),
+            _ => instr,
+        },
+    }
+}
+
 // Adds the code of a phrase.
 fn add_phrase(
     emission: &Emission<'_>,
@@ -118,8 +151,10 @@ fn add_phrase(
 ) -> Result<(), Memory>
     ensures { OnOk result (code.new ≡ code.old ++ phrase_code emission.now last phrase.now) }
 {
-    for item in &phrase.items {
-        code.push(instr_of(emission, &item.what))?;
+    let mut rest = phrase.items.as_slice();
+    'items: while let Some((item, behind)) = rest.split_first() {
+        code.push(instr_before(behind, last, instr_of(emission, &item.what)))?;
+        rest = behind;
     }
     code.push(last)
 }
