@@ -1,0 +1,4 @@
+-- What only the contracts of inner functions cite.
+pub mod Drafts
+pub mod Stacks
+pub mod PieceCode

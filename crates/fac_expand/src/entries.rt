@@ -1,0 +1,54 @@
+//! What code knows of the values of the stack, which contracts see as a list with the top first.
+ghost use Rattle.std.specs.Prelude.{◌≡◌, ◌∷◌, [], OnOk, IfOk};
+ghost use Rattle.fac_expand.specs.inner.Stacks.{top_of, behind_top};
+
+use crate::known::Entry;
+use fac_base::Memory;
+use std::alloc::Global;
+use std::marker::Model;
+
+/// What code knows of the values of the stack. Below the last one all are on the machine's stack.
+#[derive(Drop)]
+pub struct Entries {
+    // The top is the last.
+    vec: Vec<Entry>,
+}
+
+impl Model for Entries {
+    ghost use Rattle.std.specs.Prelude.{List, reverse};
+    ghost use Rattle.fac_expand.specs.declared.known.Entry.{Entry as Known};
+
+    ghost Value = { List Known };
+
+    ghost view = { λ entries. reverse entries.vec.items };
+}
+
+impl Entries {
+    /// Those of a stack of which nothing is known.
+    pub fn new(alloc: Global) -> Entries
+        ensures { result ≡ [] }
+    {
+        Entries {
+            vec: Vec::new(alloc),
+        }
+    }
+
+    /// Takes the top one.
+    pub fn pop(&mut self) -> Entry
+        ensures top { result ≡ top_of self.old }
+        ensures behind { self.new ≡ behind_top self.old }
+    {
+        match self.vec.pop() {
+            Some(entry) => entry,
+            None => Entry::Here,
+        }
+    }
+
+    /// Puts one on top. Want of memory is the one error.
+    pub fn push(&mut self, entry: Entry) -> Result<(), Memory>
+        ensures { OnOk result (self.new ≡ entry ∷ self.old) }
+    {
+        self.vec.push(entry)?;
+        Ok(())
+    }
+}
