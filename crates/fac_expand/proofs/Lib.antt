@@ -1,2 +1,4 @@
 pub mod CodePlaces
 pub mod DraftLemmas
+pub mod PlainMoves
+pub mod ItemMoves
