@@ -2,3 +2,4 @@ pub mod CodePlaces
 pub mod DraftLemmas
 pub mod PlainMoves
 pub mod ItemMoves
+pub mod PutOffMoves
