@@ -3,3 +3,4 @@ pub mod DraftLemmas
 pub mod PlainMoves
 pub mod ItemMoves
 pub mod PutOffMoves
+pub mod WordItems
