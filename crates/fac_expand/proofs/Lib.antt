@@ -4,3 +4,4 @@ pub mod PlainMoves
 pub mod ItemMoves
 pub mod PutOffMoves
 pub mod WordItems
+pub mod ShuffleMoves
