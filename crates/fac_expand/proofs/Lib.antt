@@ -5,3 +5,5 @@ pub mod ItemMoves
 pub mod PutOffMoves
 pub mod WordItems
 pub mod ShuffleMoves
+pub mod RunMoves
+pub mod PhraseMoves
