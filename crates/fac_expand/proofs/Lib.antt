@@ -7,3 +7,4 @@ pub mod WordItems
 pub mod ShuffleMoves
 pub mod RunMoves
 pub mod PhraseMoves
+pub mod ApplyMoves
