@@ -8,3 +8,4 @@ pub mod ShuffleMoves
 pub mod RunMoves
 pub mod PhraseMoves
 pub mod ApplyMoves
+pub mod BranchMoves
