@@ -2,3 +2,4 @@
 pub mod Drafts
 pub mod Stacks
 pub mod PieceCode
+pub mod Pieces
