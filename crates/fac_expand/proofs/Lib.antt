@@ -3,3 +3,8 @@ pub mod DraftLemmas
 pub mod MappedLists
 pub mod WholeElsewhere
 pub mod MovedTables
+pub mod CopiedCode
+pub mod ExpandedPieces
+pub mod ExpandedTables
+pub mod MadePieces
+pub mod Expansions

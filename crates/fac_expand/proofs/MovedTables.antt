@@ -1,11 +1,9 @@
 -- What stands in a plain image for an item or a call stands for it in an image whose tables are the plain one's with the new places of code.
-use Rattle.std.proofs.Common.{◌≡◌, ◌<◌, ◌≤◌, ℕ, zero, suc, ◌+◌, List, [], ◌∷◌, ◌++◌, length, drop, map, Bool, true, false, Option, Some, None, refl, ap, sym, subst, ◌∙◌, arith}
+use Rattle.std.proofs.Common.{◌≡◌, ◌<◌, ℕ, suc, List, [], ◌∷◌, drop, map, Bool, true, false, Option, Some, None, refl, ap, sym, subst, ◌∙◌}
 use Rattle.std.proofs.lemmas.Option.{slice_get_within}
 use Rattle.std.specs.Prelude.{nat_eq, slice_get}
 use Rattle.fac_lang.specs.declared.program.Program.{Program}
-use Rattle.fac_lang.specs.declared.program.WordDef.{WordDef}
-use Rattle.fac_lang.specs.Phrases.{Phrase, Item}
-use Rattle.fac_lang.specs.Meaning.{is_top_phrase}
+use Rattle.fac_lang.specs.Phrases.{Item}
 use Rattle.fac_lang.specs.Classes.{pick, next}
 use Rattle.fac_code.specs.declared.image.Action.{Action}
 use Rattle.fac_code.specs.declared.image.Action.TheVariants as action
@@ -21,7 +19,7 @@ use Rattle.fac_carry.specs.Accessors.{Accessor, getting, setting, putting, acces
 use Rattle.fac_carry.specs.MachineView.{template_phrases}
 use Rattle.fac_carry.specs.Stands.{HasCode, SameMethod, Calling, l_word, l_call, l_if, l_execute, l_call_effect, l_execute_effect, l_generic, l_next, Acting, a_itself, a_prim, a_accessor, a_isa, a_core, a_stuck, a_code, a_generic, HasAction, Translates, t_int, t_true, t_false, t_text, t_array, t_reference, t_symbol, t_held, t_quot, t_fry, t_prim, t_accessor, t_isa, t_dip, t_boa, t_stuck, t_calling}
 use Rattle.fac_carry.proofs.ElementLemmas.{element_at}
-use Rattle.fac_expand.specs.inner.Pieces.{place_in, moved_action, moved_word, moved_method, moved_generic, moved_template, HasPiece, HasTemplate, IsMade}
+use Rattle.fac_expand.specs.inner.Pieces.{place_in, moved_action, moved_word, moved_method, moved_generic, moved_template, HasTemplate, IsMade}
 use Rattle.fac_expand.proofs.MappedLists.{map_some, get_mapped, get_unmapped, drop_map}
 
 module _ (places : List (Option ℕ)) where
@@ -40,11 +38,9 @@ module _ (places : List (Option ℕ)) where
   -- the first word that does something else than code
   first_moved : (a : Action) → ((x : Action) → same_action a (moved_action places x) ≡ same_action a x) → (k : ℕ) (rs : List WordRow) → word_with a k (map (moved_word places) rs) ≡ word_with a k rs
   first_moved a same k [] = refl
-  first_moved a same k (r ∷ rs) = ap (λ (q : Bool). elim q [ true ↦ k | false ↦ word_with a (suc k) (map (moved_word places) rs) ]) (same r.action) ∙ by (same_action a r.action)
-    where
-      by : (q : Bool) → ◌≡◌ {A = ℕ} (elim q [ true ↦ k | false ↦ word_with a (suc k) (map (moved_word places) rs) ]) (elim q [ true ↦ k | false ↦ word_with a (suc k) rs ])
-      by true = refl
-      by false = first_moved a same (suc k) rs
+  first_moved a same k (r ∷ rs) =
+      ap (λ (q : Bool). elim q [ true ↦ k | false ↦ word_with a (suc k) (map (moved_word places) rs) ]) (same r.action)
+      ∙ ap (λ (n : ℕ). elim (same_action a r.action) [ true ↦ k | false ↦ n ]) (first_moved a same (suc k) rs)
 
   prim_same : (k : ℕ) (x : Action) → same_action (action.Prim k) (moved_action places x) ≡ same_action (action.Prim k) x
   prim_same k (action.Code a) = refl
@@ -98,11 +94,12 @@ module _ (places : List (Option ℕ)) where
   -- methods
   for_moved : (sets : List (List ℕ)) (k : ℕ) (ms : List MethodRow) → method_for sets k (map (moved_method places) ms) ≡ map_some (moved_method places) (method_for sets k ms)
   for_moved sets k [] = refl
-  for_moved sets k (m ∷ ms) = by (set_has (slice_get sets m.set) k)
+  for_moved sets k (m ∷ ms) = by (set_has (slice_get sets m.set) k) (for_moved sets k ms)
     where
-      by : (q : Bool) → ◌≡◌ {A = Option MethodRow} (elim q [ true ↦ Some (moved_method places m) | false ↦ method_for sets k (map (moved_method places) ms) ]) (map_some (moved_method places) (elim q as (λ z. Option MethodRow) [ true ↦ Some m | false ↦ method_for sets k ms ]))
-      by true = refl
-      by false = for_moved sets k ms
+      by : (q : Bool) → method_for sets k (map (moved_method places) ms) ≡ map_some (moved_method places) (method_for sets k ms) →
+          ◌≡◌ {A = Option MethodRow} (elim q [ true ↦ Some (moved_method places m) | false ↦ method_for sets k (map (moved_method places) ms) ]) (map_some (moved_method places) (elim q as (λ z. Option MethodRow) [ true ↦ Some m | false ↦ method_for sets k ms ]))
+      by true e = refl
+      by false e = e
 
   after_moved : (sets : List (List ℕ)) (k : ℕ) (ms : List MethodRow) → method_after sets k (map (moved_method places) ms) ≡ map_some (moved_method places) (method_after sets k ms)
   after_moved sets k [] = refl
@@ -114,11 +111,7 @@ module _ (places : List (Option ℕ)) where
 
   in_moved : (number g k : ℕ) (ms : List MethodRow) → method_in number g k (map (moved_method places) ms) ≡ method_in number g k ms
   in_moved number g k [] = refl
-  in_moved number g k (m ∷ ms) = by (nat_eq m.number number)
-    where
-      by : (q : Bool) → ◌≡◌ {A = Option (ℕ × ℕ)} (elim q [ true ↦ Some (g, k) | false ↦ method_in number g (suc k) (map (moved_method places) ms) ]) (elim q [ true ↦ Some (g, k) | false ↦ method_in number g (suc k) ms ])
-      by true = refl
-      by false = in_moved number g (suc k) ms
+  in_moved number g k (m ∷ ms) = ap (λ (o : Option (ℕ × ℕ)). elim (nat_eq m.number number) [ true ↦ Some (g, k) | false ↦ o ]) (in_moved number g (suc k) ms)
 
   from_moved : (number g : ℕ) (rs : List GenericRow) → place_from number g (map (moved_generic places) rs) ≡ place_from number g rs
   from_moved number g [] = refl

@@ -3,3 +3,4 @@ pub mod Drafts
 pub mod Stacks
 pub mod PieceCode
 pub mod Pieces
+pub mod Makings
