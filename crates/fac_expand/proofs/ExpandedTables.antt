@@ -31,7 +31,7 @@ same_of f g without xs ys e k =
     sym (without (slice_get xs k)) ∙ ap g (sym (get_map f xs k)) ∙ ap (λ zs. g (slice_get zs k)) e ∙ ap g (get_map f ys k) ∙ without (slice_get ys k)
 
 -- a row that is the same but for its place
-of_row : {A : Type 0} (f : A → A) (xs ys : List A) → map f xs ≡ map f ys → (k : ℕ) (x : A) → slice_get xs k ≡ Some x → (y : A) × (slice_get ys k ≡ Some y) × (f y ≡ f x)
+pub of_row : {A : Type 0} (f : A → A) (xs ys : List A) → map f xs ≡ map f ys → (k : ℕ) (x : A) → slice_get xs k ≡ Some x → (y : A) × (slice_get ys k ≡ Some y) × (f y ≡ f x)
 of_row f xs ys same k x e = by (slice_get ys k) refl (sym (get_map f ys k) ∙ ap (λ zs. slice_get zs k) (sym same) ∙ get_map f xs k ∙ ap (map_some f) e)
   where
     by : (o : Option _) → slice_get ys k ≡ o → map_some f o ≡ Some (f x) → (y : _) × (slice_get ys k ≡ Some y) × (f y ≡ f x)

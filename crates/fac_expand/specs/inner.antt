@@ -4,3 +4,4 @@ pub mod Stacks
 pub mod PieceCode
 pub mod Pieces
 pub mod Makings
+pub mod StandIn

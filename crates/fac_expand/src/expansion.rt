@@ -7,6 +7,7 @@ ghost use Rattle.fac_expand.specs.inner.Makings.{Makes, IsMadeOf};
 ghost use Rattle.fac_expand.specs.inner.Pieces.{is_test, IsMade, ArePlaced};
 
 use crate::making::{Making, are_placed};
+use crate::stand_in::make_expander;
 use crate::tables::moved_tables;
 use fac_base::Memory;
 use fac_code::{Image, Instr};
@@ -48,10 +49,11 @@ fn tests_no_more(plain: &Image, image: &Image) -> bool
 fn made_of(alloc: Global, plain: &Image, top: u32, inline: &[bool]) -> Result<(Making, u32), Memory>
     ensures { IfOk result (λ made. IsMadeOf plain.now made.0 made.1) }
 {
+    let mut expander = make_expander(alloc, plain)?;
     let mut making = Making::new(alloc, plain)?;
-    making.add_templates(alloc, plain, inline)?;
-    making.add_words(alloc, plain, inline, top)?;
-    let start = making.add_start(alloc, plain, inline)?;
+    making.add_templates(&mut expander, alloc, plain, inline)?;
+    making.add_words(&mut expander, alloc, plain, inline, top)?;
+    let start = making.add_start(&mut expander, alloc, plain, inline)?;
     Ok((making, start))
 }
 

@@ -9,7 +9,7 @@ mod growing;
 mod known;
 mod making;
 mod moving;
-mod pieces;
+mod placing;
 mod stand_in;
 mod tables;
 

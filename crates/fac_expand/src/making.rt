@@ -4,7 +4,8 @@ ghost use Rattle.fac_expand.specs.inner.Makings.{Makes, Goes, Begins};
 ghost use Rattle.fac_expand.specs.inner.Pieces.{ArePlaced, HasNone, IsNoted, IsPlacedAction};
 
 use crate::growing::Growing;
-use crate::pieces::{add_piece, piece_of, template_piece};
+use crate::placing::{add_piece, piece_of, template_piece};
+use crate::stand_in::Expander;
 use fac_base::{Duplicate, List, Memory};
 use fac_code::{Action, Image, Instr, TemplateRow, WordRow};
 use std::alloc::Global;
@@ -66,6 +67,7 @@ impl Making {
     // Adds the code of the next template, and its row.
     fn add_template(
         &mut self,
+        expander: &mut Expander,
         alloc: Global,
         plain: &Image,
         inline: &[bool],
@@ -75,7 +77,7 @@ impl Making {
         ensures { OnOk result (Goes plain.now 1 self.old self.new) }
     {
         let at = self.code.len();
-        let piece = template_piece(alloc, plain, inline, template, at)?;
+        let piece = template_piece(expander, alloc, plain, inline, template, at)?;
         let cells = template.cells.copy(alloc)?;
         add_piece(&mut self.code, piece.as_slice())?;
         self.templates.push(TemplateRow {
@@ -90,6 +92,7 @@ impl Making {
     /// Adds the code of all templates, and their rows. Want of memory is the one error.
     pub fn add_templates(
         &mut self,
+        expander: &mut Expander,
         alloc: Global,
         plain: &Image,
         inline: &[bool],
@@ -98,7 +101,7 @@ impl Making {
         ensures { OnOk result (Goes plain.now (length plain.now.templates) self.old self.new) }
     {
         for template in plain.templates.as_slice() {
-            self.add_template(alloc, plain, inline, template)?;
+            self.add_template(expander, alloc, plain, inline, template)?;
         }
         Ok(())
     }
@@ -106,6 +109,7 @@ impl Making {
     // Adds the code for that at an old place, where it isn't there yet.
     fn add_place(
         &mut self,
+        expander: &mut Expander,
         alloc: Global,
         plain: &Image,
         inline: &[bool],
@@ -117,7 +121,7 @@ impl Making {
             return Ok(());
         }
         let at = self.code.len();
-        let piece = piece_of(alloc, plain, inline, Instr::Ret, 0, place, at)?;
+        let piece = piece_of(expander, alloc, plain, inline, Instr::Ret, 0, place, at)?;
         add_piece(&mut self.code, piece.as_slice())?;
         note(&mut self.places, place, at);
         Ok(())
@@ -126,6 +130,7 @@ impl Making {
     // Adds the code of a word, where it has some.
     fn add_action(
         &mut self,
+        expander: &mut Expander,
         alloc: Global,
         plain: &Image,
         inline: &[bool],
@@ -134,7 +139,7 @@ impl Making {
         ensures { OnOk result (Goes plain.now 0 self.old self.new) }
     {
         match action {
-            Action::Code(place) => self.add_place(alloc, plain, inline, place),
+            Action::Code(place) => self.add_place(expander, alloc, plain, inline, place),
             _ => Ok(()),
         }
     }
@@ -142,6 +147,7 @@ impl Making {
     /// Adds the code of the words below a number. Want of memory is the one error.
     pub fn add_words(
         &mut self,
+        expander: &mut Expander,
         alloc: Global,
         plain: &Image,
         inline: &[bool],
@@ -155,7 +161,7 @@ impl Making {
             if number >= top {
                 return Ok(());
             }
-            self.add_action(alloc, plain, inline, word.action)?;
+            self.add_action(expander, alloc, plain, inline, word.action)?;
             number += 1;
         }
         Ok(())
@@ -164,6 +170,7 @@ impl Making {
     /// Adds the code of the top-level phrase, whose place it answers. Want of memory is the one error.
     pub fn add_start(
         &mut self,
+        expander: &mut Expander,
         alloc: Global,
         plain: &Image,
         inline: &[bool],
@@ -171,7 +178,16 @@ impl Making {
         ensures { IfOk result (Begins plain.now self.old self.new) }
     {
         let at = self.code.len();
-        let piece = piece_of(alloc, plain, inline, Instr::Halt, 0, plain.start, at)?;
+        let piece = piece_of(
+            expander,
+            alloc,
+            plain,
+            inline,
+            Instr::Halt,
+            0,
+            plain.start,
+            at,
+        )?;
         add_piece(&mut self.code, piece.as_slice())?;
         Ok(at)
     }

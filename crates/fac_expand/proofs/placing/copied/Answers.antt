@@ -5,7 +5,7 @@ use Rattle.std.specs.Prelude.{slice_get}
 use Rattle.std.specs.Option.{option_copied}
 use Rattle.fac_expand.specs.inner.Pieces.{end_where, to_end}
 use Rattle.fac_expand.proofs.CopiedCode.{copied_step, past_end}
-use Rattle.fac_expand.proofs.pieces.copied.Goals as goal
+use Rattle.fac_expand.proofs.placing.copied.Goals as goal
 
 pub returns-then-is_end : goal.returns-then-is_end
 returns-then-is_end c =

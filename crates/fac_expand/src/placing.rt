@@ -6,7 +6,7 @@ ghost use Rattle.fac_expand.specs.inner.PieceCode.{StandsFor};
 ghost use Rattle.fac_expand.specs.inner.Pieces.{to_end};
 
 use crate::growing::Growing;
-use crate::stand_in::piece;
+use crate::stand_in::Expander;
 use fac_base::{List, Memory};
 use fac_code::{Image, Instr, TemplateRow};
 use std::alloc::Global;
@@ -42,6 +42,7 @@ fn copied(alloc: Global, plain: &Image, start: u32) -> Result<Growing<Instr>, Me
 /// A piece of code for the plain code at a place, which ends in this instruction and whose frame has so many cells. Want of memory is the one error.
 #[tactic(auto, using(crate::proofs::CopiedCode::copied_by))]
 pub fn piece_of(
+    expander: &mut Expander,
     alloc: Global,
     plain: &Image,
     inline: &[bool],
@@ -52,7 +53,7 @@ pub fn piece_of(
 ) -> Result<Growing<Instr>, Memory>
     ensures { IfOk result (StandsFor plain.now last cells start base) }
 {
-    match piece(alloc, plain, inline, last, cells, start, base)? {
+    match expander.piece(alloc, plain, inline, last, cells, start, base)? {
         Some(code) => Ok(code),
         None => copied(alloc, plain, start),
     }
@@ -61,6 +62,7 @@ pub fn piece_of(
 /// That of a template. Want of memory is the one error.
 #[tactic(auto, using(crate::proofs::CopiedCode::copied_by))]
 pub fn template_piece(
+    expander: &mut Expander,
     alloc: Global,
     plain: &Image,
     inline: &[bool],
@@ -71,6 +73,7 @@ pub fn template_piece(
 {
     match template.cells.len().checked_add(template.holes) {
         Some(cells) => piece_of(
+            expander,
             alloc,
             plain,
             inline,
