@@ -20,5 +20,6 @@ pub mod Simulation
 pub mod PlainIsCode
 pub mod HeldFrames
 pub mod CodeRuns
+pub mod CarriedCode
 pub mod Reaching
 mod ExamplesOfPutOff

@@ -1,5 +1,6 @@
 pub mod MachineView
 pub mod Carries
+pub mod Agrees
 pub mod WholeValues
 pub mod Accessors
 pub mod Stands

@@ -1,3 +1,4 @@
+pub mod AgreeingTables
 pub mod AskedEffects
 pub mod Closings
 pub mod TextLemmas
@@ -13,7 +14,6 @@ pub mod KindRows
 pub mod NamedImages
 pub mod TestedHeights
 pub mod MadeArrays
-pub mod Carrying
 pub mod BuiltCode
 pub mod NamedArrays
 pub mod TableReferences

@@ -7,7 +7,7 @@ ghost use Rattle.fac_base.specs.Effects.{effect_height};
 ghost use Rattle.fac_lang.specs.Meaning.{sort_of};
 ghost use Rattle.fac_classes.specs.ClassKinds.{CanBeBuilt};
 ghost use Rattle.fac_generic.specs.Methods.{HasMethods, MethodLaws};
-ghost use Rattle.fac_emit.specs.CarriedPrograms.{CarriesEach, ClosesWhole, StandsForEach};
+ghost use Rattle.fac_emit.specs.CarriedPrograms.{AgreesEach, ClosesWhole, StandsForEach};
 ghost use Rattle.fac_emit.specs.ProgramCode.{core_action, word_row, program_words, program_generics, IsPlain};
 ghost use Rattle.fac_emit.specs.inner.Coded.{has_few_inputs, array_is_coded};
 ghost use Rattle.fac_emit.specs.inner.NumberedWords.{numbered_action};
@@ -276,17 +276,16 @@ fn plain_image(alloc: Global, closed: &Closed, heights: &[Option<Height>]) -> Re
     Ok(image_of(&emission, heights, parts, tables))
 }
 
-/// The image of a closed program, where its templates have these effects, by their numbers, or where it asks for none (`asks_effects`). It
-/// carries the program that this one stands for, on every list of as many values as the closed program starts on and in every world, whose callables are of the
-/// image's templates and whose words are no top-level phrases, and at every budget, where that program is stuck at none; and its literal
-/// arrays, as a machine makes them, are those of that program before its first item. Its code stands for the phrases of that program, item by
+/// The image of a closed program, where its templates have these effects, by their numbers, or where it asks for none (`asks_effects`). Its
+/// tables agree with the program that this one stands for: on the names of words and kinds, on the effects by which calls are tested, and on
+/// the literal arrays before the first item. Its code stands for the phrases of that program, item by
 /// item, and is plain: the code of the templates and behind it that of the words, each in their order, with the texts of the program, each
 /// once and word by word in the order in which they are met, the literal arrays, a row for each template, word, kind and generic, the kinds
 /// of each class, and the words of classes with their kinds; it starts at the top-level phrase. Want of memory is the one error, also where
 /// there are more kinds or texts than numbers for them.
 pub fn compile(alloc: Global, closed: &Closed, heights: &[Option<Height>]) -> Result<Image, Memory>
     requires { (P : Source) × ClosesWhole P closed.now }
-    ensures carries { IfOk result (CarriesEach closed.now heights.now) }
+    ensures agrees { IfOk result (AgreesEach closed.now heights.now) }
     ensures stands { IfOk result (StandsForEach closed.now) }
     ensures plain { IfOk result (IsPlain closed.now heights.now) }
 {

@@ -9,3 +9,11 @@ pub mod RunMoves
 pub mod PhraseMoves
 pub mod ApplyMoves
 pub mod BranchMoves
+pub mod MappedLists
+pub mod WholeElsewhere
+pub mod MovedTables
+pub mod CopiedCode
+pub mod ExpandedPieces
+pub mod ExpandedTables
+pub mod MadePieces
+pub mod Expansions

@@ -1,1 +1,3 @@
+pub mod SameButPlaces
+pub mod Expands
 pub mod inner

@@ -4,3 +4,6 @@ pub mod Stacks
 pub mod PieceCode
 pub mod Calls
 pub mod Shuffling
+pub mod Pieces
+pub mod Makings
+pub mod StandIn

@@ -26,7 +26,10 @@ use Rattle.fac_check.specs.declared.refusal.Refusal.{Refusal}
 use Rattle.fac_check.specs.Promises.{IsSafe, SafeAreNotStuck}
 use Rattle.fac_code.specs.declared.image.Image.{Image}
 use Rattle.fac_carry.specs.Carries.{Carries}
-use Rattle.fac_emit.specs.CarriedPrograms.{CarriesEach}
+use Rattle.fac_carry.proofs.CarriedCode.{carries_by}
+use Rattle.fac_emit.specs.CarriedPrograms.{AgreesEach, StandsForEach}
+use Rattle.fac_expand.specs.Expands.{Expands}
+use Rattle.fac_expand.proofs.ExpandedTables.{agrees_too}
 use Rattle.fac_notes.specs.WordNames.{bare_word, method_name, name_as, name_or}
 use Rattle.fac_tool.specs.Refusals.{refusal_of}
 use Rattle.fac_tool.specs.inner.ImageSteps.{AreEffectsIfAsked}
@@ -101,10 +104,18 @@ has_heights closed heights P effects stands = record {
   composed = λ c d. refl;
 }
 
+-- the expanded image of one that agrees with the program, and whose code stands for it
+expanded_carried :
+    SafeAreNotStuck → (closed : Closed) (heights : List (Option Height)) (plain image : Image) → AreEffectsIfAsked closed heights → AgreesEach closed heights plain → StandsForEach closed plain → Expands closed.program.top plain image →
+    (P : Program) → StandsForSafe closed P → Carried P image
+expanded_carried never closed heights plain image effects agree stand expands P stands =
+    let top = closed.program.top in
+    let agrees = agrees_too top P (callable_height P) plain image (agree P (callable_height P) stands.closes stands.whole (has_heights closed heights P effects stands)) expands in
+    let code = expands.code P (sym stands.closes.top) (stand P stands.closes stands.whole) in
+    carried_by never P image closed.start stands.safe stands.start (carries_by P (callable_height P) closed.start image agrees code)
+
 pub if_carried :
-    SafeAreNotStuck → (closed : Closed) (heights : List (Option Height)) (r : Result Image Memory) → AreEffectsIfAsked closed heights →
-    IfOk r (CarriesEach closed heights) →
+    SafeAreNotStuck → (closed : Closed) (heights : List (Option Height)) (plain : Image) (r : Result Image Memory) → AreEffectsIfAsked closed heights → AgreesEach closed heights plain → StandsForEach closed plain → IfOk r (Expands closed.program.top plain) →
     IfOk r (λ image. (P : Program) → StandsForSafe closed P → Carried P image)
-if_carried never closed heights (Ok image) effects h =
-    λ P stands. carried_by never P image closed.start stands.safe stands.start (h P (callable_height P) stands.closes stands.whole (has_heights closed heights P effects stands))
-if_carried never closed heights (Err e) effects h = tt
+if_carried never closed heights plain (Ok image) effects agree stand expands = expanded_carried never closed heights plain image effects agree stand expands
+if_carried never closed heights plain (Err e) effects agree stand expands = tt

@@ -14,6 +14,9 @@ use Rattle.fac_code.specs.declared.image.Instr.TheVariants.{Ret}
 use Rattle.fac_code.specs.declared.image.TemplateRow.{TemplateRow}
 use Rattle.fac_store.specs.CallableHeights.{height_there}
 use Rattle.fac_emit.specs.ProgramCode.{IsPlain, phrase_code, program_templates, row_at, template_rows}
+use Rattle.fac_expand.specs.SameButPlaces.{template_without_place, SameButPlaces}
+use Rattle.fac_expand.specs.Expands.{Expands}
+use Rattle.fac_expand.proofs.ExpandedTables.{of_row}
 use Rattle.fac_tool.specs.Saved.{HasEffects}
 use Rattle.fac_tool.specs.inner.ImageSteps.{CarriedWhole}
 use Rattle.fac_tool.specs.inner.Stops.{Carried, StandsForSafe}
@@ -61,11 +64,24 @@ rows_have closed heights P M effects stands plain q row vs found count =
     let number : 0 + q ≡ q = omega arith in
     found_row.height ∙ ap (λ (j : ℕ). height_there (slice_get heights j)) number ∙ sym (effects_there closed heights P effects stands q found_row.template vs found_row.there many)
 
+-- and so have those of an image that is the same but for places
+moved_have : (P : Program) (N M : Image) → SameButPlaces N M → HasEffects P N → HasEffects P M
+moved_have P N M same rows q row vs found count =
+    let before = of_row template_without_place M.templates N.templates same.templates q row found in
+    let size : length (before.0).cells + (before.0).holes ≡ length row.cells + row.holes = ap (λ (r : TemplateRow). length r.cells + r.holes) before.2 in
+    sym (ap (λ (r : TemplateRow). r.height) before.2) ∙ rows q before.0 vs before.1 (count ∙ sym size)
+
+pub if_rows_have :
+    (closed : Closed) (heights : List (Option Height)) (plain : Image) (r : Result Image Memory) → IsPlain closed heights plain → IfOk r (Expands closed.program.top plain) →
+    IfOk r (λ image. AreEffects closed heights → (P : Program) → StandsForSafe closed P → HasEffects P image)
+if_rows_have closed heights plain (Ok image) is_plain expands = λ effects P stands. moved_have P plain image expands.same (rows_have closed heights P plain effects stands is_plain)
+if_rows_have closed heights plain (Err e) is_plain expands = tt
+
 -- so an image that is linked with all effects has them
 pub whole_carried :
-    (closed : Closed) (heights slice : List (Option Height)) (r : Result Image Memory) → slice ≡ heights → AreEffects closed heights → IfOk r (λ image. (P : Program) → StandsForSafe closed P → Carried P image) → IfOk r (IsPlain closed slice) →
-    IfOk r (λ image. (P : Program) → StandsForSafe closed P → CarriedWhole P image)
-whole_carried closed heights slice (Ok image) same effects carried plain =
-    let plain_here = subst (λ (hs : List (Option Height)). IsPlain closed hs image) same plain in
-    λ P stands. record { carried = carried P stands; effects = rows_have closed heights P image effects stands plain_here }
-whole_carried closed heights slice (Err e) same effects carried plain = tt
+    (closed : Closed) (heights slice : List (Option Height)) (r : Result Image Memory) → slice ≡ heights → AreEffects closed heights → IfOk r (λ image. (P : Program) → StandsForSafe closed P → Carried P image) →
+    IfOk r (λ image. AreEffects closed slice → (P : Program) → StandsForSafe closed P → HasEffects P image) → IfOk r (λ image. (P : Program) → StandsForSafe closed P → CarriedWhole P image)
+whole_carried closed heights slice (Ok image) same effects carried rows =
+    let here = subst (AreEffects closed) (sym same) effects in
+    λ P stands. record { carried = carried P stands; effects = rows here P stands }
+whole_carried closed heights slice (Err e) same effects carried rows = tt

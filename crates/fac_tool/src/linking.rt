@@ -2,8 +2,8 @@
 ghost use Rattle.std.specs.Prelude.{◌≡◌, ◌≤◌, true, IfOk};
 ghost use Rattle.fac_lang.specs.declared.program.Program.{Program as Source};
 ghost use Rattle.fac_check.specs.Judged.{StandsForWhole};
-ghost use Rattle.fac_emit.specs.ProgramCode.{IsPlain};
 ghost use Rattle.fac_check.specs.TemplateEffects.{AreEffects};
+ghost use Rattle.fac_tool.specs.Saved.{HasEffects};
 ghost use Rattle.fac_tool.specs.inner.Stops.{Carried, StandsForSafe};
 ghost use Rattle.fac_tool.specs.inner.ImageSteps.{AreEffectsIfAsked, CarriedWhole, IsLinked, IsShort};
 
@@ -13,6 +13,8 @@ use fac_bytes::{encode, spelled_length};
 use fac_check::{Checked, effects, safe_programs_are_not_stuck};
 use fac_code::Image;
 use fac_emit::{asks_effects, compile};
+use fac_expand::expand;
+use fac_lang::WordDef;
 use fac_locals::Closed;
 use std::alloc::Global;
 
@@ -37,16 +39,26 @@ fn asked_effects(alloc: Global, closed: &Closed) -> Result<List<Option<Height>>,
     Ok(heights)
 }
 
+// Whether each word's phrase is to stand in place of its calls: it is inline, and doesn't call itself.
+fn inline_words(alloc: Global, words: &[WordDef]) -> Result<List<bool>, Memory> {
+    let mut inline = List::new(alloc);
+    for word in words {
+        inline.push(word.inline && !word.recursive)?;
+    }
+    Ok(inline)
+}
+
 // The image of an accepted program with these effects of its templates.
-#[tactic(auto, using(crate::proofs::ClosedLemmas::if_carried))]
 fn image_with(alloc: Global, checked: &Checked, heights: &[Option<Height>]) -> Result<Image, Memory>
     requires stands { (P : Source) × StandsForSafe checked.now.closed P }
     requires effects { AreEffectsIfAsked checked.now.closed heights.now }
     ensures carried { IfOk result (λ image. (P : Source) → StandsForSafe checked.now.closed P → Carried P image) }
-    ensures plain { IfOk result (IsPlain checked.now.closed heights.now) }
+    ensures rows { IfOk result (λ image. AreEffects checked.now.closed heights.now → (P : Source) → StandsForSafe checked.now.closed P → HasEffects P image) }
 {
     safe_programs_are_not_stuck();
-    compile(alloc, &checked.closed, heights)
+    let plain = compile(alloc, &checked.closed, heights)?;
+    let inline = inline_words(alloc, checked.closed.program.words.as_slice())?;
+    expand(alloc, plain, checked.closed.program.top, inline.as_slice())
 }
 
 // The image of an accepted program, with the effects of all of its templates.

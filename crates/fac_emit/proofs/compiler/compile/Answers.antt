@@ -2,7 +2,7 @@ use Rattle.std.proofs.lemmas.Result.{IfOk-weaker}
 use Rattle.fac_lang.proofs.SourcePrograms.{source_of_whole}
 use Rattle.fac_generic.proofs.WholeMethods.{whole_has}
 use Rattle.fac_emit.specs.ProgramCode.{IsPlain}
-use Rattle.fac_emit.proofs.Carrying.{carries}
+use Rattle.fac_emit.proofs.AgreeingTables.{agrees}
 use Rattle.fac_emit.proofs.CodedItems.{arrays_coded}
 use Rattle.fac_emit.proofs.ClosedTables.{can_be_built, has_methods}
 use Rattle.fac_emit.proofs.PlainStands.{plain_code}
@@ -19,12 +19,11 @@ plain_image-requires c =
       methods = has_methods given.0 closed given.1.0 given.1.1;
     }
 
-pub returns-clause-carries : goal.returns-clause-carries
-returns-clause-carries c =
+pub returns-clause-agrees : goal.returns-clause-agrees
+returns-clause-agrees c =
     let closed = c.args.closed.now in
-    let laws = c.methods_are_lawful.ensures in
-    IfOk-weaker c.plain_image.result (IsPlain closed c.args.heights.now) _
-    (λ image plain P callable_height closes whole effects. carries P closed c.args.heights.now image callable_height closed.start whole (laws P (whole_has P whole)) closes plain effects) c.plain_image.ensures
+    let heights = c.args.heights.now in
+    IfOk-weaker c.plain_image.result (IsPlain closed heights) _ (λ image plain P callable_height closes whole effects. agrees P closed heights image callable_height whole closes plain effects) c.plain_image.ensures
 
 pub returns-clause-stands : goal.returns-clause-stands
 returns-clause-stands c =

@@ -1,0 +1,116 @@
+//! Expanding the code of an image.
+ghost use Rattle.std.specs.Prelude.{◌≡◌, [], true, IfOk, MatchOption};
+ghost use Rattle.std.specs.List.{list_any};
+ghost use Rattle.fac_carry.specs.TestedCalls.{TestsCallables};
+ghost use Rattle.fac_expand.specs.Expands.{Expands};
+ghost use Rattle.fac_expand.specs.inner.Makings.{Makes, IsMadeOf};
+ghost use Rattle.fac_expand.specs.inner.Pieces.{is_test, IsMade, ArePlaced};
+
+use crate::making::{Making, are_placed};
+use crate::stand_in::make_expander;
+use crate::tables::moved_tables;
+use fac_base::Memory;
+use fac_code::{Image, Instr};
+use std::alloc::Global;
+
+// Whether an instruction tests a callable.
+fn is_tested(instr: Instr) -> bool
+    ensures { result ≡ is_test instr }
+{
+    match instr {
+        Instr::CallEffect { .. } => true,
+        _ => false,
+    }
+}
+
+// Whether one of the instructions tests a callable.
+fn tests(code: &[Instr]) -> bool
+    ensures { result ≡ list_any is_test code.now }
+{
+    for instr in code {
+        if is_tested(*instr) {
+            return true;
+        }
+    }
+    false
+}
+
+// Whether one image tests callables only where another one does.
+fn tests_no_more(plain: &Image, image: &Image) -> bool
+    ensures { result ≡ true → TestsCallables image.now → TestsCallables plain.now }
+{
+    if !tests(image.code.as_slice()) {
+        return true;
+    }
+    tests(plain.code.as_slice())
+}
+
+// The code, the rows of templates and the new places for an image whose top-level phrase has this number, and where that begins.
+fn made_of(alloc: Global, plain: &Image, top: u32, inline: &[bool]) -> Result<(Making, u32), Memory>
+    ensures { IfOk result (λ made. IsMadeOf plain.now made.0 made.1) }
+{
+    let mut expander = make_expander(alloc, plain)?;
+    let mut making = Making::new(alloc, plain)?;
+    making.add_templates(&mut expander, alloc, plain, inline)?;
+    making.add_words(&mut expander, alloc, plain, inline, top)?;
+    let start = making.add_start(&mut expander, alloc, plain, inline)?;
+    Ok((making, start))
+}
+
+// The image of these, where each number in it names something of its kind and the code of each word below the top-level phrase is there.
+fn image_of(
+    alloc: Global,
+    plain: &Image,
+    top: u32,
+    making: Making,
+    start: u32,
+) -> Result<Option<Image>, Memory>
+    requires { IsMadeOf plain.now making start }
+    ensures { IfOk result (λ o. MatchOption o (Unit {0}) (IsMade top plain.now)) }
+{
+    let Making {
+        code,
+        templates,
+        places,
+    } = making;
+    if !are_placed(places.as_slice(), top, plain.words.as_slice()) {
+        return Ok(None);
+    }
+    let tables = moved_tables(alloc, plain, places.as_slice(), templates)?;
+    Ok(Image::new(alloc, tables, code, start))
+}
+
+// The expanded image, where there is one.
+fn expanded(
+    alloc: Global,
+    plain: &Image,
+    top: u32,
+    inline: &[bool],
+) -> Result<Option<Image>, Memory>
+    ensures { IfOk result (λ o. MatchOption o (Unit {0}) (Expands top plain.now)) }
+{
+    let (making, start) = made_of(alloc, plain, top, inline)?;
+    match image_of(alloc, plain, top, making, start)? {
+        Some(image) => {
+            if tests_no_more(plain, &image) {
+                Ok(Some(image))
+            } else {
+                Ok(None)
+            }
+        }
+        None => Ok(None),
+    }
+}
+
+/// The image with its code expanded: a callable that is made of a quotation and applied at once is run in place. The top-level phrase has this
+/// number, and `inline` says by the number of a word whether its phrase stands in place of its calls, which is only a hint. The tables are those of
+/// the plain image but for places. For each program with this top-level phrase for whose phrases the plain code stands, the code that is made
+/// stands too. Where it can't be made so, the image stays as it is. Want of memory is the one error.
+pub fn expand(alloc: Global, plain: Image, top: u32, inline: &[bool]) -> Result<Image, Memory>
+    ensures { IfOk result (Expands top plain) }
+{
+    match expanded(alloc, &plain, top, inline)? {
+        Some(image) => Ok(image),
+        None => Ok(plain),
+    }
+}

@@ -1,0 +1,97 @@
+//! Pieces of code: expanded where that can be, and else as they stand in the plain image.
+ghost use Rattle.std.specs.Prelude.{◌≡◌, ◌+◌, ◌++◌, length, drop, IfOk, OnOk};
+ghost use Rattle.fac_code.specs.declared.image.Instr.TheVariants.{Ret};
+ghost use Rattle.fac_carry.specs.Stands.{ends_phrase};
+ghost use Rattle.fac_expand.specs.inner.PieceCode.{StandsFor};
+ghost use Rattle.fac_expand.specs.inner.Pieces.{to_end};
+
+use crate::growing::Growing;
+use crate::stand_in::Expander;
+use fac_base::{List, Memory};
+use fac_code::{Image, Instr, TemplateRow};
+use std::alloc::Global;
+
+// Whether an instruction ends a phrase.
+fn is_end(instr: Instr) -> bool
+    ensures { result ≡ ends_phrase instr }
+{
+    match instr {
+        Instr::Halt => true,
+        Instr::Ret => true,
+        _ => false,
+    }
+}
+
+// The plain code from a place on, up to its end.
+fn copied(alloc: Global, plain: &Image, start: u32) -> Result<Growing<Instr>, Memory>
+    ensures { IfOk result (λ code. code ≡ to_end (drop start plain.now.code)) }
+{
+    let _count = plain.code.len();
+    let mut code = Growing::new(alloc);
+    let mut at = start as usize;
+    while let Some(instr) = plain.code.get(at) {
+        code.push(*instr)?;
+        if is_end(*instr) {
+            return Ok(code);
+        }
+        at += 1;
+    }
+    Ok(code)
+}
+
+/// A piece of code for the plain code at a place, which ends in this instruction and whose frame has so many cells. Want of memory is the one error.
+#[tactic(auto, using(crate::proofs::CopiedCode::copied_by))]
+pub fn piece_of(
+    expander: &mut Expander,
+    alloc: Global,
+    plain: &Image,
+    inline: &[bool],
+    last: Instr,
+    cells: u32,
+    start: u32,
+    base: u32,
+) -> Result<Growing<Instr>, Memory>
+    ensures { IfOk result (StandsFor plain.now last cells start base) }
+{
+    match expander.piece(alloc, plain, inline, last, cells, start, base)? {
+        Some(code) => Ok(code),
+        None => copied(alloc, plain, start),
+    }
+}
+
+/// That of a template. Want of memory is the one error.
+#[tactic(auto, using(crate::proofs::CopiedCode::copied_by))]
+pub fn template_piece(
+    expander: &mut Expander,
+    alloc: Global,
+    plain: &Image,
+    inline: &[bool],
+    template: &TemplateRow,
+    base: u32,
+) -> Result<Growing<Instr>, Memory>
+    ensures { IfOk result (StandsFor plain.now Ret (length template.now.cells + template.now.holes) template.now.entry base) }
+{
+    match template.cells.len().checked_add(template.holes) {
+        Some(cells) => piece_of(
+            expander,
+            alloc,
+            plain,
+            inline,
+            Instr::Ret,
+            cells,
+            template.entry,
+            base,
+        ),
+        None => copied(alloc, plain, template.entry),
+    }
+}
+
+/// Adds a piece at the end of code. Want of memory is the one error.
+pub fn add_piece(code: &mut List<Instr>, piece: &[Instr]) -> Result<(), Memory>
+    ensures { OnOk result (code.new ≡ code.old ++ piece.now) }
+{
+    for instr in piece {
+        code.push(*instr)?;
+    }
+    Ok(())
+}
