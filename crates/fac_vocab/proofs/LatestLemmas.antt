@@ -5,7 +5,7 @@ use Rattle.std.specs.Cmp.{unsigned_Decides}
 use Rattle.std.specs.List.{list_any, starts_with}
 use Rattle.std.specs.Str.{bytes_eq}
 use Rattle.std.proofs.lemmas.Bool.{ltb-false, ltb-true}
-use Rattle.std.proofs.lemmas.List.{length_push, reverse-append}
+use Rattle.std.proofs.lemmas.List.{length-drop, length_push, reverse-append}
 use Rattle.std.proofs.lemmas.Map.Entries.{place_from_lookup}
 use Rattle.std.proofs.lemmas.Option.{slice_get_within}
 use Rattle.std.proofs.lemmas.Slice.Eq.{bytes_eq-Decides, starts_is}
@@ -515,3 +515,22 @@ next_later table forms name prefix best n i =
       keeps = λ m h. later_first m best (Some n) h;
       covers = λ m v e g. later_second m best (Some n) (i.covers m v e g);
     }
+
+-- What stands behind a prefix, where no name is so long.
+
+pub none_give : (table : List Entry) (forms : List Brought) (name prefix : List ℕ) (best : Option ℕ) (b : Bool) → b ≡ false → ((v : List ℕ) → b ≡ false → is_some (given_by table name (prefixed v prefix)) ≡ false) → IsNext table forms name prefix best best
+none_give table forms name prefix best b e none =
+    record {
+      gives_word = λ h. h;
+      keeps = λ m h. h;
+      covers = λ m v at g. absurd (true≢false (sym (sym (ap (λ (o : Option Brought). is_some (word_by table name o)) at) ∙ g) ∙ none v e));
+    }
+
+pub long_behind : (table : List Entry) (name prefix v : List ℕ) (longest : ℕ) → ((u q : List ℕ) → longest < length q → word_held table u q ≡ None) → longest + length prefix + 1 < length name → is_some (given_by table name (prefixed v prefix)) ≡ false
+long_behind table name prefix v longest none long = one (starts_with nat_eq name (prefix ++ codes ":"))
+  where
+    one : (b : Bool) → is_some (cond b (word_held table v (drop (length prefix + 1) name)) None) ≡ false
+    one true =
+        let rest = length-drop (length prefix + 1) name in
+        ap is_some (none v (drop (length prefix + 1) name) (omega (arith, rest, long)))
+    one false = refl

@@ -1,8 +1,8 @@
 //! What forms brought beside used vocabularies.
-ghost use Rattle.std.specs.Prelude.{◌≡◌, ◌++◌, ◌∷◌, ◌+◌, ◌&&◌, ◌||◌, [], List, ℕ, None, Some, codes, drop, length, nat_eq, reverse, slice_get, if◌then◌else◌, IfSome, OnOk, OnErr};
+ghost use Rattle.std.specs.Prelude.{◌≡◌, ◌++◌, ◌∷◌, ◌+◌, ◌&&◌, ◌||◌, [], List, ℕ, None, Some, codes, drop, false, is_some, length, nat_eq, reverse, slice_get, if◌then◌else◌, IfSome, OnOk, OnErr};
 ghost use Rattle.std.specs.List.{list_any, starts_with};
 ghost use Rattle.std.specs.Option.{option_copied};
-ghost use Rattle.fac_vocab.specs.Scopes.{Brought as Form, given_by, latest as latest_word};
+ghost use Rattle.fac_vocab.specs.Scopes.{Brought as Form, given_by, latest as latest_word, prefixed};
 ghost use Rattle.fac_vocab.specs.inner.Index.{numbers_in};
 ghost use Rattle.std.specs.Str.{bytes_eq};
 ghost use Rattle.indexmap.specs.IndexMap.{get_by_text};
@@ -360,6 +360,16 @@ fn best_of_last(
     }
 }
 
+// Whether what stands behind a prefix and a colon isn't longer than every name.
+fn may_give(table: &Table, prefix: &str, name: &str) -> bool
+    ensures { (v : List ℕ) → result ≡ false → is_some (given_by table.now name.now (prefixed v prefix.now)) ≡ false }
+{
+    if name.len() <= prefix.len() {
+        return true;
+    }
+    name.len() - prefix.len() - 1 <= table.longest()
+}
+
 // The best number so far, or that of a form with a prefix.
 fn best_behind(
     table: &Table,
@@ -377,6 +387,9 @@ fn best_behind(
     ensures { IsNext table.now forms.now name.now prefix.now best result }
 {
     if !lengths.contains(&prefix.len()) {
+        return best;
+    }
+    if !may_give(table, prefix, name) {
         return best;
     }
     match prefixes.get(prefix) {
