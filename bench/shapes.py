@@ -66,8 +66,9 @@ def colons(n):
 
 def colons_of_all_lengths(n):
     longest = int((20 * n) ** 0.5)
-    prefixes = "".join("QUALIFIED-WITH: kernel " + ":" * k + "\n" for k in range(1, longest))
-    return prefixes + word("w", (":" * longest + " ") * (n // 10))
+    # A token of one or two colons begins a definition.
+    prefixes = "".join("QUALIFIED-WITH: kernel " + ":" * k + "\n" for k in range(3, longest))
+    return prefixes + word("w", (":" * longest + " ") * (20 * n // longest))
 
 
 def companions(n):
