@@ -333,7 +333,7 @@ fn fewer_of(one: usize, other: usize) -> usize {
 }
 
 // The best number so far, or that of a form of these vocabularies: by the last forms with the prefix, and where none of these gives the name a
-// word by all. The last ones are as many as have to be gone through otherwise.
+// word by all. The last ones are an eighth of what has to be gone through otherwise, so that to try them in vain costs little.
 fn best_of_last(
     table: &Table,
     forms: &[Brought],
@@ -350,7 +350,7 @@ fn best_of_last(
     match behind_prefix(name, prefix) {
         Some(rest) => {
             let entries = table.numbers(rest);
-            let count = fewer_of(entries.len(), vocabs.len());
+            let count = fewer_of(entries.len(), vocabs.len()) / 8;
             match last_behind(table, forms, numbers, count, prefix, name) {
                 Some(last) => later_of(best, Some(last)),
                 None => best_of_fewer(table, forms, vocabs, entries, rest, prefix, name, best),
