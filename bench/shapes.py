@@ -6,8 +6,9 @@
 PROGRAM is the built program, by default crates/factorc/out/factorc. A shape is a function from n to a source, with a name and a line of what it stresses;
 add one to SHAPES. For each of these names, by default for all, the script runs `PROGRAM check` on the sources of n / 4, n and 4n, counts the instructions
 of each by valgrind, and prints the ratio of what the last takes more than the middle one to what that takes more than the first: 4 where the shape is linear,
-and 16 where it is quadratic. It ends with status 1 where a ratio is more than 4.6, or where a run ends by a signal or with another status than the others.
-Whether the source is accepted doesn't matter. With `--times` it takes the user time, for sources eight times as large; such times are worth something on an
+and 16 where it is quadratic. It ends with status 1 where a ratio is more than 4.6, where a run ends by a signal or with another status than the others,
+where the bytes of the sources have such a ratio of more than 4.3, or where a file isn't of the grammar (status 3), so that nothing is checked.
+Whether the source is accepted doesn't matter otherwise. With `--times` it takes the user time, for sources eight times as large; such times are worth something on an
 idle machine alone. `--list` lists the shapes.
 """
 
@@ -22,6 +23,10 @@ import sys
 import tempfile
 
 MOST_RATIO = 4.6
+# The same of the bytes of the sources: they may grow by longer numbers.
+MOST_GROWTH = 4.3
+# The status of a file that isn't of the grammar.
+NO_GRAMMAR = 3
 # How many times as large the sources are whose user time is taken.
 LARGER = 8
 # So long a run may take, in seconds. A quadratic shape is ended by it.
@@ -66,8 +71,9 @@ def colons(n):
 
 def colons_of_all_lengths(n):
     longest = int((20 * n) ** 0.5)
-    prefixes = "".join("QUALIFIED-WITH: kernel " + ":" * k + "\n" for k in range(1, longest))
-    return prefixes + word("w", (":" * longest + " ") * (n // 10))
+    # A token of one or two colons begins a definition.
+    prefixes = "".join("QUALIFIED-WITH: kernel " + ":" * k + "\n" for k in range(3, longest))
+    return prefixes + word("w", (":" * longest + " ") * (20 * n // longest))
 
 
 def companions(n):
@@ -306,8 +312,10 @@ def tell(shape, n, costs):
         return False
     (status, least), (middle, few), (last, many) = costs
     ratio = (many - few) / max(few - least, 1)
-    is_near = ratio <= MOST_RATIO and status == middle == last and status >= 0
-    note = "" if is_near else " *"
+    short, usual, long = (len(shape.make(size)) for size in (n // 4, n, 4 * n))
+    growth = (long - usual) / (usual - short)
+    is_near = ratio <= MOST_RATIO and growth <= MOST_GROWTH and status == middle == last and status >= 0 and status != NO_GRAMMAR
+    note = "" if is_near else f" * (the source {growth:.2f})"
     print(f"{shape.name:<28}{n:>8}{few:>15,.0f}{many:>15,.0f}{ratio:>8.2f}  status {status}, {middle}, {last}{note}", flush=True)
     return is_near
 

@@ -27,7 +27,7 @@ use Rattle.fac_endings.specs.declared.draft.Draft.{Draft}
 use Rattle.fac_endings.specs.declared.draft.Named.{Named}
 use Rattle.fac_lang.specs.declared.program.WordDef.{WordDef}
 use Rattle.fac_items.specs.Readings.{read_forms}
-use Rattle.fac_names.specs.Resolved.{Known, beginning, as_past, program_of, answer, first_fault, resolved_after}
+use Rattle.fac_names.specs.Resolved.{Known, beginning, as_past, program_of, answer, first_fault}
 use Rattle.fac_endings.specs.FinishedWords.{finished}
 use Rattle.fac_endings.specs.ClassTable.{classes_of}
 use Rattle.fac_names.specs.Laws.{IsKnown, KnownStays}
@@ -269,7 +269,6 @@ answered keep r (Some f) q w d a h = absurd (true≢false (sym (ap (λ x. elim x
 answered keep r None q w d a h = sym (ap (λ x. elim x [ Ok y ↦ slice_get y.program.words w | Err e ↦ None ]) h) ∙ finished_at keep r w d a
 
 pub known_stays : KnownStays
-unfolding resolved_after
 known_stays k q files keep known h w d hd top =
     let r = fold (take_file keep) (beginning k) files in
     answered keep r (first_fault r) q w d (at_fold (take_file keep) (λ s forms a. file_at keep s forms a) files (beginning k) (beginning_at k known w d hd top)) h

@@ -1,5 +1,5 @@
--- What is to be shown of names: statements for laws.
-use Rattle.std.specs.Prelude.{ℕ, ◌≡◌, ◌<◌, nat_eq, List, ◌++◌, map, length, slice_get, fold, Option, Some, Ok, Bool, true, false, ◌&&◌, not, is_some, codes}
+-- Laws of names.
+use Rattle.std.specs.Prelude.{ℕ, ◌≡◌, ◌<◌, nat_eq, List, ◌++◌, map, length, slice_get, fold, Option, Some, Ok, Bool, true, false, ◌&&◌, not}
 use Rattle.std.specs.List.{list_all}
 use Rattle.fac_lang.specs.Whole.{IsWhole, no_two, same_name}
 use Rattle.fac_base.specs.declared.name.Name.{Name as FullName}
@@ -12,7 +12,7 @@ use Rattle.fac_items.specs.Written.{Form}
 use Rattle.fac_source.specs.Refusals.{sooner}
 use Rattle.fac_endings.specs.declared.draft.Draft.{Draft}
 use Rattle.fac_names.specs.Forms.{Reading, take}
-use Rattle.fac_names.specs.Resolved.{Known, resolved_after}
+use Rattle.fac_names.specs.Resolved.{Known, beginning, read_files}
 
 -- Programs.
 
@@ -35,18 +35,6 @@ pub record IsKnown (k : Known) : Type 0 where
   pub words : (w : ℕ) (d : WordDef) → slice_get k.program.words w ≡ Some d → has_entry k.program.top w d ≡ true → word_held k.scope.table d.name.vocab d.name.name ≡ Some w
   -- and no two entries have one name
   pub once : no_two (λ e f. same_name (name_of e) (name_of f)) k.scope.table ≡ true
-
--- The words that readings name are known. (Each from the piece of work on that builds a form which is read with it.)
-abbrev pub HasReadings : Known → Type 0
-HasReadings k =
-    (is_some (word_held k.scope.table (codes "kernel") (codes "call")) ≡ true) ×
-    (is_some (word_held k.scope.table (codes "kernel") (codes "if")) ≡ true) ×
-    (is_some (word_held k.scope.table (codes "kernel") (codes "boa")) ≡ true) ×
-    (is_some (word_held k.scope.table (codes "combinators.private") (codes "(no-cond)")) ≡ true)
-
--- Resolved programs are whole. `Fits` is that the trees are well-formed.
-abbrev pub ResolvedIsWhole : (List (List Form) → Type 0) → Type 0
-ResolvedIsWhole Fits = (k q : Known) (files : List (List Form)) (keep : Bool) → IsKnown k → HasReadings k → Fits files → resolved_after k files keep ≡ Ok q → IsKnown q × HasReadings q
 
 -- Numbers.
 
@@ -77,5 +65,5 @@ FormsGrow = (form : Form) (r : Reading) → Grows r (take form r)
 -- Of a resolved program: the words of what was known come first, and all but its phrase are unchanged.
 abbrev pub KnownStays : Type 0
 KnownStays =
-    (k q : Known) (files : List (List Form)) (keep : Bool) → IsKnown k → resolved_after k files keep ≡ Ok q →
+    (k q : Known) (files : List (List Form)) (keep : Bool) → IsKnown k → read_files (beginning k) files keep ≡ Ok q →
     (w : ℕ) (d : WordDef) → slice_get k.program.words w ≡ Some d → nat_eq k.program.top w ≡ false → slice_get q.program.words w ≡ Some d

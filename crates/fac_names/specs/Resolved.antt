@@ -51,7 +51,3 @@ answer keep r None = Ok (record { scope = r.scope; program = program_of keep r }
 -- what the files come to behind a reading; `keep` where they go on in its scope
 abbrev pub read_files : Reading → List (List Form) → Bool → Result Known NameFault
 read_files r files keep = let q = fold (take_file keep) r files in answer keep q (first_fault q)
-
--- what the files come to behind what is known before
-unfoldable pub resolved_after : Known → List (List Form) → Bool → Result Known NameFault
-resolved_after before files keep = read_files (beginning before) files keep

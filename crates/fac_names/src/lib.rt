@@ -16,5 +16,7 @@ mod resolver;
 mod so_far;
 
 pub use fac_source::{NameFault, NameKind, ResolveFault};
-pub use laws::{phrases_are_written_as_items, resolved_programs_are_whole};
+pub use laws::{
+    forms_keep_numbers, known_words_stay, phrases_are_written_as_items, resolved_programs_are_whole,
+};
 pub use resolver::Resolver;

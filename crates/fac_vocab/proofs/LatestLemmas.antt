@@ -1,16 +1,16 @@
 -- The latest form that gives a name a word, by the numbers of forms.
 use Rattle.std.proofs.Common.{◌≡◌, ℕ, zero, suc, ◌+◌, ◌<◌, ◌≤◌, Bool, true, false, cond, ◌||◌, List, [], ◌∷◌, ◌++◌, length, drop, take, reverse, String, string_bytes, Option, Some, None, is_some, refl, sym, ap, ◌∙◌, subst, arith, append_assoc, length-append, true≢false}
-use Rattle.std.specs.Prelude.{nat_eq, nat_lt, slice_get, codes, if◌then◌else◌}
+use Rattle.std.specs.Prelude.{nat_eq, nat_lt, slice_get, codes, if◌then◌else◌, IfSome}
 use Rattle.std.specs.Cmp.{unsigned_Decides}
 use Rattle.std.specs.List.{list_any, starts_with}
 use Rattle.std.specs.Str.{bytes_eq}
 use Rattle.std.proofs.lemmas.Bool.{ltb-false, ltb-true}
-use Rattle.std.proofs.lemmas.List.{length_push, reverse-append}
+use Rattle.std.proofs.lemmas.List.{length-drop, length_push, reverse-append}
 use Rattle.std.proofs.lemmas.Map.Entries.{place_from_lookup}
 use Rattle.std.proofs.lemmas.Option.{slice_get_within}
 use Rattle.std.proofs.lemmas.Slice.Eq.{bytes_eq-Decides, starts_is}
 use Rattle.fac_vocab.specs.Scopes.{Entry, Brought, named, prefixed, word_held, or_else, given_by, latest}
-use Rattle.fac_vocab.specs.inner.BroughtForms.{word_by, word_at, gives, last_giving, later, is_name, is_pair, is_length, last_pair, numbers_where, HasLengths, AtMost, GivesBest, IsNext, with_vocab_number}
+use Rattle.fac_vocab.specs.inner.BroughtForms.{word_by, word_at, gives, last_giving, later, is_name, has_prefix, is_pair, is_length, last_pair, numbers_where, HasLengths, AtMost, GivesBest, IsNext, EndsIn, with_vocab_number}
 use Rattle.indexmap.specs.IndexMap.{IndexMap, get_by_text}
 use Rattle.fac_vocab.proofs.TextLemmas.{drop_prefix, both_true}
 
@@ -491,3 +491,46 @@ split_at [] zero = refl
 split_at [] (suc i) = refl
 split_at (x ∷ xs) zero = refl
 split_at (x ∷ xs) (suc i) = ap (λ (ys : List ℕ). x ∷ ys) (split_at xs i)
+
+-- The last forms with a prefix.
+
+giving_end : (table : List Entry) (forms : List Brought) (name front last : List ℕ) (n : ℕ) → last_giving table forms name last ≡ Some n → last_giving table forms name (front ++ last) ≡ Some n
+giving_end table forms name [] last n e = e
+giving_end table forms name (x ∷ front) last n e = ap (λ (o : Option ℕ). or_else o (cond (gives table forms name x) (Some x) None)) (giving_end table forms name front last n e)
+
+pub next_last : (table : List Entry) (forms : List Brought) (name prefix numbers last : List ℕ) (o : Option ℕ) → numbers ≡ numbers_where 0 (has_prefix prefix) forms → EndsIn numbers last → o ≡ last_giving table forms name last → IfSome o (λ n. IsNext table forms name prefix None (Some n))
+next_last table forms name prefix numbers last None is ends e = tt
+next_last table forms name prefix numbers last (Some n) is ends e =
+    let all = ap (last_giving table forms name) (sym is ∙ ends.1) ∙ giving_end table forms name ends.0 last n (sym e) in
+    record {
+      gives_word = λ h. subst (λ (o : Option ℕ). GivesBest table forms name o) (sym e) (last_gives table forms name last);
+      keeps = λ m h. absurd h;
+      covers = λ m v at g. subst (λ (o : Option ℕ). AtMost m o) all (all_covered table forms name (has_prefix prefix) m (prefixed v prefix) at ((bytes_eq-Decides prefix prefix).1 refl) (sym (ap (λ (o : Option Brought). is_some (word_by table name o)) at) ∙ g));
+    }
+
+pub next_later : (table : List Entry) (forms : List Brought) (name prefix : List ℕ) (best : Option ℕ) (n : ℕ) → IsNext table forms name prefix None (Some n) → IsNext table forms name prefix best (later best (Some n))
+next_later table forms name prefix best n i =
+    record {
+      gives_word = λ h. later_gives table forms name best (Some n) h (i.gives_word tt);
+      keeps = λ m h. later_first m best (Some n) h;
+      covers = λ m v e g. later_second m best (Some n) (i.covers m v e g);
+    }
+
+-- What stands behind a prefix, where no name is so long.
+
+pub none_give : (table : List Entry) (forms : List Brought) (name prefix : List ℕ) (best : Option ℕ) (b : Bool) → b ≡ false → ((v : List ℕ) → b ≡ false → is_some (given_by table name (prefixed v prefix)) ≡ false) → IsNext table forms name prefix best best
+none_give table forms name prefix best b e none =
+    record {
+      gives_word = λ h. h;
+      keeps = λ m h. h;
+      covers = λ m v at g. absurd (true≢false (sym (sym (ap (λ (o : Option Brought). is_some (word_by table name o)) at) ∙ g) ∙ none v e));
+    }
+
+pub long_behind : (table : List Entry) (name prefix v : List ℕ) (longest : ℕ) → ((u q : List ℕ) → longest < length q → word_held table u q ≡ None) → longest + length prefix + 1 < length name → is_some (given_by table name (prefixed v prefix)) ≡ false
+long_behind table name prefix v longest none long = one (starts_with nat_eq name (prefix ++ codes ":"))
+  where
+    one : (b : Bool) → is_some (cond b (word_held table v (drop (length prefix + 1) name)) None) ≡ false
+    one true =
+        let rest = length-drop (length prefix + 1) name in
+        ap is_some (none v (drop (length prefix + 1) name) (omega (arith, rest, long)))
+    one false = refl

@@ -9,8 +9,10 @@ use Rattle.std.proofs.lemmas.List.{drop_more, length_push}
 use Rattle.std.proofs.lemmas.Slice.Eq.{bytes_eq-Decides}
 use Rattle.fac_lang.specs.Whole.{same_name}
 use Rattle.fac_lang.specs.declared.program.WordDef.{WordDef}
-use Rattle.fac_vocab.specs.Scopes.{Entry, entries_from, held, or_else, same_table, holders, now_defined}
+use Rattle.fac_vocab.specs.Scopes.{Entry, entries_from, held, word_held, or_else, same_table, holders, now_defined}
 use Rattle.fac_vocab.specs.ScopeCalls.{name_of, names_differ}
+use Rattle.std.specs.Option.{option_map}
+use Rattle.fac_vocab.specs.inner.Index.{NamesWithin}
 use Rattle.fac_vocab.specs.inner.Rows.{numbers_named, number_if, first_among, first_defined, defined_at}
 use Rattle.fac_vocab.proofs.TextLemmas.{bytes_eq-swap, false_by, both_true, or_false}
 use Rattle.fac_vocab.proofs.RowLemmas.{entry_behind}
@@ -229,3 +231,22 @@ settled_none vocab name table e = by_number vocab name table None e ∙ sym (fir
 -- the entry of a word, and those behind it
 pub entries_step : (k i : ℕ) (ds : List WordDef) (d : WordDef) → i < length ds → d ≡ get_or ds i d → entries_from k (drop i ds) ≡ record { vocab = d.name.vocab; name = d.name.name; word = k; is_defined = true } ∷ entries_from (k + 1) (drop (i + 1) ds)
 entries_step k i ds d h e = ap (entries_from k) (drop_more ds i d h ∙ ap (λ (x : WordDef). x ∷ drop (i + 1) ds) (sym e))
+
+-- The longest name.
+
+pub none_longer : (longest : ℕ) (es : List Entry) (v q : List ℕ) → NamesWithin longest es → longest < length q → word_held es v q ≡ None
+none_longer longest [] v q h l = refl
+none_longer longest (x ∷ es) v q h l = one (bytes_eq q x.name) refl (none_longer longest es v q h.1 l)
+  where
+    one : (b : Bool) → bytes_eq q x.name ≡ b → word_held es v q ≡ None → option_map (λ (e : Entry). e.word) (cond (b && bytes_eq v x.vocab) (Some x) (held es v q)) ≡ None
+    one true e g = let long = ap length ((bytes_eq-Decides q x.name).0 e) in let short = h.0 in absurd (omega (arith, l, long, short))
+    one false e g = g
+
+pub names_added : (a b : ℕ) (es : List Entry) (e : Entry) → a ≤ b → length e.name ≤ b → NamesWithin a es → NamesWithin b (es ++ e ∷ [])
+names_added a b [] e l m h = (m, tt)
+names_added a b (x ∷ es) e l m h = (let short = h.0 in omega (arith, l, short), names_added a b es e l m h.1)
+
+pub names_settled : (a n : ℕ) (es : List Entry) → NamesWithin a es → NamesWithin a (defined_at n es)
+names_settled a n [] h = tt
+names_settled a zero (x ∷ es) h = h
+names_settled a (suc n) (x ∷ es) h = (h.0, names_settled a n es h.1)

@@ -1,13 +1,13 @@
 //! What forms brought beside used vocabularies.
-ghost use Rattle.std.specs.Prelude.{◌≡◌, ◌++◌, ◌∷◌, ◌+◌, ◌&&◌, ◌||◌, [], List, ℕ, None, Some, codes, drop, length, nat_eq, reverse, slice_get, if◌then◌else◌, OnOk, OnErr};
+ghost use Rattle.std.specs.Prelude.{◌≡◌, ◌++◌, ◌∷◌, ◌+◌, ◌&&◌, ◌||◌, [], List, ℕ, None, Some, codes, drop, false, is_some, length, nat_eq, reverse, slice_get, if◌then◌else◌, IfSome, OnOk, OnErr};
 ghost use Rattle.std.specs.List.{list_any, starts_with};
 ghost use Rattle.std.specs.Option.{option_copied};
-ghost use Rattle.fac_vocab.specs.Scopes.{Brought as Form, given_by, latest as latest_word};
+ghost use Rattle.fac_vocab.specs.Scopes.{Brought as Form, given_by, latest as latest_word, prefixed};
 ghost use Rattle.fac_vocab.specs.inner.Index.{numbers_in};
 ghost use Rattle.std.specs.Str.{bytes_eq};
 ghost use Rattle.indexmap.specs.IndexMap.{get_by_text};
 ghost use Rattle.fac_vocab.specs.inner.Pairs.{number_in};
-ghost use Rattle.fac_vocab.specs.inner.BroughtForms.{gives, word_at, last_giving, later, is_name, is_pair, is_length, last_pair, AreIndexed, IndexedWhere, HasLengths, IsNext, with_vocab_number, entry_last, numbered_last, twice};
+ghost use Rattle.fac_vocab.specs.inner.BroughtForms.{gives, word_at, last_giving, later, is_name, has_prefix, is_pair, is_length, last_pair, numbers_where, AreIndexed, IndexedWhere, HasLengths, IsNext, EndsIn, with_vocab_number, entry_last, numbered_last, twice};
 ghost use Rattle.fac_vocab.specs.inner.Rows.{numbers_named};
 
 use crate::brought::Brought;
@@ -27,6 +27,8 @@ pub struct BroughtNames {
     forms: Vec<Brought>,
     // The numbers of the forms under the names that they bring.
     names: IndexMap<String, Vec<u32>>,
+    // The numbers of the forms under the prefixes that they bring.
+    numbers: IndexMap<String, Vec<u32>>,
     // The number of the last form under the prefix and the vocabulary that it brings.
     prefixes: IndexMap<String, IndexMap<String, u32>>,
     // The lengths of prefixes.
@@ -44,7 +46,7 @@ impl Model for BroughtNames {
 
     ghost view = { λ b. reverse b.forms.items };
 
-    ghost invariant = { λ b. IndexedWhere b.is_indexed b.names b.prefixes b.lengths.keys b.forms.items };
+    ghost invariant = { λ b. IndexedWhere b.is_indexed b.names b.numbers b.prefixes b.lengths.keys b.forms.items };
 }
 
 // What stands behind a prefix and a colon.
@@ -276,36 +278,110 @@ fn best_of_fewer(
     table: &Table,
     forms: &[Brought],
     vocabs: &IndexMap<String, u32>,
+    entries: &[u32],
+    rest: &str,
     prefix: &str,
     name: &str,
     best: Option<u32>,
 ) -> Option<u32>
-    requires { (v : List ℕ) → get_by_text vocabs.now v ≡ last_pair 0 prefix.now v forms.now }
+    requires kept { (v : List ℕ) → get_by_text vocabs.now v ≡ last_pair 0 prefix.now v forms.now }
+    requires entries { entries.now ≡ numbers_named 0 rest.now table.now }
+    requires rest { Some rest.now ≡ (if starts_with nat_eq name.now (prefix.now ++ codes ":") then Some (drop (length prefix.now + 1) name.now) else None) }
+    ensures { IsNext table.now forms.now name.now prefix.now best result }
+{
+    if entries.len() < vocabs.len() {
+        best_by_entries(table, forms, vocabs, entries, rest, prefix, name, best)
+    } else {
+        best_of(table, forms, vocabs, prefix, name, best)
+    }
+}
+
+// The last of these numbers, at most so many.
+fn last_few(numbers: &[u32], count: usize) -> &[u32]
+    ensures { EndsIn numbers.now result.now }
+{
+    if count < numbers.len() {
+        &numbers[numbers.len() - count..]
+    } else {
+        numbers
+    }
+}
+
+// The number of the last form with a prefix that gives the name a word, where it is one of the last few with this prefix.
+fn last_behind(
+    table: &Table,
+    forms: &[Brought],
+    numbers: &IndexMap<String, Vec<u32>>,
+    count: usize,
+    prefix: &str,
+    name: &str,
+) -> Option<u32>
+    requires { (q : List ℕ) → numbers_in numbers.now q ≡ numbers_where 0 (has_prefix q) forms.now }
+    ensures { IfSome result (λ n. IsNext table.now forms.now name.now prefix.now None (Some n)) }
+{
+    last_number(
+        table,
+        forms,
+        last_few(numbers_of(numbers, prefix), count),
+        name,
+    )
+}
+
+// The lesser of two counts.
+fn fewer_of(one: usize, other: usize) -> usize {
+    if one < other { one } else { other }
+}
+
+// The best number so far, or that of a form of these vocabularies: by the last forms with the prefix, and where none of these gives the name a
+// word by all. The last ones are an eighth of what has to be gone through otherwise, so that to try them in vain costs little.
+fn best_of_last(
+    table: &Table,
+    forms: &[Brought],
+    numbers: &IndexMap<String, Vec<u32>>,
+    vocabs: &IndexMap<String, u32>,
+    prefix: &str,
+    name: &str,
+    best: Option<u32>,
+) -> Option<u32>
+    requires behind { (q : List ℕ) → numbers_in numbers.now q ≡ numbers_where 0 (has_prefix q) forms.now }
+    requires kept { (v : List ℕ) → get_by_text vocabs.now v ≡ last_pair 0 prefix.now v forms.now }
     ensures { IsNext table.now forms.now name.now prefix.now best result }
 {
     match behind_prefix(name, prefix) {
         Some(rest) => {
-            let numbers = table.numbers(rest);
-            if numbers.len() < vocabs.len() {
-                best_by_entries(table, forms, vocabs, numbers, rest, prefix, name, best)
-            } else {
-                best_of(table, forms, vocabs, prefix, name, best)
+            let entries = table.numbers(rest);
+            let count = fewer_of(entries.len(), vocabs.len()) / 8;
+            match last_behind(table, forms, numbers, count, prefix, name) {
+                Some(last) => later_of(best, Some(last)),
+                None => best_of_fewer(table, forms, vocabs, entries, rest, prefix, name, best),
             }
         }
         None => best_of(table, forms, vocabs, prefix, name, best),
     }
 }
 
+// Whether what stands behind a prefix and a colon isn't longer than every name.
+fn may_give(table: &Table, prefix: &str, name: &str) -> bool
+    ensures { (v : List ℕ) → result ≡ false → is_some (given_by table.now name.now (prefixed v prefix.now)) ≡ false }
+{
+    if name.len() <= prefix.len() {
+        return true;
+    }
+    name.len() - prefix.len() - 1 <= table.longest()
+}
+
 // The best number so far, or that of a form with a prefix.
 fn best_behind(
     table: &Table,
     forms: &[Brought],
+    numbers: &IndexMap<String, Vec<u32>>,
     prefixes: &IndexMap<String, IndexMap<String, u32>>,
     lengths: &IndexSet<usize>,
     prefix: &str,
     name: &str,
     best: Option<u32>,
 ) -> Option<u32>
+    requires behind { (q : List ℕ) → numbers_in numbers.now q ≡ numbers_where 0 (has_prefix q) forms.now }
     requires kept { (p v : List ℕ) → number_in prefixes.now p v ≡ last_pair 0 p v forms.now }
     requires lengths { HasLengths lengths.now.keys forms.now }
     ensures { IsNext table.now forms.now name.now prefix.now best result }
@@ -313,8 +389,11 @@ fn best_behind(
     if !lengths.contains(&prefix.len()) {
         return best;
     }
+    if !may_give(table, prefix, name) {
+        return best;
+    }
     match prefixes.get(prefix) {
-        Some(vocabs) => best_of_fewer(table, forms, vocabs, prefix, name, best),
+        Some(vocabs) => best_of_last(table, forms, numbers, vocabs, prefix, name, best),
         None => best,
     }
 }
@@ -324,17 +403,18 @@ fn latest_number(
     table: &Table,
     forms: &[Brought],
     names: &IndexMap<String, Vec<u32>>,
+    numbers: &IndexMap<String, Vec<u32>>,
     prefixes: &IndexMap<String, IndexMap<String, u32>>,
     lengths: &IndexSet<usize>,
     name: &str,
 ) -> Option<u32>
-    requires { AreIndexed names.now prefixes.now lengths.now.keys forms.now }
+    requires { AreIndexed names.now numbers.now prefixes.now lengths.now.keys forms.now }
     ensures { word_at table.now forms.now name.now result ≡ latest_word table.now name.now (reverse forms.now) }
 {
     let mut best = last_number(table, forms, numbers_of(names, name), name);
     let mut front = name;
     while let Some((before, _)) = front.rsplit_once(":") {
-        best = best_behind(table, forms, prefixes, lengths, before, name, best);
+        best = best_behind(table, forms, numbers, prefixes, lengths, before, name, best);
         front = before;
     }
     best
@@ -343,16 +423,19 @@ fn latest_number(
 // Keeps a prefix with its vocabulary under the number of a form.
 fn note_prefix(
     alloc: Global,
+    numbers: &mut IndexMap<String, Vec<u32>>,
     prefixes: &mut IndexMap<String, IndexMap<String, u32>>,
     lengths: &mut IndexSet<usize>,
     prefix: &str,
     vocab: &str,
     number: u32,
 ) -> Result<(), Memory>
+    ensures behind { (q : List ℕ) → OnOk result (numbers_in numbers.new q ≡ (if bytes_eq prefix.now q then numbers_in numbers.old q ++ number ∷ [] else numbers_in numbers.old q)) }
     ensures prefixed { (p v : List ℕ) → OnOk result (number_in prefixes.new p v ≡ (if bytes_eq prefix.now p && bytes_eq vocab.now v then Some number else number_in prefixes.old p v)) }
     ensures lengths { (n : ℕ) → OnOk result (list_any (nat_eq n) lengths.new.keys ≡ (nat_eq n (length prefix.now) || list_any (nat_eq n) lengths.old.keys)) }
 {
     lengths.insert(prefix.len())?;
+    add_number(alloc, numbers, prefix, number)?;
     put_number(alloc, prefixes, prefix, vocab, number)
 }
 
@@ -360,12 +443,14 @@ fn note_prefix(
 fn note(
     alloc: Global,
     names: &mut IndexMap<String, Vec<u32>>,
+    numbers: &mut IndexMap<String, Vec<u32>>,
     prefixes: &mut IndexMap<String, IndexMap<String, u32>>,
     lengths: &mut IndexSet<usize>,
     form: &Brought,
     number: u32,
 ) -> Result<(), Memory>
     ensures named { (q : List ℕ) → OnOk result (numbers_in names.new q ≡ (if is_name q form.now then numbers_in names.old q ++ number ∷ [] else numbers_in names.old q)) }
+    ensures behind { (q : List ℕ) → OnOk result (numbers_in numbers.new q ≡ (if has_prefix q form.now then numbers_in numbers.old q ++ number ∷ [] else numbers_in numbers.old q)) }
     ensures prefixed { (p v : List ℕ) → OnOk result (number_in prefixes.new p v ≡ (if is_pair p v form.now then Some number else number_in prefixes.old p v)) }
     ensures lengths { (n : ℕ) → OnOk result (list_any (nat_eq n) lengths.new.keys ≡ (is_length n form.now || list_any (nat_eq n) lengths.old.keys)) }
 {
@@ -373,6 +458,7 @@ fn note(
         Brought::Named(name, _) => add_number(alloc, names, name.as_str(), number),
         Brought::Prefixed(vocab, prefix) => note_prefix(
             alloc,
+            numbers,
             prefixes,
             lengths,
             prefix.as_str(),
@@ -387,12 +473,13 @@ fn note_behind(
     alloc: Global,
     is_indexed: bool,
     names: &mut IndexMap<String, Vec<u32>>,
+    numbers: &mut IndexMap<String, Vec<u32>>,
     prefixes: &mut IndexMap<String, IndexMap<String, u32>>,
     lengths: &mut IndexSet<usize>,
     form: &Brought,
     number: usize,
 ) -> bool
-    ensures { (fs : List Form) → length fs ≡ number → IndexedWhere is_indexed names.old prefixes.old lengths.old.keys fs → IndexedWhere result names.new prefixes.new lengths.new.keys (fs ++ form.now ∷ []) }
+    ensures { (fs : List Form) → length fs ≡ number → IndexedWhere is_indexed names.old numbers.old prefixes.old lengths.old.keys fs → IndexedWhere result names.new numbers.new prefixes.new lengths.new.keys (fs ++ form.now ∷ []) }
 {
     if !is_indexed {
         return false;
@@ -400,7 +487,15 @@ fn note_behind(
     if number > u32::MAX as usize {
         return false;
     }
-    match note(alloc, names, prefixes, lengths, form, number as u32) {
+    match note(
+        alloc,
+        names,
+        numbers,
+        prefixes,
+        lengths,
+        form,
+        number as u32,
+    ) {
         Ok(_) => true,
         Err(_) => false,
     }
@@ -414,6 +509,7 @@ impl BroughtNames {
         BroughtNames {
             forms: Vec::new(alloc),
             names: IndexMap::new(alloc),
+            numbers: IndexMap::new(alloc),
             prefixes: IndexMap::new(alloc),
             lengths: IndexSet::new(alloc),
             is_indexed: true,
@@ -432,6 +528,7 @@ impl BroughtNames {
             table,
             forms,
             &self.names,
+            &self.numbers,
             &self.prefixes,
             &self.lengths,
             name,
@@ -448,6 +545,7 @@ impl BroughtNames {
             alloc,
             self.is_indexed,
             &mut self.names,
+            &mut self.numbers,
             &mut self.prefixes,
             &mut self.lengths,
             &form,

@@ -1,5 +1,5 @@
 //! The table of all names.
-ghost use Rattle.std.specs.Prelude.{◌≡◌, ◌<◌, ◌^◌, ◌++◌, ◌∷◌, [], List as Items, ℕ, None, length, true, IfOk, OnOk, OnErr};
+ghost use Rattle.std.specs.Prelude.{◌≡◌, ◌<◌, ◌≤◌, ◌^◌, ◌++◌, ◌∷◌, [], List as Items, ℕ, None, length, true, IfOk, OnOk, OnErr};
 ghost use Rattle.fac_vocab.specs.Scopes.{held, word_held, holders};
 ghost use Rattle.fac_vocab.specs.ScopeCalls.{names_differ, standing_of};
 ghost use Rattle.fac_vocab.specs.inner.Rows.{numbers_named, LeastUsed, settled, defined_at};
@@ -28,19 +28,21 @@ pub struct Table {
     // The numbers of the entries of each name.
     index: IndexMap<String, Vec<u32>>,
     late: Late,
+    // No name is longer.
+    longest: usize,
 }
 
 impl Model for Table {
     ghost use Rattle.std.specs.Prelude.{List};
     ghost use Rattle.fac_vocab.specs.declared.entry.Entry.{Entry};
-    ghost use Rattle.fac_vocab.specs.inner.Index.{IsIndexed};
+    ghost use Rattle.fac_vocab.specs.inner.Index.{IsIndexed, NamesWithin};
     ghost use Rattle.fac_vocab.specs.inner.Late.{LateWhere};
 
     ghost Value = { List Entry };
 
     ghost view = { λ t. t.entries.items };
 
-    ghost invariant = { λ t. IsIndexed t.index t.entries.items × LateWhere t.late.is_kept t.late.own t.late.companions t.entries.items };
+    ghost invariant = { λ t. IsIndexed t.index t.entries.items × LateWhere t.late.is_kept t.late.own t.late.companions t.entries.items × NamesWithin t.longest t.entries.items };
 }
 
 // An entry.
@@ -55,6 +57,14 @@ fn entry_of(alloc: Global, name: &Name, word: u32, is_defined: bool) -> Result<E
         word,
         is_defined,
     })
+}
+
+// The greater of two lengths.
+fn greater_of(one: usize, other: usize) -> usize
+    ensures first { one ≤ result }
+    ensures second { other ≤ result }
+{
+    if one < other { other } else { one }
 }
 
 // The entry of this number is defined now.
@@ -79,6 +89,7 @@ impl Table {
                 companions: IndexMap::new(alloc),
                 is_kept: true,
             },
+            longest: 0,
         }
     }
 
@@ -96,6 +107,13 @@ impl Table {
         ensures { result ≡ length self.now }
     {
         self.entries.len() as u32
+    }
+
+    /// A length than which no name is longer.
+    pub fn longest(&self) -> usize
+        ensures { (v q : Items ℕ) → result < length q → word_held self.now v q ≡ None }
+    {
+        self.longest
     }
 
     /// The numbers of the entries of a name, in their order.
@@ -196,6 +214,7 @@ impl Table {
         match add_number(alloc, &mut self.index, name.name.as_str(), number) {
             Ok(_) => {
                 self.late.is_kept = is_kept;
+                self.longest = greater_of(self.longest, name.name.len());
                 Ok(())
             }
             Err(_) => {

@@ -1,5 +1,5 @@
 -- How what forms brought is searched: by the names and by the prefixes.
-use Rattle.std.specs.Prelude.{ℕ, ◌≡◌, ◌≤◌, ◌+◌, nat_eq, nat_lt, List, [], ◌∷◌, Bool, true, false, ◌&&◌, Option, Some, None, is_some, length, slice_get, String, if◌then◌else◌}
+use Rattle.std.specs.Prelude.{ℕ, ◌≡◌, ◌≤◌, ◌+◌, nat_eq, nat_lt, List, [], ◌∷◌, ◌++◌, Bool, true, false, ◌&&◌, Option, Some, None, is_some, length, slice_get, String, if◌then◌else◌}
 use Rattle.std.specs.List.{list_any}
 use Rattle.std.specs.Global.{Vec}
 use Rattle.std.specs.Str.{bytes_eq}
@@ -43,6 +43,11 @@ abbrev pub is_pair : List ℕ → List ℕ → Brought → Bool
 is_pair p v (named n w) = false
 is_pair p v (prefixed u q) = bytes_eq q p && bytes_eq u v
 
+-- whether it brings a prefix
+abbrev pub has_prefix : List ℕ → Brought → Bool
+has_prefix p (named n w) = false
+has_prefix p (prefixed v q) = bytes_eq q p
+
 -- whether it brings a prefix of this length
 abbrev pub is_length : ℕ → Brought → Bool
 is_length n (named m w) = false
@@ -62,15 +67,16 @@ last_pair k p v (f ∷ fs) = or_else (last_pair (k + 1) p v fs) (if is_pair p v 
 abbrev pub HasLengths : List ℕ → List Brought → Type 0
 HasLengths lengths forms = (m : ℕ) (v p : List ℕ) → slice_get forms m ≡ Some (prefixed v p) → list_any (nat_eq (length p)) lengths ≡ true
 
--- The numbers of the forms are kept under each name, and the last under each prefix with its vocabulary.
-pub record AreIndexed {Y S T R : Type 0} (names : IndexMap (String Y) (Vec ℕ) S) (prefixes : IndexMap (String Y) (IndexMap (String Y) ℕ T) R) (lengths : List ℕ) (forms : List Brought) : Type 0 where
+-- The numbers of the forms are kept under each name and each prefix, and the last under each prefix with its vocabulary.
+pub record AreIndexed {Y S T R : Type 0} (names numbers : IndexMap (String Y) (Vec ℕ) S) (prefixes : IndexMap (String Y) (IndexMap (String Y) ℕ T) R) (lengths : List ℕ) (forms : List Brought) : Type 0 where
   pub named : (q : List ℕ) → numbers_in names q ≡ numbers_where 0 (is_name q) forms
+  pub behind : (q : List ℕ) → numbers_in numbers q ≡ numbers_where 0 (has_prefix q) forms
   pub prefixed : (p v : List ℕ) → number_in prefixes p v ≡ last_pair 0 p v forms
   pub long : HasLengths lengths forms
 
-abbrev pub IndexedWhere : {Y S T R : Type 0} → Bool → IndexMap (String Y) (Vec ℕ) S → IndexMap (String Y) (IndexMap (String Y) ℕ T) R → List ℕ → List Brought → Type 0
-IndexedWhere true names prefixes lengths forms = AreIndexed names prefixes lengths forms
-IndexedWhere false names prefixes lengths forms = Unit {0}
+abbrev pub IndexedWhere : {Y S T R : Type 0} → Bool → IndexMap (String Y) (Vec ℕ) S → IndexMap (String Y) (Vec ℕ) S → IndexMap (String Y) (IndexMap (String Y) ℕ T) R → List ℕ → List Brought → Type 0
+IndexedWhere true names numbers prefixes lengths forms = AreIndexed names numbers prefixes lengths forms
+IndexedWhere false names numbers prefixes lengths forms = Unit {0}
 
 -- Of two numbers of forms, where there are both, the first is at most the second.
 abbrev pub AtMost : ℕ → Option ℕ → Type 0
@@ -107,3 +113,7 @@ twice (Some n) = Some (n, n)
 
 abbrev pub entry_number : {Y S : Type 0} → IndexMap (String Y) ℕ S → List Entry → Option ℕ → Option (ℕ × ℕ)
 entry_number vocabs table o = twice (numbered_last vocabs table o)
+
+-- a list ends in another
+abbrev pub EndsIn : List ℕ → List ℕ → Type 0
+EndsIn all last = (front : List ℕ) × (all ≡ front ++ last)

@@ -1,5 +1,5 @@
 -- How the code keeps a table: its entries in order, and for each name the numbers of its entries.
-use Rattle.std.specs.Prelude.{ℕ, ◌≡◌, ◌<◌, ◌^◌, List, [], true, length, String}
+use Rattle.std.specs.Prelude.{ℕ, ◌≡◌, ◌<◌, ◌≤◌, ◌^◌, List, [], ◌∷◌, true, length, String}
 use Rattle.std.specs.Option.{option_map_or}
 use Rattle.std.specs.Global.{Vec}
 use Rattle.indexmap.specs.IndexMap.{IndexMap, get_by_text}
@@ -16,3 +16,8 @@ pub record IsIndexed {Y S : Type 0} (index : IndexMap (String Y) (Vec ℕ) S) (t
   pub numbers : (name : List ℕ) → numbers_in index name ≡ numbers_named 0 name table
   pub once : names_differ table ≡ true
   pub few : length table < 2 ^ 32
+
+-- no name is longer than this
+abbrev pub NamesWithin : ℕ → List Entry → Type 0
+NamesWithin longest [] = Unit {0}
+NamesWithin longest (e ∷ es) = (length e.name ≤ longest) × NamesWithin longest es

@@ -1,11 +1,11 @@
-use Rattle.std.proofs.Common.{◌∙◌, ap, sym, subst, length, List, ℕ, arith}
+use Rattle.std.proofs.Common.{◌∙◌, ap, sym, subst, length, List, ℕ, ◌≤◌, arith}
 use Rattle.std.proofs.lemmas.List.{length_push}
 use Rattle.fac_vocab.specs.Scopes.{Entry, held}
 use Rattle.fac_vocab.specs.ScopeCalls.{names_differ}
-use Rattle.fac_vocab.specs.inner.Index.{numbers_in}
+use Rattle.fac_vocab.specs.inner.Index.{numbers_in, NamesWithin}
 use Rattle.fac_vocab.specs.inner.Rows.{numbers_named}
 use Rattle.fac_vocab.specs.inner.Late.{LateWhere}
-use Rattle.fac_vocab.proofs.TableLemmas.{numbers_after, names_push}
+use Rattle.fac_vocab.proofs.TableLemmas.{numbers_after, names_push, names_added}
 use Rattle.fac_vocab.proofs.table.Table.add.Goals as goal
 
 pub invariant_of-self-in-Ok : goal.invariant_of-self-in-Ok
@@ -26,4 +26,6 @@ invariant_of-self-in-Ok c =
           (c.len-number.ensures ∙ ap length (sym c.self.view_is))
           (ap (λ (v : List ℕ). held es v c.as_str-3.result.now) c.as_str-2.ensures ∙ ap (held es c.args.name.now.vocab) c.as_str-3.ensures ∙ ap (λ (t : List Entry). held t c.args.name.now.vocab c.args.name.now.name) c.self.view_is ∙ c.requires)
           c.self.invariant.1),
+      subst (λ (t : List Entry). NamesWithin c.greater_of-self-inside.result t) (sym items)
+          (names_added c.self.inside.longest c.greater_of-self-inside.result es e c.greater_of-self-inside.ensures.first (let most = c.greater_of-self-inside.ensures.second in let counted = c.len.ensures in let same = ap length name in omega (arith, most, counted, same)) c.self.invariant.2),
     )

@@ -1,9 +1,9 @@
 use Rattle.std.proofs.Common.{◌≡◌, ◌∙◌, ap, sym, subst, length, List, ℕ, Some, None, ◌<◌, ◌^◌}
 use Rattle.fac_vocab.specs.Scopes.{Entry}
 use Rattle.fac_vocab.specs.ScopeCalls.{names_differ}
-use Rattle.fac_vocab.specs.inner.Index.{numbers_in}
+use Rattle.fac_vocab.specs.inner.Index.{numbers_in, NamesWithin}
 use Rattle.fac_vocab.specs.inner.Rows.{numbers_named, first_among, settled}
-use Rattle.fac_vocab.proofs.TableLemmas.{numbers_defined, names_defined, length_defined, settled_at, settled_none}
+use Rattle.fac_vocab.proofs.TableLemmas.{numbers_defined, names_defined, names_settled, length_defined, settled_at, settled_none}
 use Rattle.fac_vocab.proofs.LateLemmas.{late_settled}
 use Rattle.fac_vocab.proofs.table.Table.settle.Goals as goal
 
@@ -16,6 +16,7 @@ invariant_of-self c =
         few = subst (λ (n : ℕ). n < 2 ^ 32) (sym (ap length c.define_at.ensures ∙ length_defined c.in-Some.number es)) c.self.invariant.0.few;
       },
       late_settled c.self.inside.late.is_kept c.self.inside.late.own c.self.inside.late.companions es c.define_at.new.entries.items c.in-Some.number c.define_at.ensures c.self.invariant.1,
+      subst (λ (t : List Entry). NamesWithin c.self.inside.longest t) (sym c.define_at.ensures) (names_settled c.self.inside.longest c.in-Some.number es c.self.invariant.2),
     )
 
 pub returns-in-Some : goal.returns-in-Some
