@@ -1,13 +1,11 @@
 #!/usr/bin/env python3
-"""Measures how much memory programs take that make callables and texts all the time and drop them, and tests that it follows what is alive.
+"""Measures how much memory programs take that make values all the time and drop them, and tests that it follows what is alive.
 
     python3 bench/memory.py [--small] [PROGRAM]
 
 PROGRAM is the built program, by default crates/factorc/out/factorc. Each row runs a program and tells the greatest memory that the process
 had, by /proc, beside the most that it may have. With `--small` each row has a tenth of the turns. The script ends with status 1 where a
 program answers wrongly or takes more than it may.
-
-Arrays and tuples stay until the end of a run, so no row makes many of them.
 """
 import os
 import pathlib
@@ -23,11 +21,18 @@ WORDS = [word for word in sys.argv[1:] if word != "--small"]
 PROGRAM = WORDS[0] if WORDS else str(ROOT / "crates/factorc/out/factorc")
 SHARE = 10 if IS_SMALL else 1
 
-USING = "USING: kernel math prettyprint sequences strings math.parser arrays combinators io ;\n"
+USING = "USING: kernel math prettyprint sequences strings math.parser arrays combinators io accessors ;\n"
 MIB = 1 << 20
 
-# The bytes that an element of an array takes.
+# The bytes that an element of an array takes, and what a text and an object take beside theirs.
 VALUE = 32
+TEXT = 64
+OBJECT = 16
+
+PAIR = "TUPLE: pair a b ;"
+TREE = """TUPLE: node left right ;
+: tree ( n -- tree ) dup 0 = [ drop f ] [ 1 - dup tree swap tree node boa ] if ;
+: nodes ( tree -- n ) dup [ dup left>> nodes swap right>> nodes + 1 + ] [ drop 0 ] if ;"""
 
 
 def turns(count):
@@ -46,6 +51,22 @@ def rows():
     yield "lines that are read and dropped", "0 [ readln dup ] [ drop 1 + ] while drop .", line * lines, f"{lines}\n", 20 * MIB
     yield "strings that `append` makes", f'"" {lines} [ drop "some text " "and more of it" append ] times print', b"", "some text and more of it\n", 20 * MIB
     yield "numbers that are written as text and read again", f"0 {elements} [ number>string string>number 1 + ] times .", b"", f"{elements}\n", 10 * MIB
+    few = turns(10_000)
+    alive = few * (VALUE + TEXT + len(line))
+    yield "lines that `suffix` collects", "{ } [ readln dup ] [ suffix ] while drop length .", line * few, f"{few}\n", 10 * MIB + 4 * alive
+    places, made = turns(100_000), turns(1_000_000)
+    alive = places * (VALUE + OBJECT + 2 * VALUE)
+    replaced = f"{PAIR} {places} f <array> {made} <iota> [ [ dup pair boa ] keep {places} mod pick set-nth ] each length ."
+    yield "tuples that take the places of others", replaced, b"", f"{places}\n", 10 * MIB + 4 * alive
+    yield "tuples that are made and dropped", f"{PAIR} 0 {loops} [ 1 pair boa a>> 1 + ] times .", b"", f"{loops}\n", 10 * MIB
+    yield "arrays that are made and dropped", f"0 {loops} [ 1array first 1 + ] times .", b"", f"{loops}\n", 10 * MIB
+    cycle = "1 f <array> dup dup 0 swap set-nth drop"
+    yield "arrays that hold themselves and are dropped", f"{elements} [ {cycle} ] times", b"", "", 10 * MIB
+    depth = 17 if IS_SMALL else 20
+    alive = ((1 << depth) - 1) * (OBJECT + 2 * VALUE)
+    strings = turns(4_000_000)
+    stays = f'{TREE} {depth} tree {strings} [ "some text " "and more of it" append drop ] times nodes .'
+    yield "a tree that stays while strings come and go", stays, b"", f"{(1 << depth) - 1}\n", 10 * MIB + 3 * alive
     yield "a chain of callables that is called and dropped", f"0 {turns(1_000_000)} [ [ 1 + ] [ 2 + ] compose [ 3 + ] compose call ] times .", b"", f"{turns(1_000_000) * 6}\n", 10 * MIB
 
 

@@ -1,11 +1,12 @@
 -- The run of a fresh machine of an image is what `exec` answers.
-use Rattle.std.proofs.Common.{◌≡◌, ◌+◌, ◌-◌, ◌≤◌, ℕ, List, map, reverse, None, Some, refl, ap, sym, subst, ◌∙◌, arith}
+use Rattle.std.proofs.Common.{◌≡◌, ◌+◌, ◌-◌, ◌≤◌, ℕ, List, [], ◌∷◌, map, reverse, None, Some, refl, ap, ap₂, sym, subst, ◌∙◌, arith}
 use Rattle.std.specs.declared.option.Option.{Option}
 use Rattle.std.specs.Option.{option_map}
 use Rattle.fac_io.specs.Faults.{Rose}
 use Rattle.fac_base.specs.declared.name.Name.{Name}
-use Rattle.fac_lang.specs.World.{World}
+use Rattle.fac_lang.specs.World.{World, Error}
 use Rattle.fac_code.specs.declared.image.Image.{Image}
+use Rattle.fac_code.specs.ImageNames.{image_names}
 use Rattle.fac_code.specs.declared.names.TrapWhy.{TrapWhy}
 use Rattle.fac_store.specs.MachineValues.{MValue}
 use Rattle.fac_store.specs.ValueTrees.{Trees, StoreSeen, trees_of, value_in, values_in}
@@ -13,14 +14,18 @@ use Rattle.fac_store.specs.declared.value.Value.{Value}
 use Rattle.fac_vm.specs.declared.machine.RunError.{RunError}
 use Rattle.fac_vm.specs.declared.machine.StopKind.{StopKind}
 use Rattle.fac_vm.specs.declared.machine.StopKind.TheVariants as stop
-use Rattle.fac_machine.specs.Machine.{done, failed, spent, trap}
+use Rattle.fac_store.proofs.ForwardingLemmas.{map_turned}
+use Rattle.fac_machine.specs.Machine.{Machine, done, failed, spent, trap}
+use Rattle.fac_machine.specs.Renaming.{Renaming, renamed, renamed_values, renamed_error}
+use Rattle.fac_machine.proofs.RenamingSeen.{printed_renamed}
 use Rattle.fac_vm.specs.SeenMachine.{MachineSeen, callables_in, held_in}
-use Rattle.fac_vm.specs.Runs.{Held, RunsOn, InPieces, LastPiece, error_of}
+use Rattle.fac_vm.specs.Runs.{Held, Stands, RunsOn, InPieces, LastPiece, error_of}
 use Rattle.fac_notes.specs.declared.report.Report.{Report}
 use Rattle.fac_notes.specs.declared.report.Report.TheVariants as report
 use Rattle.fac_notes.specs.WordNames.{image_word_name}
 use Rattle.fac_tool.specs.declared.ended.Ended.{Ended}
 use Rattle.fac_tool.specs.SeenObjects.{SinkSeen, InputSeen, OnInput}
+use Rattle.fac_tool.specs.Answer.{shown_text}
 use Rattle.fac_tool.specs.Executed.{fresh_held, image_shown, ExecutesWithin}
 use Rattle.fac_tool.specs.inner.StepEnds.{bare, reported}
 use Rattle.fac_tool.specs.inner.Stops.{IsFresh, AreStackTexts, IsTextOf}
@@ -49,6 +54,26 @@ report_told machine e word v text M store image stored named some is =
 left_is : (ticks more all : ℕ) → ticks + more ≡ all → ticks ≡ all - more
 left_is ticks more all e = omega (arith, e)
 
+-- what is held is shown as what stands there under other addresses
+module _ (M : Image) (ρ : Renaming) (held : Held) (s : Machine) (stands : Stands ρ held s) where
+  -- the world with what is held
+  abbrev held_world : World MValue
+  held_world = record s.world { objects = held.objects; literals = held.literals }
+
+  value_shown : (v : MValue) → image_shown M held_world v ≡ image_shown M s.world (renamed ρ v)
+  value_shown v = ap shown_text (sym (printed_renamed ρ s.world held_world stands.world (image_names M) v))
+
+  values_shown : (vs : List MValue) → map (image_shown M held_world) vs ≡ map (image_shown M s.world) (renamed_values ρ vs)
+  values_shown [] = refl
+  values_shown (v ∷ vs) = ap₂ (λ (t : List ℕ) (ts : List (List ℕ)). t ∷ ts) (value_shown v) (values_shown vs)
+
+  stack_shown : map (image_shown M held_world) (reverse held.stack) ≡ map (image_shown M s.world) (reverse s.stack)
+  stack_shown = values_shown (reverse held.stack) ∙ ap (map (image_shown M s.world)) (map_turned (renamed ρ) held.stack ∙ ap (λ (vs : List MValue). reverse vs) (sym stands.stack))
+
+  error_shown : (o : Option MValue) → option_map (image_shown M held_world) o ≡ option_map (image_shown M s.world) (option_map (renamed ρ) o)
+  error_shown None = refl
+  error_shown (Some v) = ap Some (value_shown v)
+
 module _ (M : Image) (machine : MachineSeen) (budget ticks : ℕ) (seen : InputSeen) (out : SinkSeen) (input left : List ℕ) where
   -- the first run of a machine of this image, which stopped so
   abbrev pub Stopped : StopKind → Type 0
@@ -68,11 +93,12 @@ module _ (M : Image) (machine : MachineSeen) (budget ticks : ℕ) (seen : InputS
       let first = subst Stopped is r in
       let h = first.runs.runs in
       let s = h.0 in
+      let w : World MValue = held_world M h.4.0 (held_in machine) s h.4.3 in
       let shown : texts ≡ map (image_shown M s.world) (reverse s.stack) =
-      are s.world (sym h.4.2.objects) ∙ ap (λ (N : Image). map (image_shown N s.world) (reverse (held_in machine).stack)) same ∙ ap (λ (vs : List MValue). map (image_shown M s.world) (reverse vs)) h.4.2.stack in
+      are w refl ∙ ap (λ (N : Image). map (image_shown N w) (reverse (held_in machine).stack)) same ∙ stack_shown M h.4.0 (held_in machine) s h.4.3 in
       record {
         within = first.within;
-        ends = (done s h.1, h.4.0, record { status = refl; ticks = left_is ticks h.1 budget h.2; stack = ap Some shown; refusal = refl; output = h.3; rest = sym h.4.1 }, first.runs.pieces);
+        ends = (done s h.1, h.4.1, record { status = refl; ticks = left_is ticks h.1 budget h.2; stack = ap Some shown; refusal = refl; output = h.3; rest = sym h.4.2 }, first.runs.pieces);
       }
 
   mapped : (w : World MValue) (v : Option Value) → option_map (λ v. image_shown M w (value_in (trees_of machine.store) v)) v ≡ option_map (image_shown M w) (option_map (value_in (trees_of machine.store)) v)
@@ -86,28 +112,30 @@ module _ (M : Image) (machine : MachineSeen) (budget ticks : ℕ) (seen : InputS
       let first = subst Stopped is r in
       let h = first.runs.runs in
       let s = h.0 in
-      let x = error_of (callables_in machine) err in
-      let text : why ≡ report.Error x.name (image_word_name M x.word) (option_map (image_shown M s.world) x.value) =
-      told s.world (sym h.4.2.objects)
-      ∙ ap (λ (N : Image). report.Error err.name (image_word_name N err.word) (option_map (λ v. image_shown N s.world (value_in (trees_of machine.store) v)) err.value)) same
-      ∙ ap (λ v. report.Error err.name (image_word_name M err.word) v) (mapped s.world err.value) in
+      let w : World MValue = held_world M h.4.0 (held_in machine) s h.4.3 in
+      let x : Error MValue = error_of (callables_in machine) err in
+      let y : Error MValue = renamed_error h.4.0 x in
+      let text : why ≡ report.Error y.name (image_word_name M y.word) (option_map (image_shown M s.world) y.value) =
+      told w refl
+      ∙ ap (λ (N : Image). report.Error err.name (image_word_name N err.word) (option_map (λ v. image_shown N w (value_in (trees_of machine.store) v)) err.value)) same
+      ∙ ap (λ v. report.Error err.name (image_word_name M err.word) v) (mapped w err.value ∙ error_shown M h.4.0 (held_in machine) s h.4.3 x.value) in
       subst (λ (ended : Ended). RunsImage M budget seen out ended input left) (sym (e ∙ ap (reported ticks) text))
-      (record { within = first.within; ends = (failed x s h.1, h.4.0, record { status = refl; ticks = left_is ticks h.1 budget h.2; stack = refl; refusal = refl; output = h.3; rest = sym h.4.1 }, pieces_as (stop.Failed err) stop.Done (λ ps last none. none) first.runs.pieces) })
+      (record { within = first.within; ends = (failed y s h.1, h.4.1, record { status = refl; ticks = left_is ticks h.1 budget h.2; stack = refl; refusal = refl; output = h.3; rest = sym h.4.2 }, pieces_as (stop.Failed err) stop.Done (λ ps last none. none) first.runs.pieces) })
 
   pub spent_execution : (what : StopKind) (ended : Ended) → what ≡ stop.Spent → ended ≡ reported ticks (report.Spent ticks) → Stopped what → RunsImage M budget seen out ended input left
   spent_execution what ended is e r =
       let first = subst Stopped is r in
       let h = first.runs.runs in
-      let all : ticks ≡ budget = omega (arith, h.2, h.4.1) in
+      let all : ticks ≡ budget = omega (arith, h.2, h.4.2) in
       subst (λ (ended : Ended). RunsImage M budget seen out ended input left) (sym e)
-      (record { within = first.within; ends = (spent h.0, h.4.0, record { status = refl; ticks = all; stack = refl; refusal = ap (λ (n : ℕ). Some (report.Spent n)) all; output = h.3; rest = sym h.4.2 }, pieces_as stop.Spent stop.Done (λ ps last none. none) first.runs.pieces) })
+      (record { within = first.within; ends = (spent h.0, h.4.1, record { status = refl; ticks = all; stack = refl; refusal = ap (λ (n : ℕ). Some (report.Spent n)) all; output = h.3; rest = sym h.4.3 }, pieces_as stop.Spent stop.Done (λ ps last none. none) first.runs.pieces) })
 
   pub trap_execution : (pc : ℕ) (why : TrapWhy) (what : StopKind) (ended : Ended) → what ≡ stop.Trap pc why → ended ≡ reported ticks (report.Trap pc why) → Stopped what → RunsImage M budget seen out ended input left
   trap_execution pc why what ended is e r =
       let first = subst Stopped is r in
       let h = first.runs.runs in
       subst (λ (ended : Ended). RunsImage M budget seen out ended input left) (sym e)
-      (record { within = first.within; ends = (trap why h.0 h.1, h.4.0, record { status = refl; ticks = left_is ticks h.1 budget h.2; stack = refl; refusal = ap (λ (n : ℕ). Some (report.Trap n why)) (sym h.4.1); output = h.3; rest = sym h.4.2 }, pieces_as (stop.Trap pc why) stop.Done (λ ps last none. none) first.runs.pieces) })
+      (record { within = first.within; ends = (trap why h.0 h.1, h.4.1, record { status = refl; ticks = left_is ticks h.1 budget h.2; stack = refl; refusal = ap (λ (n : ℕ). Some (report.Trap n why)) (sym h.4.2); output = h.3; rest = sym h.4.3 }, pieces_as (stop.Trap pc why) stop.Done (λ ps last none. none) first.runs.pieces) })
 
   pub input_fault_execution :
       (what : StopKind) (ended : Ended) → what ≡ stop.InputFault → Rose seen.faults_before seen.faults_now → ended ≡ bare 9 ticks → Stopped what → RunsImage M budget seen out ended input left
