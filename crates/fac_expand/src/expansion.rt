@@ -76,7 +76,7 @@ fn image_of(
     if !are_placed(places.as_slice(), top, plain.words.as_slice()) {
         return Ok(None);
     }
-    let tables = moved_tables(alloc, plain, places.as_slice(), templates)?;
+    let tables = moved_tables(alloc, plain, start, places.as_slice(), templates)?;
     Ok(Image::new(alloc, tables, code, start))
 }
 

@@ -64,17 +64,18 @@ fn together(
     }
 }
 
-/// The tables of a plain image with these rows of templates, and with new places by the old ones. Want of memory is the one error.
+/// The tables of a plain image with these rows of templates, and with new places by the old ones; what has none has the place `start`. Want of memory is the one error.
 pub fn moved_tables(
     alloc: Global,
     plain: &Image,
+    start: u32,
     places: &[Option<u32>],
     templates: List<TemplateRow>,
 ) -> Result<Tables, Memory>
-    ensures { IfOk result (AreMoved plain.now places.now templates) }
+    ensures { IfOk result (AreMoved plain.now start places.now templates) }
 {
-    let words = moved_words(alloc, places, &plain.words)?;
-    let generics = moved_generics(alloc, places, &plain.generics)?;
+    let words = moved_words(alloc, start, places, &plain.words)?;
+    let generics = moved_generics(alloc, start, places, &plain.generics)?;
     let kept = kept_tables(alloc, plain)?;
     Ok(together(kept, templates, words, generics))
 }
