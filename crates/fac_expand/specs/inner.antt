@@ -2,3 +2,5 @@
 pub mod Drafts
 pub mod Stacks
 pub mod PieceCode
+pub mod Changes
+pub mod Steps

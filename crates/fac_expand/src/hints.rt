@@ -44,6 +44,24 @@ impl Hints {
         false
     }
 
+    /// Counts so many items more. Whether they were too many.
+    pub fn count_more(&mut self, count: usize) -> bool {
+        if count > (MOST_ITEMS - self.passed.min(MOST_ITEMS)) as usize {
+            self.hopeless = true;
+            return true;
+        }
+        self.passed += count as u32;
+        false
+    }
+
+    /// What is in the innermost quotation was run.
+    pub fn leave(&mut self) {
+        let count = self.inside.len();
+        if count > 0 {
+            self.inside.shorten(count - 1);
+        }
+    }
+
     /// From now on quotations of this template are made.
     pub fn note(&mut self, template: u32) -> Result<(), Memory> {
         if self.is_made(template) {
