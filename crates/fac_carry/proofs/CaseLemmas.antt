@@ -6,7 +6,8 @@ use Rattle.fac_base.specs.declared.place.Place.{Place}
 use Rattle.fac_lang.specs.declared.program.Program.{Program}
 use Rattle.fac_lang.specs.declared.program.Sort.{Sort}
 use Rattle.fac_lang.specs.declared.program.Sort.TheVariants.{Prim as prim_sort}
-use Rattle.fac_lang.specs.Phrases.{arr, Phrase, end, then, Item, lit_arr, quot, word, Value, fun, of_phrase}
+use Rattle.fac_lang.specs.Phrases.{arr, Phrase, end, then, Item, lit_arr, quot, word, Value, fun, of_phrase, fry}
+use Rattle.fac_lang.specs.Substitution.{put_holes}
 use Rattle.fac_lang.specs.World.{World, State, pile, push}
 use Rattle.fac_lang.specs.Printed.{Names}
 use Rattle.fac_lang.specs.PrimitiveWords.{outputs_of}
@@ -119,6 +120,16 @@ module _ (Y : Setting) where
       let st' = state (fun (of_phrase b) ∷ vs) (V w) in
       owed_goes Y last R base (at F pc ms rs R w) n d n (quot b) p t L1 st st' refl
       (go R base ms rs (fun (of_phrase b) ∷ vs) (l_phrase t ∷ L1) w n le ok (live_goes Y (quot b) p t L1 st st' refl lv) (lies_more (r_aside (a_off n_phrase)) l) (keeps_phrase h))
+
+  -- likewise a fry without holes
+  pub g_fry_off : (f : ℕ) (F : List MValue) (last : Option Instr) (d : ℕ) (b : Phrase) (p : Place) (t : Phrase) (S : List Sym) (K : List Task) (pc : ℕ) → Go Y f F last (suc d) (off (k_phrase (put_holes [] b)) ∷ S) (do_phrase t ∷ K) pc →
+      Go Y f F last d S (do_phrase (then (fry b 0) p t) ∷ K) pc
+  g_fry_off f F last d b p t S K pc go R base ms rs vs L w n le ok lv l (keeps_phrase {L = L1} h) =
+      let st = state vs (V w) in
+      let c = of_phrase (put_holes [] b) in
+      let st' = state (fun c ∷ vs) (V w) in
+      owed_goes Y last R base (at F pc ms rs R w) n d n (fry b 0) p t L1 st st' refl
+      (go R base ms rs (fun c ∷ vs) (l_phrase t ∷ L1) w n le ok (live_goes Y (fry b 0) p t L1 st st' refl lv) (lies_more (r_aside (a_off n_phrase)) l) (keeps_phrase h))
 
   -- an instruction that pushes a value
   pub g_push : (f : ℕ) (F : List MValue) (last : Option Instr) (d : ℕ) (i : Item) (p : Place) (t : Phrase) (S : List Sym) (K : List Task) (pc : ℕ) (x : Instr) (m : MValue) → (AllWhole F → Whole m) → slice_get M.code pc ≡ Some x →

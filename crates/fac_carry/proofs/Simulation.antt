@@ -4,7 +4,7 @@ use Rattle.std.specs.Prelude.{slice_get}
 use Rattle.fac_lang.specs.declared.program.Program.{Program}
 use Rattle.fac_base.specs.declared.place.Place.{Place}
 use Rattle.fac_lang.specs.Phrases.{int, yes, no, str, wrd, Phrase, end, then, Item, lit, word, held, Value}
-use Rattle.fac_lang.specs.Substitution.{put_local}
+use Rattle.fac_lang.specs.Substitution.{put_local, put_holes}
 use Rattle.fac_lang.specs.World.{World, State, pile}
 use Rattle.fac_lang.specs.Eval.{Result, Done, Failed, Spent, Stuck, Act, Run}
 use Rattle.fac_base.specs.HeightArithmetic.{fits}
@@ -23,12 +23,12 @@ use Rattle.fac_carry.specs.WholeValues as whole
 use Rattle.fac_carry.specs.Accessors.{accessor_outs}
 use Rattle.fac_carry.specs.Stands.{HasCode, Calling, l_word, l_call, l_if, l_execute, l_call_effect, l_execute_effect, l_generic, l_next}
 use Rattle.fac_carry.specs.Symbols.{Sym, here, off, kept, k_phrase, k_cur, k_com, Task, do_phrase, do_back, do_call, below as under, heres, AllHere, all_none, outs, Empties, Special}
-use Rattle.fac_carry.specs.Expanded.{Code, c_last, c_tick, c_jump, c_unbind, c_hold, c_back, c_fetch, c_make, c_trim, c_end, c_run, c_cur, c_com, c_off, c_move_off, c_curry_off, c_compose_off, c_call_off, c_dip_off, c_if_off, c_expand, c_move, c_curry, c_int, c_true, c_false, c_text, c_array, c_reference, c_symbol, c_prim, c_accessor, c_isa, c_boa, c_held, c_bind, c_fry, c_stuck, c_word, c_call, c_dip, c_if, c_execute, c_call_effect, c_execute_effect, c_generic, c_next, c_tail, EachCalled}
+use Rattle.fac_carry.specs.Expanded.{Code, c_last, c_tick, c_jump, c_unbind, c_hold, c_back, c_fetch, c_make, c_trim, c_end, c_run, c_cur, c_com, c_off, c_fry_off, c_move_off, c_curry_off, c_compose_off, c_call_off, c_dip_off, c_if_off, c_expand, c_move, c_curry, c_int, c_true, c_false, c_text, c_array, c_reference, c_symbol, c_prim, c_accessor, c_isa, c_boa, c_held, c_bind, c_fry, c_stuck, c_word, c_call, c_dip, c_if, c_execute, c_call_effect, c_execute_effect, c_generic, c_next, c_tail, EachCalled}
 use Rattle.fac_carry.proofs.RunLaws.{free}
 use Rattle.fac_carry.proofs.SymbolicStacks.{l_phrase, Lies, lies_none, keeps_none, keeps_phrase, all_here}
 use Rattle.fac_carry.specs.Setting.{Setting}
 use Rattle.fac_carry.proofs.Following.{state, at, Follows, LivePhrase, Go, CallsTo, Templated, Valid, then_done, live_phrase}
-use Rattle.fac_carry.proofs.CaseLemmas.{g_array, g_end, g_last, g_make, g_off, g_prim, g_push, g_stuck, g_trim}
+use Rattle.fac_carry.proofs.CaseLemmas.{g_array, g_end, g_fry_off, g_last, g_make, g_off, g_prim, g_push, g_stuck, g_trim}
 use Rattle.fac_carry.proofs.CallLemmas.{on, none_left, g_call, g_dip, g_if, g_word}
 use Rattle.fac_carry.proofs.FrameCases.{g_held, g_bind, g_fry}
 use Rattle.fac_carry.proofs.PutOffCases.{g_tick, g_jump, g_unbind, g_hold, g_back, g_fetch, g_run, g_cur, g_com, g_move_off, g_curry_off, g_compose_off, g_call_off, g_dip_off, g_if_off, g_expand, g_move, g_curry}
@@ -112,6 +112,7 @@ module _ (Y : Setting) where
   main f below each tpl Γ last F d S K pc (c_cur {x = x} {k = k} {S = S1} {K = K1} c) v = g_cur Y f F last d x k S1 K1 pc (main f below each tpl Γ last F (suc d) (off k ∷ x ∷ S1) (do_call ∷ K1) pc c v)
   main f below each tpl Γ last F d S K pc (c_com {k = k} {e = k2} {S = S1} {K = K1} c) v = g_com Y f F last d k k2 S1 K1 pc (main f below each tpl Γ last F (suc d) (off k ∷ S1) (do_call ∷ do_back (off k2) ∷ do_call ∷ K1) pc c v)
   main f below each tpl Γ last F d S K pc (c_off {b = b} {t = t} {p = p} {K = K1} c) v = g_off Y f F last d b p t S K1 pc (main f below each tpl Γ last F (suc d) (off (k_phrase b) ∷ S) (do_phrase t ∷ K1) pc c v)
+  main f below each tpl Γ last F d S K pc (c_fry_off {b = b} {t = t} {p = p} {K = K1} c) v = g_fry_off Y f F last d b p t S K1 pc (main f below each tpl Γ last F (suc d) (off (k_phrase (put_holes [] b)) ∷ S) (do_phrase t ∷ K1) pc c v)
   main f below each tpl Γ last F d S K pc (c_move_off {p = p} {t = t} {K = K1} wd k n ks ys es is ey stay c) v =
       g_move_off Y f F last d wd k n ks ys p t S K1 pc es is ey stay (main f below each tpl Γ last F (suc d) (pile ys (under n S)) (do_phrase t ∷ K1) pc c v)
   main f below each tpl Γ last F d S K pc (c_curry_off {p = p} {t = t} {x = x} {e = k2} {S = S1} {K = K1} wd k es is z c) v =

@@ -4,3 +4,5 @@ pub mod Stacks
 pub mod PieceCode
 pub mod Changes
 pub mod Steps
+pub mod Calls
+pub mod Shuffling
