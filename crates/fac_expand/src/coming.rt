@@ -1,4 +1,8 @@
 //! What comes at a place of plain code.
+ghost use Rattle.std.specs.Prelude.{◌≡◌, ◌+◌, true, false, slice_get, Some};
+ghost use Rattle.fac_expand.specs.inner.Calls.{has_tail, may_tail, with_tail};
+ghost use Rattle.fac_expand.specs.inner.Steps.{IsUntailed, is_end, Comes, FindsEntry};
+
 use crate::plan::Plan;
 use fac_code::{Action, Instr};
 
@@ -22,7 +26,9 @@ pub enum Coming {
 }
 
 // Whether an instruction is a call that leaves no return entry.
-fn is_tailed(instr: Instr) -> bool {
+fn is_tailed(instr: Instr) -> bool
+    ensures { result ≡ has_tail instr }
+{
     match instr {
         Instr::Callw { tail, .. } => tail,
         Instr::Call { tail } => tail,
@@ -37,7 +43,9 @@ fn is_tailed(instr: Instr) -> bool {
 }
 
 // The same instruction as a call that leaves a return entry, where it calls.
-fn untailed_of(instr: Instr) -> Option<Instr> {
+fn untailed_of(instr: Instr) -> Option<Instr>
+    ensures { IsUntailed instr result }
+{
     match instr {
         Instr::Callw { word, .. } => Some(Instr::Callw { word, tail: false }),
         Instr::Call { .. } => Some(Instr::Call { tail: false }),
@@ -65,7 +73,9 @@ fn untailed_of(instr: Instr) -> Option<Instr> {
 
 impl<'a> Plan<'a> {
     // Whether an instruction at a place ends a phrase.
-    fn ends_at(&self, place: u32) -> bool {
+    fn ends_at(&self, place: u32) -> bool
+        ensures { result ≡ is_end (slice_get self.now.plain.now.code place) }
+    {
         match self.plain.code.get(place as usize) {
             Some(Instr::Ret) => true,
             Some(Instr::Halt) => true,
@@ -74,18 +84,25 @@ impl<'a> Plan<'a> {
     }
 
     // An instruction that calls.
-    fn coming_call(&self, place: u32, instr: Instr, untailed: Instr) -> Coming {
+    fn coming_call(&self, place: u32, instr: Instr, untailed: Instr) -> Coming
+        requires there { slice_get self.now.plain.now.code place ≡ Some instr }
+        requires calls { may_tail instr ≡ true }
+        requires same { untailed ≡ with_tail false instr }
+        ensures { Comes self.now.plain.now place result }
+    {
         if is_tailed(instr) {
             return Coming::Last(untailed);
         }
         if place < u32::MAX && self.ends_at(place + 1) {
             return Coming::Last(untailed);
         }
-        Coming::Applied(untailed)
+        Coming::Applied(instr)
     }
 
     /// What comes at a place.
-    pub fn coming(&self, place: u32) -> Coming {
+    pub fn coming(&self, place: u32) -> Coming
+        ensures { Comes self.now.plain.now place result }
+    {
         match self.plain.code.get(place as usize) {
             None => Coming::Nothing,
             Some(Instr::Ret) => Coming::End,
@@ -100,7 +117,9 @@ impl<'a> Plan<'a> {
     }
 
     /// The place of the code of a word that may stand in place of its calls.
-    pub fn code_in_place(&self, word: u32) -> Option<u32> {
+    pub fn code_in_place(&self, word: u32) -> Option<u32>
+        ensures { FindsEntry self.now.plain.now word result }
+    {
         match self.inline.get(word as usize) {
             Some(true) => {}
             _ => return None,

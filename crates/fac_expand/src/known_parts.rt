@@ -1,4 +1,7 @@
 //! What running a callable that was put off comes to.
+ghost use Rattle.std.specs.Prelude.{◌≡◌, slice_get, Some, IfOk};
+ghost use Rattle.fac_expand.specs.inner.Steps.{IsPart, IsCodePart};
+
 use crate::draft::Draft;
 use crate::known::{Curried, PutOff};
 use crate::plan::Plan;
@@ -42,7 +45,9 @@ pub enum Part {
 
 impl<'a> Plan<'a> {
     // The code of a template, under these cells.
-    fn code_of(&self, template: u32, cells: &List<u32>) -> Result<Part, Stopped> {
+    fn code_of(&self, template: u32, cells: &List<u32>) -> Result<Part, Stopped>
+        ensures { IfOk result (λ part. IsCodePart self.now.plain.now template cells.now part) }
+    {
         match self.plain.templates.get(template as usize) {
             Some(row) => Ok(Part::Code {
                 template,
@@ -54,7 +59,9 @@ impl<'a> Plan<'a> {
     }
 
     /// What running this callable comes to.
-    pub fn part(&self, draft: &Draft, callable: u32) -> Result<Part, Stopped> {
+    pub fn part(&self, draft: &Draft, callable: u32) -> Result<Part, Stopped>
+        ensures { IfOk result (λ part. IsPart self.now.plain.now draft.now.put_off callable part) }
+    {
         match draft.put_off.get(callable as usize) {
             Some(PutOff::Quotation { template, cells }) => self.code_of(*template, cells),
             Some(PutOff::Curry { value, callable }) => match value {

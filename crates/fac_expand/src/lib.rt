@@ -4,12 +4,12 @@
 mod coming;
 mod draft;
 mod entries;
-mod parts;
 mod growing;
 mod hints;
 mod kept;
 mod known;
 mod known_parts;
+mod parts;
 mod pieces;
 mod plan;
 mod running;

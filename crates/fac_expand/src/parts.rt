@@ -1,7 +1,7 @@
 //! Code in which known quotations are put off: what all steps are made of.
-ghost use Rattle.std.specs.Prelude.{◌≡◌, ◌+◌, ◌∷◌, ◌++◌, [], length, suc, true, OnOk, IfOk};
+ghost use Rattle.std.specs.Prelude.{◌≡◌, ◌+◌, [], length, true, OnOk, IfOk};
 ghost use Rattle.fac_expand.specs.inner.Stacks.{heres_on};
-ghost use Rattle.fac_expand.specs.inner.Changes.{Takes, Forgets, OnStack, Writes, Fixed, Calls, ticks};
+ghost use Rattle.fac_expand.specs.inner.Changes.{TakesTop, Forgets, Writes, Owes, Fixed, Calls, ticks};
 
 use crate::draft::Draft;
 use crate::hints::Hints;
@@ -34,7 +34,7 @@ impl<'a> Plan<'a> {
 
     /// One tick more is owed.
     pub fn owe(&self, draft: &mut Draft) -> Result<(), Stopped>
-        ensures { OnOk result (Writes [] (suc draft.old.owed) draft.old.stack draft.old draft.new) }
+        ensures { OnOk result (Owes draft.old draft.new) }
     {
         match draft.owed.checked_add(1) {
             Some(owed) => {
@@ -59,7 +59,7 @@ impl<'a> Plan<'a> {
 
     /// The top entry is to be on the machine's stack.
     pub fn take_here(&self, draft: &mut Draft, hints: &mut Hints) -> Result<(), Stopped>
-        ensures { OnOk result (self.now.strict ≡ true → Takes 1 draft.old draft.new) }
+        ensures { OnOk result (self.now.strict ≡ true → TakesTop 1 draft.old draft.new) }
     {
         match draft.stack.pop() {
             Entry::Here => Ok(()),
@@ -78,7 +78,7 @@ impl<'a> Plan<'a> {
         hints: &mut Hints,
         count: u32,
     ) -> Result<(), Stopped>
-        ensures { OnOk result (self.now.strict ≡ true → Takes count draft.old draft.new) }
+        ensures { OnOk result (self.now.strict ≡ true → TakesTop count draft.old draft.new) }
     {
         for taken in 0..count {
             self.take_here(draft, hints)?;
@@ -124,13 +124,8 @@ impl<'a> Plan<'a> {
     }
 
     /// An instruction before which nothing is put off. Nothing is known of the stack behind it.
-    pub fn unknown(
-        &self,
-        draft: &mut Draft,
-        hints: &mut Hints,
-        instr: Instr,
-    ) -> Result<(), Stopped>
-        ensures { OnOk result (self.now.strict ≡ true → Calls (instr ∷ []) [] draft.old draft.new) }
+    pub fn unknown(&self, draft: &mut Draft, hints: &mut Hints, instr: Instr) -> Result<(), Stopped>
+        ensures { OnOk result (self.now.strict ≡ true → Calls instr draft.old draft.new) }
     {
         self.forget_all(draft, hints)?;
         self.pay(draft)?;

@@ -1,4 +1,9 @@
 //! Pieces of code: that of a word, of a template or of the top-level phrase.
+ghost use Rattle.std.specs.Prelude.{◌≡◌, true, IfOk};
+ghost use Rattle.fac_lang.specs.Procedures.{places_from};
+ghost use Rattle.fac_expand.specs.inner.PieceCode.{StandsFor};
+ghost use Rattle.fac_expand.specs.inner.Steps.{MadePiece};
+
 use crate::draft::Draft;
 use crate::entries::Entries;
 use crate::growing::Growing;
@@ -51,7 +56,9 @@ fn empty_draft(alloc: Global, cells: u32) -> Draft {
 }
 
 // The numbers from 0 on, so many.
-fn numbers(alloc: Global, count: u32) -> Result<List<u32>, Memory> {
+fn numbers(alloc: Global, count: u32) -> Result<List<u32>, Memory>
+    ensures { IfOk result (λ numbers. numbers ≡ places_from 0 count) }
+{
     let mut numbers: List<u32> = List::new(alloc);
     for number in 0..count {
         numbers.push(number)?;
@@ -67,7 +74,9 @@ impl<'a> Plan<'a> {
         last: Instr,
         cells: u32,
         start: u32,
-    ) -> Result<Growing<Instr>, Stopped> {
+    ) -> Result<Growing<Instr>, Stopped>
+        ensures { IfOk result (λ code. self.now.strict ≡ true → StandsFor self.now.plain.now last cells start self.now.base code) }
+    {
         let mut draft = empty_draft(self.alloc, cells);
         let env = numbers(self.alloc, cells)?;
         self.phrase(&mut draft, hints, MOST_NESTED, start, env, Some(last))?;
@@ -118,7 +127,9 @@ impl Expander {
         last: Instr,
         cells: u32,
         start: u32,
-    ) -> Result<Growing<Instr>, Stopped> {
+    ) -> Result<Growing<Instr>, Stopped>
+        ensures { IfOk result (λ code. strict.now.strict ≡ true → StandsFor strict.now.plain.now last cells start strict.now.base code) }
+    {
         self.find_made(lenient, last, cells, start)?;
         self.hints.inside.shorten(0);
         strict.drafted(&mut self.hints, last, cells, start)
@@ -153,7 +164,9 @@ impl Expander {
         cells: u32,
         start: u32,
         base: u32,
-    ) -> Result<Option<Growing<Instr>>, Memory> {
+    ) -> Result<Option<Growing<Instr>>, Memory>
+        ensures { MadePiece plain.now last cells start base result }
+    {
         if self.left == 0 {
             return Ok(None);
         }
@@ -165,16 +178,21 @@ impl Expander {
             base,
         };
         let strict = Plan {
+            alloc,
+            plain,
+            inline,
             strict: true,
-            ..lenient
+            base,
         };
         self.begin();
         let made = self.made(&lenient, &strict, last, cells, start);
         self.forget();
         match made {
             Ok(code) => Ok(Some(code)),
-            Err(Stopped::Plain) => Ok(None),
-            Err(Stopped::Memory) => Err(Memory),
+            Err(stopped) => match stopped {
+                Stopped::Plain => Ok(None),
+                Stopped::Memory => Err(Memory),
+            },
         }
     }
 }
