@@ -5,3 +5,4 @@ pub mod ItemMoves
 pub mod PutOffMoves
 pub mod WordItems
 pub mod ShuffleMoves
+pub mod Changing

@@ -76,7 +76,7 @@ impl<'a> Plan<'a> {
         &self,
         draft: &mut Draft,
         hints: &mut Hints,
-        count: u32,
+        count: usize,
     ) -> Result<(), Stopped>
         ensures { OnOk result (self.now.strict ≡ true → TakesTop count draft.old draft.new) }
     {
@@ -100,10 +100,8 @@ impl<'a> Plan<'a> {
     pub fn forget_all(&self, draft: &mut Draft, hints: &mut Hints) -> Result<(), Stopped>
         ensures { OnOk result (self.now.strict ≡ true → Forgets draft.old draft.new) }
     {
-        while draft.stack.len() > 0 {
-            self.take_here(draft, hints)?;
-        }
-        Ok(())
+        let count = draft.stack.len();
+        self.take_all_here(draft, hints, count)
     }
 
     /// An instruction that takes and leaves so many values of the machine's stack.
@@ -117,7 +115,7 @@ impl<'a> Plan<'a> {
     ) -> Result<(), Stopped>
         ensures { OnOk result (self.now.strict ≡ true → Fixed instr takes leaves draft.old draft.new) }
     {
-        self.take_all_here(draft, hints, takes)?;
+        self.take_all_here(draft, hints, takes as usize)?;
         self.pay(draft)?;
         draft.code.push(instr)?;
         self.push_here(draft, leaves)
