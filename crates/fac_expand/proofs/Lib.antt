@@ -5,4 +5,12 @@ pub mod ItemMoves
 pub mod PutOffMoves
 pub mod WordItems
 pub mod ShuffleMoves
+pub mod RunMoves
+pub mod PhraseMoves
+pub mod ApplyMoves
+pub mod BranchMoves
 pub mod Changing
+pub mod Advancing
+pub mod Applying
+pub mod Passed
+pub mod Counts

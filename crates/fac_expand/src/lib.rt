@@ -12,6 +12,7 @@ mod known_parts;
 mod parts;
 mod pieces;
 mod plan;
+mod primitives;
 mod running;
 mod shuffles;
 mod steps;

@@ -1,7 +1,7 @@
 //! Code in which known quotations are put off: what all steps are made of.
 ghost use Rattle.std.specs.Prelude.{◌≡◌, ◌+◌, [], length, true, OnOk, IfOk};
 ghost use Rattle.fac_expand.specs.inner.Stacks.{heres_on};
-ghost use Rattle.fac_expand.specs.inner.Changes.{TakesTop, Forgets, Writes, Owes, Fixed, Calls, ticks};
+ghost use Rattle.fac_expand.specs.inner.Changes.{Grows, TakesTop, Forgets, Writes, Owes, Fixed, Calls, ticks};
 
 use crate::draft::Draft;
 use crate::hints::Hints;
@@ -55,6 +55,19 @@ impl<'a> Plan<'a> {
         draft.code.push(Instr::Tick(draft.owed))?;
         draft.owed = 0;
         Ok(())
+    }
+
+    /// One cell more.
+    pub fn grow(&self, draft: &mut Draft) -> Result<(), Stopped>
+        ensures { OnOk result (Grows draft.old draft.new) }
+    {
+        match draft.cells.checked_add(1) {
+            Some(cells) => {
+                draft.cells = cells;
+                Ok(())
+            }
+            None => Err(Stopped::Memory),
+        }
     }
 
     /// The top entry is to be on the machine's stack.

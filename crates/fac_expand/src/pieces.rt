@@ -1,6 +1,7 @@
 //! Pieces of code: that of a word, of a template or of the top-level phrase.
 ghost use Rattle.std.specs.Prelude.{◌≡◌, true, IfOk};
 ghost use Rattle.fac_lang.specs.Procedures.{places_from};
+ghost use Rattle.fac_carry.specs.Stands.{ends_phrase};
 ghost use Rattle.fac_expand.specs.inner.PieceCode.{StandsFor};
 ghost use Rattle.fac_expand.specs.inner.Steps.{MadePiece};
 
@@ -75,6 +76,7 @@ impl<'a> Plan<'a> {
         cells: u32,
         start: u32,
     ) -> Result<Growing<Instr>, Stopped>
+        requires { ends_phrase last ≡ true }
         ensures { IfOk result (λ code. self.now.strict ≡ true → StandsFor self.now.plain.now last cells start self.now.base code) }
     {
         let mut draft = empty_draft(self.alloc, cells);
@@ -93,7 +95,9 @@ impl Expander {
         last: Instr,
         cells: u32,
         start: u32,
-    ) -> Result<bool, Stopped> {
+    ) -> Result<bool, Stopped>
+        requires { ends_phrase last ≡ true }
+    {
         let noted = self.hints.noted.len();
         self.hints.inside.shorten(0);
         plan.drafted(&mut self.hints, last, cells, start)?;
@@ -110,7 +114,9 @@ impl Expander {
         last: Instr,
         cells: u32,
         start: u32,
-    ) -> Result<(), Stopped> {
+    ) -> Result<(), Stopped>
+        requires { ends_phrase last ≡ true }
+    {
         for _ in 0..MOST_ROUNDS {
             if self.is_settled(plan, last, cells, start)? {
                 return Ok(());
@@ -128,6 +134,7 @@ impl Expander {
         cells: u32,
         start: u32,
     ) -> Result<Growing<Instr>, Stopped>
+        requires { ends_phrase last ≡ true }
         ensures { IfOk result (λ code. strict.now.strict ≡ true → StandsFor strict.now.plain.now last cells start strict.now.base code) }
     {
         self.find_made(lenient, last, cells, start)?;
@@ -165,6 +172,7 @@ impl Expander {
         start: u32,
         base: u32,
     ) -> Result<Option<Growing<Instr>>, Memory>
+        requires { ends_phrase last ≡ true }
         ensures { MadePiece plain.now last cells start base result }
     {
         if self.left == 0 {
