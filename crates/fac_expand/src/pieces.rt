@@ -3,7 +3,7 @@ ghost use Rattle.std.specs.Prelude.{◌≡◌, true, IfOk};
 ghost use Rattle.fac_lang.specs.Procedures.{places_from};
 ghost use Rattle.fac_carry.specs.Stands.{ends_phrase};
 ghost use Rattle.fac_expand.specs.inner.PieceCode.{StandsFor};
-ghost use Rattle.fac_expand.specs.inner.Steps.{MadePiece};
+ghost use Rattle.fac_expand.specs.inner.Steps.{IsEmpty, MadePiece};
 
 use crate::draft::Draft;
 use crate::entries::Entries;
@@ -46,7 +46,9 @@ pub fn make_expander(alloc: Global, plain: &Image) -> Result<Expander, Memory> {
 }
 
 // A draft with nothing in it, under a frame of so many cells.
-fn empty_draft(alloc: Global, cells: u32) -> Draft {
+fn empty_draft(alloc: Global, cells: u32) -> Draft
+    ensures { IsEmpty cells result }
+{
     Draft {
         code: Growing::new(alloc),
         owed: 0,
