@@ -17,3 +17,8 @@ pub mod ExpandedPieces
 pub mod ExpandedTables
 pub mod MadePieces
 pub mod Expansions
+pub mod Changing
+pub mod Advancing
+pub mod Applying
+pub mod Passed
+pub mod Counts

@@ -1,9 +1,10 @@
 -- What only the contracts of inner functions cite.
-pub mod Drafts
 pub mod Stacks
-pub mod PieceCode
 pub mod Calls
 pub mod Shuffling
+pub mod Drafts
+pub mod Changes
+pub mod Steps
+pub mod PieceCode
 pub mod Pieces
 pub mod Makings
-pub mod StandIn

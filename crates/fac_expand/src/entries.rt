@@ -1,5 +1,5 @@
 //! What code knows of the values of the stack, which contracts see as a list with the top first.
-ghost use Rattle.std.specs.Prelude.{◌≡◌, ◌∷◌, [], OnOk, IfOk};
+ghost use Rattle.std.specs.Prelude.{◌≡◌, ◌∷◌, [], length, slice_get, OnOk, IfOk};
 ghost use Rattle.fac_expand.specs.inner.Stacks.{top_of, behind_top};
 
 use crate::known::Entry;
@@ -31,6 +31,53 @@ impl Entries {
         Entries {
             vec: Vec::new(alloc),
         }
+    }
+
+    /// How many there are.
+    pub fn len(&self) -> usize
+        ensures { result ≡ length self.now }
+    {
+        self.vec.len()
+    }
+
+    /// The one of this number, counted from the top.
+    pub fn get(&self, index: usize) -> Option<Entry>
+        ensures { result ≡ slice_get self.now index }
+    {
+        let count = self.vec.len();
+        if index >= count {
+            return None;
+        }
+        self.vec.get(count - 1 - index).copied()
+    }
+
+    /// The top one.
+    pub fn top(&self) -> Entry
+        ensures { result ≡ top_of self.now }
+    {
+        match self.vec.last() {
+            Some(entry) => *entry,
+            None => Entry::Here,
+        }
+    }
+
+    /// The one below the top.
+    pub fn second(&self) -> Entry
+        ensures { result ≡ top_of (behind_top self.now) }
+    {
+        match self.get(1) {
+            Some(entry) => entry,
+            None => Entry::Here,
+        }
+    }
+
+    /// The same ones.
+    pub fn copy(&self, alloc: Global) -> Result<Entries, Memory>
+        ensures { IfOk result (λ entries. entries ≡ self.now) }
+    {
+        Ok(Entries {
+            vec: self.vec.as_slice().to_vec(alloc)?,
+        })
     }
 
     /// Takes the top one.

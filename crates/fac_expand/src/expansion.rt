@@ -7,7 +7,7 @@ ghost use Rattle.fac_expand.specs.inner.Makings.{Makes, IsMadeOf};
 ghost use Rattle.fac_expand.specs.inner.Pieces.{is_test, IsMade, ArePlaced};
 
 use crate::making::{Making, are_placed};
-use crate::stand_in::make_expander;
+use crate::pieces::make_expander;
 use crate::tables::moved_tables;
 use fac_base::Memory;
 use fac_code::{Image, Instr};

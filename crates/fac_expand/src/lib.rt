@@ -1,20 +1,27 @@
 //! Expanded code: what plain code makes as a callable and applies at once is done in place.
 #![tactic(auto)]
 
+mod coming;
 mod copying;
 mod draft;
 mod entries;
 mod expansion;
 mod growing;
+mod hints;
+mod kept;
 mod known;
+mod known_parts;
 mod making;
 mod moving;
+mod parts;
+mod pieces;
 mod placing;
-mod stand_in;
+mod plan;
+mod primitives;
+mod running;
+mod shuffles;
+mod steps;
+mod stopped;
 mod tables;
 
-pub use draft::Draft;
-pub use entries::Entries;
 pub use expansion::expand;
-pub use growing::Growing;
-pub use known::{Curried, Entry, PutOff};

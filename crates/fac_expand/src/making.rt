@@ -5,7 +5,7 @@ ghost use Rattle.fac_expand.specs.inner.Pieces.{ArePlaced, HasNone, IsNoted, IsP
 
 use crate::growing::Growing;
 use crate::placing::{add_piece, piece_of, template_piece};
-use crate::stand_in::Expander;
+use crate::pieces::Expander;
 use fac_base::{Duplicate, List, Memory};
 use fac_code::{Action, Image, Instr, TemplateRow, WordRow};
 use std::alloc::Global;

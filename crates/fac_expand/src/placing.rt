@@ -6,7 +6,7 @@ ghost use Rattle.fac_expand.specs.inner.PieceCode.{StandsFor};
 ghost use Rattle.fac_expand.specs.inner.Pieces.{to_end};
 
 use crate::growing::Growing;
-use crate::stand_in::Expander;
+use crate::pieces::Expander;
 use fac_base::{List, Memory};
 use fac_code::{Image, Instr, TemplateRow};
 use std::alloc::Global;

@@ -1,0 +1,136 @@
+//! What is found out of a piece of code before it is made. Nothing is promised of it: it only says where a value is made and where it is put off.
+use crate::growing::Growing;
+use crate::known::{Curried, Entry, PutOff};
+use fac_base::Memory;
+use std::alloc::Global;
+
+/// How many items one piece of code may have. Beyond them it is left plain.
+pub const MOST_ITEMS: u32 = 100_000;
+
+// How many parts of a callable are looked at to find the quotations in it.
+const MOST_PARTS: u32 = 64;
+
+/// Which quotations are made where they are pushed, in one piece of code.
+#[derive(Drop)]
+pub struct Hints {
+    /// By the number of a template, whether its quotations are made.
+    pub made: Growing<bool>,
+    /// The templates that are made.
+    pub noted: Growing<u32>,
+    /// The templates whose quotations are being run, the innermost last.
+    pub inside: Growing<u32>,
+    /// How many items were gone over.
+    pub passed: u32,
+    /// Whether the piece can't be made so at all.
+    pub hopeless: bool,
+}
+
+impl Hints {
+    /// Whether quotations of a template are made.
+    pub fn is_made(&self, template: u32) -> bool {
+        match self.made.get(template as usize) {
+            Some(made) => *made,
+            None => false,
+        }
+    }
+
+    /// Counts an item. Whether it was one too many.
+    pub fn count(&mut self) -> bool {
+        if self.passed >= MOST_ITEMS {
+            self.hopeless = true;
+            return true;
+        }
+        self.passed += 1;
+        false
+    }
+
+    /// Counts so many items more. Whether they were too many.
+    pub fn count_more(&mut self, count: usize) -> bool {
+        if count > (MOST_ITEMS - self.passed.min(MOST_ITEMS)) as usize {
+            self.hopeless = true;
+            return true;
+        }
+        self.passed += count as u32;
+        false
+    }
+
+    /// What is in the innermost quotation was run.
+    pub fn leave(&mut self) {
+        let count = self.inside.len();
+        if count > 0 {
+            self.inside.shorten(count - 1);
+        }
+    }
+
+    /// From now on quotations of this template are made.
+    pub fn note(&mut self, template: u32) -> Result<(), Memory> {
+        if self.is_made(template) {
+            return Ok(());
+        }
+        if (template as usize) < self.made.len() {
+            self.made.set(template as usize, true);
+            self.noted.push(template)?;
+        }
+        Ok(())
+    }
+
+    /// From now on the quotation that is run is made, since what is in it can't be put off.
+    pub fn note_inside(&mut self) -> Result<(), Memory> {
+        match self.inside.as_slice().last() {
+            Some(template) => {
+                let template = *template;
+                self.note(template)
+            }
+            None => {
+                self.hopeless = true;
+                Ok(())
+            }
+        }
+    }
+
+    /// From now on the quotations in a callable are made.
+    pub fn note_callable(
+        &mut self,
+        alloc: Global,
+        put_off: &[PutOff],
+        callable: u32,
+    ) -> Result<(), Memory> {
+        let mut waiting: Growing<u32> = Growing::new(alloc);
+        waiting.push(callable)?;
+        for index in 0..MOST_PARTS {
+            let number = match waiting.get(index as usize) {
+                Some(number) => *number,
+                None => return Ok(()),
+            };
+            match put_off.get(number as usize) {
+                Some(PutOff::Quotation { template, .. }) => self.note(*template)?,
+                Some(PutOff::Curry { value, callable }) => {
+                    waiting.push(*callable)?;
+                    match value {
+                        Curried::Cell(_) => {}
+                        Curried::Off(inner) => waiting.push(*inner)?,
+                    }
+                }
+                Some(PutOff::Compose { first, second }) => {
+                    waiting.push(*first)?;
+                    waiting.push(*second)?;
+                }
+                None => {}
+            }
+        }
+        Ok(())
+    }
+
+    /// From now on the quotations in what an entry stands for are made.
+    pub fn note_entry(
+        &mut self,
+        alloc: Global,
+        put_off: &[PutOff],
+        entry: Entry,
+    ) -> Result<(), Memory> {
+        match entry {
+            Entry::Here => Ok(()),
+            Entry::Off(callable) => self.note_callable(alloc, put_off, callable),
+        }
+    }
+}

@@ -1,0 +1,208 @@
+//! Pieces of code: that of a word, of a template or of the top-level phrase.
+ghost use Rattle.std.specs.Prelude.{◌≡◌, true, IfOk};
+ghost use Rattle.fac_lang.specs.Procedures.{places_from};
+ghost use Rattle.fac_carry.specs.Stands.{ends_phrase};
+ghost use Rattle.fac_expand.specs.inner.PieceCode.{StandsFor};
+ghost use Rattle.fac_expand.specs.inner.Steps.{IsEmpty, MadePiece};
+
+use crate::draft::Draft;
+use crate::entries::Entries;
+use crate::growing::Growing;
+use crate::hints::Hints;
+use crate::plan::Plan;
+use crate::running::MOST_NESTED;
+use crate::stopped::Stopped;
+use fac_base::{List, Memory};
+use fac_code::{Image, Instr};
+use std::alloc::Global;
+
+/// How many times a piece is gone through to find which quotations are to be made.
+const MOST_ROUNDS: u32 = 8;
+
+/// What makes pieces of code.
+#[derive(Drop)]
+pub struct Expander {
+    hints: Hints,
+    // How many items may still be gone over, in all pieces.
+    left: u64,
+}
+
+/// What makes pieces of code from this plain image.
+pub fn make_expander(alloc: Global, plain: &Image) -> Result<Expander, Memory> {
+    let mut made: Growing<bool> = Growing::new(alloc);
+    for _ in 0..plain.templates.len() {
+        made.push(false)?;
+    }
+    Ok(Expander {
+        hints: Hints {
+            made,
+            noted: Growing::new(alloc),
+            inside: Growing::new(alloc),
+            passed: 0,
+            hopeless: false,
+        },
+        left: 8 * plain.code.len() as u64 + 100_000,
+    })
+}
+
+// A draft with nothing in it, under a frame of so many cells.
+fn empty_draft(alloc: Global, cells: u32) -> Draft
+    ensures { IsEmpty cells result }
+{
+    Draft {
+        code: Growing::new(alloc),
+        owed: 0,
+        stack: Entries::new(alloc),
+        put_off: Growing::new(alloc),
+        cells,
+    }
+}
+
+// The numbers from 0 on, so many.
+fn numbers(alloc: Global, count: u32) -> Result<List<u32>, Memory>
+    ensures { IfOk result (λ numbers. numbers ≡ places_from 0 count) }
+{
+    let mut numbers: List<u32> = List::new(alloc);
+    for number in 0..count {
+        numbers.push(number)?;
+    }
+    Ok(numbers)
+}
+
+impl<'a> Plan<'a> {
+    // Code that stands for what plain code at a place stands for.
+    fn drafted(
+        &self,
+        hints: &mut Hints,
+        last: Instr,
+        cells: u32,
+        start: u32,
+    ) -> Result<Growing<Instr>, Stopped>
+        requires { ends_phrase last ≡ true }
+        ensures { IfOk result (λ code. self.now.strict ≡ true → StandsFor self.now.plain.now last cells start self.now.base code) }
+    {
+        let mut draft = empty_draft(self.alloc, cells);
+        let env = numbers(self.alloc, cells)?;
+        self.phrase(&mut draft, hints, MOST_NESTED, start, env, Some(last))?;
+        let Draft { code, .. } = draft;
+        Ok(code)
+    }
+}
+
+impl Expander {
+    // Whether a piece was gone through so that nothing new is to be made.
+    fn is_settled(
+        &mut self,
+        plan: &Plan<'_>,
+        last: Instr,
+        cells: u32,
+        start: u32,
+    ) -> Result<bool, Stopped>
+        requires { ends_phrase last ≡ true }
+    {
+        let noted = self.hints.noted.len();
+        self.hints.inside.shorten(0);
+        plan.drafted(&mut self.hints, last, cells, start)?;
+        if self.hints.hopeless {
+            return Err(Stopped::Plain);
+        }
+        Ok(self.hints.noted.len() == noted)
+    }
+
+    // Finds which quotations of a piece are to be made.
+    fn find_made(
+        &mut self,
+        plan: &Plan<'_>,
+        last: Instr,
+        cells: u32,
+        start: u32,
+    ) -> Result<(), Stopped>
+        requires { ends_phrase last ≡ true }
+    {
+        for _ in 0..MOST_ROUNDS {
+            if self.is_settled(plan, last, cells, start)? {
+                return Ok(());
+            }
+        }
+        Err(Stopped::Plain)
+    }
+
+    // Code for a piece.
+    fn made(
+        &mut self,
+        lenient: &Plan<'_>,
+        strict: &Plan<'_>,
+        last: Instr,
+        cells: u32,
+        start: u32,
+    ) -> Result<Growing<Instr>, Stopped>
+        requires { ends_phrase last ≡ true }
+        ensures { IfOk result (λ code. strict.now.strict ≡ true → StandsFor strict.now.plain.now last cells start strict.now.base code) }
+    {
+        self.find_made(lenient, last, cells, start)?;
+        self.hints.inside.shorten(0);
+        strict.drafted(&mut self.hints, last, cells, start)
+    }
+
+    // Before a piece nothing is known of it.
+    fn begin(&mut self) {
+        self.hints.passed = 0;
+        self.hints.hopeless = false;
+        self.hints.inside.shorten(0);
+    }
+
+    // What was found of a piece is forgotten.
+    fn forget(&mut self) {
+        for template in self.hints.noted.as_slice() {
+            if (*template as usize) < self.hints.made.len() {
+                self.hints.made.set(*template as usize, false);
+            }
+        }
+        self.hints.noted.shorten(0);
+        self.left -= self.left.min(self.hints.passed as u64);
+    }
+
+    /// Code for a piece that begins with this place of plain code, and is to begin at a place: under a frame of so many cells, and with this instruction at its end. None where
+    /// the plain code is to stay.
+    pub fn piece(
+        &mut self,
+        alloc: Global,
+        plain: &Image,
+        inline: &[bool],
+        last: Instr,
+        cells: u32,
+        start: u32,
+        base: u32,
+    ) -> Result<Option<Growing<Instr>>, Memory>
+        requires { ends_phrase last ≡ true }
+        ensures { MadePiece plain.now last cells start base result }
+    {
+        if self.left == 0 {
+            return Ok(None);
+        }
+        let lenient = Plan {
+            alloc,
+            plain,
+            inline,
+            strict: false,
+            base,
+        };
+        let strict = Plan {
+            alloc,
+            plain,
+            inline,
+            strict: true,
+            base,
+        };
+        self.begin();
+        let made = self.made(&lenient, &strict, last, cells, start);
+        self.forget();
+        match made {
+            Ok(code) => Ok(Some(code)),
+            Err(stopped) => match stopped {
+                Stopped::Plain => Ok(None),
+                Stopped::Memory => Err(Memory),
+            },
+        }
+    }
+}
