@@ -4,8 +4,8 @@ ghost use Rattle.fac_expand.specs.inner.Makings.{Makes, Goes, Begins};
 ghost use Rattle.fac_expand.specs.inner.Pieces.{ArePlaced, HasNone, IsNoted, IsPlacedAction};
 
 use crate::growing::Growing;
-use crate::placing::{add_piece, piece_of, template_piece};
 use crate::pieces::Expander;
+use crate::placing::{add_piece, piece_of, template_piece};
 use fac_base::{Duplicate, List, Memory};
 use fac_code::{Action, Image, Instr, TemplateRow, WordRow};
 use std::alloc::Global;

@@ -127,7 +127,7 @@ impl Expander {
         Err(Stopped::Plain)
     }
 
-    // Code for a piece.
+    // Code for a piece: with nothing made where that can be, and else with what is found to be needed.
     fn made(
         &mut self,
         lenient: &Plan<'_>,
@@ -139,6 +139,11 @@ impl Expander {
         requires { ends_phrase last ≡ true }
         ensures { IfOk result (λ code. strict.now.strict ≡ true → StandsFor strict.now.plain.now last cells start strict.now.base code) }
     {
+        match strict.drafted(&mut self.hints, last, cells, start) {
+            Ok(code) => return Ok(code),
+            Err(Stopped::Memory) => return Err(Stopped::Memory),
+            Err(Stopped::Plain) => {}
+        }
         self.find_made(lenient, last, cells, start)?;
         self.hints.inside.shorten(0);
         strict.drafted(&mut self.hints, last, cells, start)

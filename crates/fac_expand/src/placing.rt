@@ -1,5 +1,5 @@
 //! Pieces of code: expanded where that can be, and else as they stand in the plain image.
-ghost use Rattle.std.specs.Prelude.{◌≡◌, ◌+◌, ◌++◌, length, drop, IfOk, OnOk};
+ghost use Rattle.std.specs.Prelude.{◌≡◌, ◌+◌, ◌++◌, length, drop, true, IfOk, OnOk};
 ghost use Rattle.fac_code.specs.declared.image.Instr.TheVariants.{Ret};
 ghost use Rattle.fac_carry.specs.Stands.{ends_phrase};
 ghost use Rattle.fac_expand.specs.inner.PieceCode.{StandsFor};
@@ -51,6 +51,7 @@ pub fn piece_of(
     start: u32,
     base: u32,
 ) -> Result<Growing<Instr>, Memory>
+    requires { ends_phrase last ≡ true }
     ensures { IfOk result (StandsFor plain.now last cells start base) }
 {
     match expander.piece(alloc, plain, inline, last, cells, start, base)? {
