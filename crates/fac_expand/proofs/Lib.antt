@@ -9,6 +9,7 @@ pub mod RunMoves
 pub mod PhraseMoves
 pub mod ApplyMoves
 pub mod BranchMoves
+pub mod LoopMoves
 pub mod MappedLists
 pub mod WholeElsewhere
 pub mod MovedTables
@@ -20,5 +21,6 @@ pub mod Expansions
 pub mod Changing
 pub mod Advancing
 pub mod Applying
+pub mod Looping
 pub mod Passed
 pub mod Counts

@@ -5,6 +5,7 @@ pub mod Shuffling
 pub mod Drafts
 pub mod Changes
 pub mod Steps
+pub mod Loops
 pub mod PieceCode
 pub mod Pieces
 pub mod Makings

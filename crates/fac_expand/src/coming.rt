@@ -3,7 +3,7 @@ ghost use Rattle.std.specs.Prelude.{◌≡◌, ◌+◌, true, false, slice_get, 
 ghost use Rattle.fac_expand.specs.inner.Calls.{has_tail, may_tail, with_tail};
 ghost use Rattle.fac_expand.specs.inner.Steps.{IsUntailed, is_end, Comes, FindsEntry};
 
-use crate::plan::Plan;
+use crate::plan::{Plan, Use};
 use fac_code::{Action, Instr};
 
 /// What comes at a place of plain code.
@@ -120,8 +120,8 @@ impl<'a> Plan<'a> {
     pub fn code_in_place(&self, word: u32) -> Option<u32>
         ensures { FindsEntry self.now.plain.now word result }
     {
-        match self.inline.get(word as usize) {
-            Some(true) => {}
+        match self.uses.get(word as usize) {
+            Some(Use::InPlace) => {}
             _ => return None,
         }
         match self.plain.words.get(word as usize) {

@@ -1,7 +1,7 @@
 //! Code that is being made, with what is known at its end.
 use crate::entries::Entries;
 use crate::growing::Growing;
-use crate::known::PutOff;
+use crate::put_off::PutOff;
 use fac_code::Instr;
 
 /// Code that is being made, with what is known at its end.

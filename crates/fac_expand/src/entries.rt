@@ -80,6 +80,34 @@ impl Entries {
         })
     }
 
+    /// How many there are down to the deepest that is a callable that was put off. Nothing is promised of it.
+    pub fn named(&self) -> usize {
+        let count = self.vec.len();
+        for index in 0..count {
+            match self.vec.get(index) {
+                Some(Entry::Off(_)) => return count - index,
+                _ => {}
+            }
+        }
+        0
+    }
+
+    /// The upper ones, so many. Nothing is promised of them.
+    pub fn upper(&self, alloc: Global, count: usize) -> Result<Entries, Memory> {
+        let mut upper = Entries::new(alloc);
+        let all = self.vec.len();
+        if count > all {
+            return Ok(upper);
+        }
+        for index in all - count..all {
+            match self.vec.get(index) {
+                Some(entry) => upper.push(*entry)?,
+                None => {}
+            }
+        }
+        Ok(upper)
+    }
+
     /// Takes the top one.
     pub fn pop(&mut self) -> Entry
         ensures top { result ≡ top_of self.old }

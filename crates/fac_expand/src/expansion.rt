@@ -8,6 +8,7 @@ ghost use Rattle.fac_expand.specs.inner.Pieces.{is_test, IsMade, ArePlaced};
 
 use crate::making::{Making, are_placed};
 use crate::pieces::make_expander;
+use crate::plan::Use;
 use crate::tables::moved_tables;
 use fac_base::Memory;
 use fac_code::{Image, Instr};
@@ -46,14 +47,14 @@ fn tests_no_more(plain: &Image, image: &Image) -> bool
 }
 
 // The code, the rows of templates and the new places for an image whose top-level phrase has this number, and where that begins.
-fn made_of(alloc: Global, plain: &Image, top: u32, inline: &[bool]) -> Result<(Making, u32), Memory>
+fn made_of(alloc: Global, plain: &Image, top: u32, uses: &[Use]) -> Result<(Making, u32), Memory>
     ensures { IfOk result (λ made. IsMadeOf plain.now made.0 made.1) }
 {
     let mut expander = make_expander(alloc, plain)?;
     let mut making = Making::new(alloc, plain)?;
-    making.add_templates(&mut expander, alloc, plain, inline)?;
-    making.add_words(&mut expander, alloc, plain, inline, top)?;
-    let start = making.add_start(&mut expander, alloc, plain, inline)?;
+    making.add_templates(&mut expander, alloc, plain, uses)?;
+    making.add_words(&mut expander, alloc, plain, uses, top)?;
+    let start = making.add_start(&mut expander, alloc, plain, uses)?;
     Ok((making, start))
 }
 
@@ -85,11 +86,11 @@ fn expanded(
     alloc: Global,
     plain: &Image,
     top: u32,
-    inline: &[bool],
+    uses: &[Use],
 ) -> Result<Option<Image>, Memory>
     ensures { IfOk result (λ o. MatchOption o (Unit {0}) (Expands top plain.now)) }
 {
-    let (making, start) = made_of(alloc, plain, top, inline)?;
+    let (making, start) = made_of(alloc, plain, top, uses)?;
     match image_of(alloc, plain, top, making, start)? {
         Some(image) => {
             if tests_no_more(plain, &image) {
@@ -103,13 +104,13 @@ fn expanded(
 }
 
 /// The image with its code expanded: a callable that is made of a quotation and applied at once is run in place. The top-level phrase has this
-/// number, and `inline` says by the number of a word whether its phrase stands in place of its calls, which is only a hint. The tables are those of
+/// number, and `uses` says by the number of a word what a use of it becomes, which is only a hint. The tables are those of
 /// the plain image but for places. For each program with this top-level phrase for whose phrases the plain code stands, the code that is made
 /// stands too. Where it can't be made so, the image stays as it is. Want of memory is the one error.
-pub fn expand(alloc: Global, plain: Image, top: u32, inline: &[bool]) -> Result<Image, Memory>
+pub fn expand(alloc: Global, plain: Image, top: u32, uses: &[Use]) -> Result<Image, Memory>
     ensures { IfOk result (Expands top plain) }
 {
-    match expanded(alloc, &plain, top, inline)? {
+    match expanded(alloc, &plain, top, uses)? {
         Some(image) => Ok(image),
         None => Ok(plain),
     }

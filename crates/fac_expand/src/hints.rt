@@ -1,11 +1,15 @@
 //! What is found out of a piece of code before it is made. Nothing is promised of it: it only says where a value is made and where it is put off.
 use crate::growing::Growing;
-use crate::known::{Curried, Entry, PutOff};
+use crate::known::Entry;
+use crate::put_off::{Curried, PutOff};
 use fac_base::Memory;
 use std::alloc::Global;
 
 /// How many items one piece of code may have. Beyond them it is left plain.
 pub const MOST_ITEMS: u32 = 100_000;
+
+// How many times a word may have code of its own within its own code, for other callables each time.
+const MOST_LOOPS: u32 = 4;
 
 // How many parts of a callable are looked at to find the quotations in it.
 const MOST_PARTS: u32 = 64;
@@ -19,6 +23,10 @@ pub struct Hints {
     pub noted: Growing<u32>,
     /// The templates whose quotations are being run, the innermost last.
     pub inside: Growing<u32>,
+    /// The loops in whose code this is, by their numbers among what was put off, the innermost last.
+    pub loops: Growing<u32>,
+    /// The words of these loops.
+    pub loop_words: Growing<u32>,
     /// How many items were gone over.
     pub passed: u32,
     /// Whether the piece can't be made so at all.
@@ -60,6 +68,45 @@ impl Hints {
         if count > 0 {
             self.inside.shorten(count - 1);
         }
+    }
+
+    /// Whether a word has code of its own within its own code so often that it has no more.
+    pub fn is_deep(&self, word: u32) -> bool {
+        let mut count: u32 = 0;
+        for own in self.loop_words.as_slice() {
+            if *own == word {
+                if count >= MOST_LOOPS {
+                    return true;
+                }
+                count += 1;
+            }
+        }
+        false
+    }
+
+    /// A word's own code begins, which has this number.
+    pub fn enter_loop(&mut self, word: u32, number: u32) -> Result<(), Memory> {
+        self.loops.push(number)?;
+        self.loop_words.push(word)
+    }
+
+    /// The innermost loop ends.
+    pub fn leave_loop(&mut self) {
+        let count = self.loops.len();
+        if count > 0 {
+            self.loops.shorten(count - 1);
+        }
+        let words = self.loop_words.len();
+        if words > 0 {
+            self.loop_words.shorten(words - 1);
+        }
+    }
+
+    /// Nothing is inside anything.
+    pub fn begin(&mut self) {
+        self.inside.shorten(0);
+        self.loops.shorten(0);
+        self.loop_words.shorten(0);
     }
 
     /// From now on quotations of this template are made.
@@ -115,6 +162,7 @@ impl Hints {
                     waiting.push(*first)?;
                     waiting.push(*second)?;
                 }
+                Some(PutOff::Loop { .. }) => {}
                 None => {}
             }
         }

@@ -3,7 +3,7 @@ ghost use Rattle.std.specs.Prelude.{◌≡◌, slice_get, Some, IfOk};
 ghost use Rattle.fac_expand.specs.inner.Steps.{IsPart, IsCodePart};
 
 use crate::draft::Draft;
-use crate::known::{Curried, PutOff};
+use crate::put_off::{Curried, PutOff};
 use crate::plan::Plan;
 use crate::stopped::Stopped;
 use fac_base::{Duplicate, List};
@@ -78,6 +78,7 @@ impl<'a> Plan<'a> {
                 first: *first,
                 second: *second,
             }),
+            Some(PutOff::Loop { .. }) => Err(Stopped::Plain),
             None => Err(Stopped::Plain),
         }
     }

@@ -6,6 +6,7 @@ ghost use Rattle.fac_expand.specs.inner.Pieces.{ArePlaced, HasNone, IsNoted, IsP
 use crate::growing::Growing;
 use crate::pieces::Expander;
 use crate::placing::{add_piece, piece_of, template_piece};
+use crate::plan::Use;
 use fac_base::{Duplicate, List, Memory};
 use fac_code::{Action, Image, Instr, TemplateRow, WordRow};
 use std::alloc::Global;
@@ -70,14 +71,14 @@ impl Making {
         expander: &mut Expander,
         alloc: Global,
         plain: &Image,
-        inline: &[bool],
+        uses: &[Use],
         template: &TemplateRow,
     ) -> Result<(), Memory>
         requires { slice_get plain.now.templates (length self.old.templates) ≡ Some template.now }
         ensures { OnOk result (Goes plain.now 1 self.old self.new) }
     {
         let at = self.code.len();
-        let piece = template_piece(expander, alloc, plain, inline, template, at)?;
+        let piece = template_piece(expander, alloc, plain, uses, template, at)?;
         let cells = template.cells.copy(alloc)?;
         add_piece(&mut self.code, piece.as_slice())?;
         self.templates.push(TemplateRow {
@@ -95,13 +96,13 @@ impl Making {
         expander: &mut Expander,
         alloc: Global,
         plain: &Image,
-        inline: &[bool],
+        uses: &[Use],
     ) -> Result<(), Memory>
         requires { self.old.templates ≡ [] }
         ensures { OnOk result (Goes plain.now (length plain.now.templates) self.old self.new) }
     {
         for template in plain.templates.as_slice() {
-            self.add_template(expander, alloc, plain, inline, template)?;
+            self.add_template(expander, alloc, plain, uses, template)?;
         }
         Ok(())
     }
@@ -112,7 +113,7 @@ impl Making {
         expander: &mut Expander,
         alloc: Global,
         plain: &Image,
-        inline: &[bool],
+        uses: &[Use],
         place: u32,
     ) -> Result<(), Memory>
         ensures { OnOk result (Goes plain.now 0 self.old self.new) }
@@ -121,7 +122,7 @@ impl Making {
             return Ok(());
         }
         let at = self.code.len();
-        let piece = piece_of(expander, alloc, plain, inline, Instr::Ret, 0, place, at)?;
+        let piece = piece_of(expander, alloc, plain, uses, Instr::Ret, 0, place, at)?;
         add_piece(&mut self.code, piece.as_slice())?;
         note(&mut self.places, place, at);
         Ok(())
@@ -133,13 +134,13 @@ impl Making {
         expander: &mut Expander,
         alloc: Global,
         plain: &Image,
-        inline: &[bool],
+        uses: &[Use],
         action: Action,
     ) -> Result<(), Memory>
         ensures { OnOk result (Goes plain.now 0 self.old self.new) }
     {
         match action {
-            Action::Code(place) => self.add_place(expander, alloc, plain, inline, place),
+            Action::Code(place) => self.add_place(expander, alloc, plain, uses, place),
             _ => Ok(()),
         }
     }
@@ -150,7 +151,7 @@ impl Making {
         expander: &mut Expander,
         alloc: Global,
         plain: &Image,
-        inline: &[bool],
+        uses: &[Use],
         top: u32,
     ) -> Result<(), Memory>
         ensures { OnOk result (Goes plain.now 0 self.old self.new) }
@@ -161,7 +162,7 @@ impl Making {
             if number >= top {
                 return Ok(());
             }
-            self.add_action(expander, alloc, plain, inline, word.action)?;
+            self.add_action(expander, alloc, plain, uses, word.action)?;
             number += 1;
         }
         Ok(())
@@ -173,7 +174,7 @@ impl Making {
         expander: &mut Expander,
         alloc: Global,
         plain: &Image,
-        inline: &[bool],
+        uses: &[Use],
     ) -> Result<u32, Memory>
         ensures { IfOk result (Begins plain.now self.old self.new) }
     {
@@ -182,7 +183,7 @@ impl Making {
             expander,
             alloc,
             plain,
-            inline,
+            uses,
             Instr::Halt,
             0,
             plain.start,

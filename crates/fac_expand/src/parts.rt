@@ -32,6 +32,16 @@ impl<'a> Plan<'a> {
         Ok(self.base + count as u32)
     }
 
+    /// The place so many instructions behind a draft.
+    pub fn place_behind(&self, draft: &Draft, count: u32) -> Result<u32, Stopped>
+        ensures { IfOk result (λ place. place ≡ self.now.base + length draft.now.code + count) }
+    {
+        match self.place(draft)?.checked_add(count) {
+            Some(place) => Ok(place),
+            None => Err(Stopped::Memory),
+        }
+    }
+
     /// One tick more is owed.
     pub fn owe(&self, draft: &mut Draft) -> Result<(), Stopped>
         ensures { OnOk result (Owes draft.old draft.new) }

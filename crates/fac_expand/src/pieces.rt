@@ -9,7 +9,7 @@ use crate::draft::Draft;
 use crate::entries::Entries;
 use crate::growing::Growing;
 use crate::hints::Hints;
-use crate::plan::Plan;
+use crate::plan::{Plan, Use};
 use crate::running::MOST_NESTED;
 use crate::stopped::Stopped;
 use fac_base::{List, Memory};
@@ -38,6 +38,8 @@ pub fn make_expander(alloc: Global, plain: &Image) -> Result<Expander, Memory> {
             made,
             noted: Growing::new(alloc),
             inside: Growing::new(alloc),
+            loops: Growing::new(alloc),
+            loop_words: Growing::new(alloc),
             passed: 0,
             hopeless: false,
         },
@@ -101,7 +103,7 @@ impl Expander {
         requires { ends_phrase last ≡ true }
     {
         let noted = self.hints.noted.len();
-        self.hints.inside.shorten(0);
+        self.hints.begin();
         plan.drafted(&mut self.hints, last, cells, start)?;
         if self.hints.hopeless {
             return Err(Stopped::Plain);
@@ -145,7 +147,7 @@ impl Expander {
             Err(Stopped::Plain) => {}
         }
         self.find_made(lenient, last, cells, start)?;
-        self.hints.inside.shorten(0);
+        self.hints.begin();
         strict.drafted(&mut self.hints, last, cells, start)
     }
 
@@ -153,7 +155,7 @@ impl Expander {
     fn begin(&mut self) {
         self.hints.passed = 0;
         self.hints.hopeless = false;
-        self.hints.inside.shorten(0);
+        self.hints.begin();
     }
 
     // What was found of a piece is forgotten.
@@ -173,7 +175,7 @@ impl Expander {
         &mut self,
         alloc: Global,
         plain: &Image,
-        inline: &[bool],
+        uses: &[Use],
         last: Instr,
         cells: u32,
         start: u32,
@@ -188,14 +190,14 @@ impl Expander {
         let lenient = Plan {
             alloc,
             plain,
-            inline,
+            uses,
             strict: false,
             base,
         };
         let strict = Plan {
             alloc,
             plain,
-            inline,
+            uses,
             strict: true,
             base,
         };

@@ -7,6 +7,7 @@ ghost use Rattle.fac_expand.specs.inner.Pieces.{to_end};
 
 use crate::growing::Growing;
 use crate::pieces::Expander;
+use crate::plan::Use;
 use fac_base::{List, Memory};
 use fac_code::{Image, Instr, TemplateRow};
 use std::alloc::Global;
@@ -45,7 +46,7 @@ pub fn piece_of(
     expander: &mut Expander,
     alloc: Global,
     plain: &Image,
-    inline: &[bool],
+    uses: &[Use],
     last: Instr,
     cells: u32,
     start: u32,
@@ -54,7 +55,7 @@ pub fn piece_of(
     requires { ends_phrase last ≡ true }
     ensures { IfOk result (StandsFor plain.now last cells start base) }
 {
-    match expander.piece(alloc, plain, inline, last, cells, start, base)? {
+    match expander.piece(alloc, plain, uses, last, cells, start, base)? {
         Some(code) => Ok(code),
         None => copied(alloc, plain, start),
     }
@@ -66,7 +67,7 @@ pub fn template_piece(
     expander: &mut Expander,
     alloc: Global,
     plain: &Image,
-    inline: &[bool],
+    uses: &[Use],
     template: &TemplateRow,
     base: u32,
 ) -> Result<Growing<Instr>, Memory>
@@ -77,7 +78,7 @@ pub fn template_piece(
             expander,
             alloc,
             plain,
-            inline,
+            uses,
             Instr::Ret,
             cells,
             template.entry,

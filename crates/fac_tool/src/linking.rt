@@ -13,7 +13,7 @@ use fac_bytes::{encode, spelled_length};
 use fac_check::{Checked, effects, safe_programs_are_not_stuck};
 use fac_code::Image;
 use fac_emit::{asks_effects, compile};
-use fac_expand::expand;
+use fac_expand::{Use, expand};
 use fac_lang::WordDef;
 use fac_locals::Closed;
 use std::alloc::Global;
@@ -39,13 +39,24 @@ fn asked_effects(alloc: Global, closed: &Closed) -> Result<List<Option<Height>>,
     Ok(heights)
 }
 
-// Whether each word's phrase is to stand in place of its calls: it is inline, and doesn't call itself.
-fn inline_words(alloc: Global, words: &[WordDef]) -> Result<List<bool>, Memory> {
-    let mut inline = List::new(alloc);
-    for word in words {
-        inline.push(word.inline && !word.recursive)?;
+// What a use of a word is to become. An inline word has its phrase in place of its calls, and one that calls itself has code of its own.
+fn use_of(word: &WordDef) -> Use {
+    if !word.inline {
+        return Use::Called;
     }
-    Ok(inline)
+    if word.recursive {
+        return Use::Specialised;
+    }
+    Use::InPlace
+}
+
+// What uses of words are to become, by the words' numbers.
+fn uses_of(alloc: Global, words: &[WordDef]) -> Result<List<Use>, Memory> {
+    let mut uses = List::new(alloc);
+    for word in words {
+        uses.push(use_of(word))?;
+    }
+    Ok(uses)
 }
 
 // The image of an accepted program with these effects of its templates.
@@ -57,8 +68,8 @@ fn image_with(alloc: Global, checked: &Checked, heights: &[Option<Height>]) -> R
 {
     safe_programs_are_not_stuck();
     let plain = compile(alloc, &checked.closed, heights)?;
-    let inline = inline_words(alloc, checked.closed.program.words.as_slice())?;
-    expand(alloc, plain, checked.closed.program.top, inline.as_slice())
+    let uses = uses_of(alloc, checked.closed.program.words.as_slice())?;
+    expand(alloc, plain, checked.closed.program.top, uses.as_slice())
 }
 
 // The image of an accepted program, with the effects of all of its templates.
