@@ -15,13 +15,13 @@ use Rattle.fac_lang.specs.declared.core_table.CoreWord.TheVariants.{Call as w_ca
 use Rattle.fac_lang.specs.Meaning.{sort_of, sort_phrase, word_phrase, core_act, sort_act, act}
 use Rattle.fac_lang.proofs.Laws.{Within, within_call}
 use Rattle.fac_code.specs.declared.image.Instr.{Instr}
-use Rattle.fac_code.specs.declared.image.Instr.TheVariants.{Callw, Call, Dip, If, Ret}
+use Rattle.fac_code.specs.declared.image.Instr.TheVariants.{Callw, Callp, Call, Dip, If, Ret}
 use Rattle.fac_code.specs.declared.image.Image.{Image}
 use Rattle.fac_code.specs.declared.image.WordRow.{WordRow}
 use Rattle.fac_code.specs.declared.image.Action.TheVariants as action
 use Rattle.fac_code.specs.declared.names.TrapWhy.TheVariants.{Kind as t_kind}
 use Rattle.fac_store.specs.MachineValues.{MValue, m_plain, m_fun, MCallable, m_lit, m_cur, m_com, kept_list, m_seen}
-use Rattle.fac_machine.specs.Machine.{Machine, Entry, resume, put_back, enter, Step, goes_on, or_trap, code_of, leaving, branch, entering, enters_word, calls as machine_calls, ifs, fetched, step}
+use Rattle.fac_machine.specs.Machine.{Machine, Entry, resume, put_back, enter, Step, goes_on, or_trap, code_of, leaving, jumping, branch, entering, enters_word, calls as machine_calls, ifs, fetched, step}
 use Rattle.fac_machine.proofs.Leading.{leads_none, ends_step}
 use Rattle.fac_carry.specs.MachineView.{Templates, value_view, callable_view, values_view, world_view, state_view}
 use Rattle.fac_carry.specs.Stands.{RunsPhrase, HasCode}
@@ -196,6 +196,16 @@ module _ (Y : Setting) where
   g_word f F tail last wd a p t S K pc hc e calls rest R base ms rs vs L w zero le ok lv l (keeps_phrase h) = spent_here Y last R base (at F pc ms rs R w) (state vs (V w)) (Some (word wd)) (Callw wd tail) e refl refl
   g_word f F tail last wd a p t S K pc hc e calls rest R base ms rs vs L w (suc n) le ok lv l (keeps_phrase {L = L1} h) =
       called_at f F tail last (Callw wd tail) (word wd) (word_phrase P wd) p t [] a S K pc tt e calls rest R base ms rs vs L1 w n le ok lv l h (phrase_runs wd (sort_of P wd) (state vs (V w)) hc.runs) (word_goes tail wd a hc.row F pc hc.there hc.does ms rs R w n)
+
+  place_goes : (tail : Bool) (a : ℕ) (F : List MValue) (pc : ℕ) (ms rs : List MValue) (R : List Entry) (w : World MValue) (n : ℕ) → fetched M (Some (Callp a tail)) (at F pc ms rs R w) (suc n) ≡ goes_on (at F a ms rs (entries tail F pc ++ R) w) n
+  place_goes tail a F pc ms rs R w n = ap (λ (u : Machine). goes_on (jumping a u) n) (leaves tail F pc ms rs R w)
+
+  -- a word whose own code is called at its place, under the same frame
+  pub g_special : (f : ℕ) (F : List MValue) (tail : Bool) (last : Option Instr) (wd a : ℕ) (p : Place) (t : Phrase) (S : List Sym) (K : List Task) (pc : ℕ) → RunsPhrase (sort_of P wd) → slice_get M.code pc ≡ Some (Callp a tail) →
+      CallsTo Y (Some Ret) f F a S (word_phrase P wd) → Rest f F pc tail last t K → Go Y f F last zero S (do_phrase (then (word wd) p t) ∷ K) pc
+  g_special f F tail last wd a p t S K pc hr e calls rest R base ms rs vs L w zero le ok lv l (keeps_phrase h) = spent_here Y last R base (at F pc ms rs R w) (state vs (V w)) (Some (word wd)) (Callp a tail) e refl refl
+  g_special f F tail last wd a p t S K pc hr e calls rest R base ms rs vs L w (suc n) le ok lv l (keeps_phrase {L = L1} h) =
+      called_at f F tail last (Callp a tail) (word wd) (word_phrase P wd) p t F a S K pc ok.cells e calls rest R base ms rs vs L1 w n le ok lv l h (phrase_runs wd (sort_of P wd) (state vs (V w)) hr) (place_goes tail a F pc ms rs R w n)
 
   -- A callable that a step enters. What `compose` made leaves an entry for its second part, which is entered at the `ret` of the first.
   pub enters : (f : ℕ) → Templated Y f → (c : MCallable) → WholeCallable c → (F : List MValue) (pc : ℕ) (R : List Entry) (base ms : List MValue) (w : World MValue) (n : ℕ) → n < f → Fine [] base ms w →

@@ -29,14 +29,14 @@ use Rattle.fac_carry.specs.Symbols.{Sym, Known, here, off, kept, k_phrase, k_cur
 use Rattle.fac_carry.specs.Expanded.{row_here, row_none, Code, c_last, c_tick, c_jump, c_unbind, c_hold, c_back, c_fetch, c_make, c_end, c_run, c_cur, c_com, c_off, c_move_off, c_curry_off, c_compose_off, c_call_off, c_dip_off, c_if_off, c_expand, c_move, c_curry, c_int, c_false, c_prim, c_word, c_call, ExpandedCode}
 use Rattle.fac_carry.proofs.Reaching.{Stage, stage, arrived, by, by_each, only, called, kept_runs, stands}
 
-abbrev items : List Item → Phrase
+abbrev pub items : List Item → Phrase
 items [] = end
 items (i ∷ is) = then i nowhere (items is)
 
-abbrev number : ℕ → Item
+abbrev pub number : ℕ → Item
 number n = lit (int (pos n))
 
-abbrev named : Sort → WordDef
+abbrev pub named : Sort → WordDef
 named s = record { name = record { vocab = []; name = [] }; sort = s; effect = signature None no_inputs never; inline = false; recursive = false; place = nowhere }
 
 -- [ 1 + ] and [ 2 + ]
@@ -93,7 +93,7 @@ program =
       top = 17;
     }
 
-abbrev row : Action → WordRow
+abbrev pub row : Action → WordRow
 row a = record { vocab = 0; name = 0; action = a; height = None }
 
 abbrev rows : List WordRow
@@ -132,17 +132,17 @@ abbrev image : Image
 image = record { arrays = []; kinds = []; sets = []; generics = []; pairs = []; templates = template ∷ []; words = rows; texts = [] ∷ []; code = code; start = 43; built = is_built; refers = is_whole }
 
 -- What both come to with 200 ticks: two callables, 5 and 21, and as many ticks left.
-abbrev z : ℕ → MValue
+abbrev pub z : ℕ → MValue
 z n = m_plain (int (pos n))
 
 abbrev two : MValue
 two = m_fun (m_lit 0 none_kept)
 
-abbrev ended : Option End → Option (List MValue × ℕ)
+abbrev pub ended : Option End → Option (List MValue × ℕ)
 ended (Some (done s n)) = Some (s.stack, n)
 ended _ = None
 
-abbrev result_of : Result → Option (List Value × ℕ)
+abbrev pub result_of : Result → Option (List Value × ℕ)
 result_of (Done st n) = Some (st.stack, n)
 result_of _ = None
 

@@ -23,3 +23,4 @@ pub mod CodeRuns
 pub mod CarriedCode
 pub mod Reaching
 mod ExamplesOfPutOff
+mod ExamplesOfOwnCode

@@ -1,5 +1,5 @@
 -- The machine follows the meaning, tick for tick.
-use Rattle.std.proofs.Common.{◌≡◌, ◌≢◌, ℕ, zero, suc, ◌+◌, ◌<◌, List, [], ◌∷◌, ◌++◌, true, false, Option, Some, refl, ap, subst, arith}
+use Rattle.std.proofs.Common.{◌≡◌, ◌≢◌, ℕ, zero, suc, ◌+◌, ◌≤◌, ◌<◌, List, [], ◌∷◌, ◌++◌, true, false, Option, Some, refl, ap, subst, arith}
 use Rattle.std.specs.Prelude.{slice_get}
 use Rattle.fac_lang.specs.declared.program.Program.{Program}
 use Rattle.fac_base.specs.declared.place.Place.{Place}
@@ -22,14 +22,14 @@ use Rattle.fac_carry.specs.Carries.{SameEnd}
 use Rattle.fac_carry.specs.WholeValues as whole
 use Rattle.fac_carry.specs.Accessors.{accessor_outs}
 use Rattle.fac_carry.specs.Stands.{HasCode, Calling, l_word, l_call, l_if, l_execute, l_call_effect, l_execute_effect, l_generic, l_next}
-use Rattle.fac_carry.specs.Symbols.{Sym, here, off, kept, k_phrase, k_cur, k_com, Task, do_phrase, do_back, do_call, below as under, heres, AllHere, all_none, outs, Empties, Special}
-use Rattle.fac_carry.specs.Expanded.{Code, c_last, c_tick, c_jump, c_unbind, c_hold, c_back, c_fetch, c_make, c_trim, c_end, c_run, c_cur, c_com, c_off, c_fry_off, c_move_off, c_curry_off, c_compose_off, c_call_off, c_dip_off, c_if_off, c_expand, c_move, c_curry, c_int, c_true, c_false, c_text, c_array, c_reference, c_symbol, c_prim, c_accessor, c_isa, c_boa, c_held, c_bind, c_fry, c_stuck, c_word, c_call, c_dip, c_if, c_execute, c_call_effect, c_execute_effect, c_generic, c_next, c_tail, EachCalled}
+use Rattle.fac_carry.specs.Symbols.{Sym, here, off, kept, k_phrase, k_cur, k_com, Task, do_phrase, do_back, do_call, below as under, heres, AllHere, all_none, outs, Empties, Special, own_code, In, in_first, in_later}
+use Rattle.fac_carry.specs.Expanded.{Code, c_last, c_tick, c_jump, c_unbind, c_hold, c_back, c_fetch, c_make, c_trim, c_end, c_run, c_cur, c_com, c_off, c_fry_off, c_move_off, c_curry_off, c_compose_off, c_call_off, c_dip_off, c_if_off, c_expand, c_move, c_curry, c_int, c_true, c_false, c_text, c_array, c_reference, c_symbol, c_prim, c_accessor, c_isa, c_boa, c_held, c_bind, c_fry, c_stuck, c_word, c_call, c_dip, c_if, c_execute, c_call_effect, c_execute_effect, c_generic, c_next, c_tail, c_special, c_own, c_special_tail, c_own_tail, EachCalled}
 use Rattle.fac_carry.proofs.RunLaws.{free}
 use Rattle.fac_carry.proofs.SymbolicStacks.{l_phrase, Lies, lies_none, keeps_none, keeps_phrase, all_here}
 use Rattle.fac_carry.specs.Setting.{Setting}
 use Rattle.fac_carry.proofs.Following.{state, at, Follows, LivePhrase, Go, CallsTo, Templated, Valid, then_done, live_phrase}
 use Rattle.fac_carry.proofs.CaseLemmas.{g_array, g_end, g_fry_off, g_last, g_make, g_off, g_prim, g_push, g_stuck, g_trim}
-use Rattle.fac_carry.proofs.CallLemmas.{on, none_left, g_call, g_dip, g_if, g_word}
+use Rattle.fac_carry.proofs.CallLemmas.{on, none_left, g_call, g_dip, g_if, g_word, g_special}
 use Rattle.fac_carry.proofs.FrameCases.{g_held, g_bind, g_fry}
 use Rattle.fac_carry.proofs.PutOffCases.{g_tick, g_jump, g_unbind, g_hold, g_back, g_fetch, g_run, g_cur, g_com, g_move_off, g_curry_off, g_compose_off, g_call_off, g_dip_off, g_if_off, g_expand, g_move, g_curry}
 use Rattle.fac_carry.proofs.ClassCases.{g_accessor, g_boa, g_generic, g_isa, g_next}
@@ -84,6 +84,24 @@ module _ (Y : Setting) where
   -- the code of a word that runs a phrase, or of a method, at fewer ticks
   word_called : (f : ℕ) → Below f → EachCalled P M T → (S : List Sym) → AllHere S → (wd a : ℕ) → HasCode P M wd a → CallsTo Y (Some Ret) f [] a S (word_phrase P wd)
   word_called f below each S h wd a code = on_all S [] a (word_phrase P wd) f h (called_phrase (Some Ret) f below [] [] a [] (word_phrase P wd) (each.words wd a code) (λ g less. tt))
+
+  calls_less : (last : Option Instr) (g f : ℕ) → g ≤ f → (F : List MValue) (a : ℕ) (S : List Sym) (b : Phrase) → CallsTo Y last f F a S b → CallsTo Y last g F a S b
+  calls_less last g f le F a S b calls R base ms vs w n lt ok lv l = calls R base ms vs w n (omega (arith, lt, le)) ok lv l
+
+  valid_less : (g f : ℕ) → g ≤ f → (Γ : List Special) → Valid Y f Γ → Valid Y g Γ
+  valid_less g f le [] v = tt
+  valid_less g f le (x ∷ Γ) v = (calls_less x.last g f le x.frame x.place x.stack x.phrase v.0, valid_less g f le Γ v.1)
+
+  -- A word's own code may call itself: that takes a tick.
+  special_calls : (f : ℕ) → Below f → (Γ : List Special) (F : List MValue) (a : ℕ) (S : List Sym) (b : Phrase) → Code P M T (own_code a S F b ∷ Γ) (Some Ret) F zero S (do_phrase b ∷ []) a → Valid Y f Γ → (g : ℕ) → g ≤ f → CallsTo Y (Some Ret) g F a S b
+  special_calls f below Γ F a S b code v zero le = λ R base ms vs w n lt ok lv l. absurd (omega (arith, lt))
+  special_calls f below Γ F a S b code v (suc g) le =
+      let inner = special_calls f below Γ F a S b code v g (omega (arith, le)) in
+      called_phrase (Some Ret) (suc g) (λ j lt. below j (omega (arith, lt, le))) (own_code a S F b ∷ Γ) F a S b code (λ j lt. (calls_less (Some Ret) j g (omega (arith, lt)) F a S b inner, valid_less j f (omega (arith, lt, le)) Γ v))
+
+  own_calls : (f : ℕ) (x : Special) (Γ : List Special) → In x Γ → Valid Y f Γ → CallsTo Y x.last f x.frame x.place x.stack x.phrase
+  own_calls f x Γ in_first v = v.0
+  own_calls f x Γ (in_later {xs = Δ} i) v = own_calls f x Δ i v.1
 
   -- a tail call, behind which nothing is left to do
   g_tail : (f : ℕ) → Below f → EachCalled P M T → Templated Y f → (F : List MValue) (i : Item) (x : Instr) (p : Place) (S : List Sym) (K : List Task) (pc : ℕ) → Calling P M true i x → Empties K → AllHere S → slice_get M.code pc ≡ Some x →
@@ -168,6 +186,12 @@ module _ (Y : Setting) where
   main f below each tpl Γ last F d S K pc (c_next {p = p} {t = t} {K = K1} m n j r em er ew same a e c) v =
       g_next Y f F false last m n j r p t S K1 pc em er ew same a e (word_called f below each S a) (on (main f below each tpl Γ last F zero [] (do_phrase t ∷ K1) (pc + 1) c v))
   main f below each tpl Γ last F d S K pc (c_tail {p = p} {i = i} {x = x} {K = K1} calling k a e) v = g_tail f below each tpl F i x p S K1 pc calling k a e
+  main f below each tpl Γ last F d S K pc (c_special {p = p} {t = t} {K = K1} wd a runs e special c) v =
+      g_special Y f F false last wd a p t S K1 pc runs e (special_calls f below Γ F a S (word_phrase P wd) special v f (omega arith)) (on (main f below each tpl Γ last F zero [] (do_phrase t ∷ K1) (pc + 1) c v))
+  main f below each tpl Γ last F d S K pc (c_own {p = p} {t = t} {K = K1} wd a runs e i c) v =
+      g_special Y f F false last wd a p t S K1 pc runs e (own_calls f (own_code a S F (word_phrase P wd)) Γ i v) (on (main f below each tpl Γ last F zero [] (do_phrase t ∷ K1) (pc + 1) c v))
+  main f below each tpl Γ last F d S K pc (c_special_tail {p = p} {K = K1} wd a runs k e special) v = g_special Y f F true (Some Ret) wd a p end S K1 pc runs e (special_calls f below Γ F a S (word_phrase P wd) special v f (omega arith)) (none_left k)
+  main f below each tpl Γ last F d S K pc (c_own_tail {p = p} {K = K1} wd a runs k e i) v = g_special Y f F true (Some Ret) wd a p end S K1 pc runs e (own_calls f (own_code a S F (word_phrase P wd)) Γ i v) (none_left k)
 
   below_all : EachCalled P M T → (f : ℕ) → Below f
   below_all each zero g lt = absurd (omega (arith, lt))
