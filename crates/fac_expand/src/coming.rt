@@ -25,8 +25,8 @@ pub enum Coming {
     Other(Instr),
 }
 
-// Whether an instruction is a call that leaves no return entry.
-fn is_tailed(instr: Instr) -> bool
+/// Whether an instruction is a call that leaves no return entry.
+pub fn is_tailed(instr: Instr) -> bool
     ensures { result ≡ has_tail instr }
 {
     match instr {

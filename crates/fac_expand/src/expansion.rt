@@ -7,7 +7,7 @@ ghost use Rattle.fac_expand.specs.inner.Makings.{Makes, IsMadeOf};
 ghost use Rattle.fac_expand.specs.inner.Pieces.{is_test, IsMade, ArePlaced};
 
 use crate::making::{Making, are_placed};
-use crate::pieces::make_expander;
+use crate::pieces::{Extent, make_expander};
 use crate::plan::Use;
 use crate::tables::moved_tables;
 use fac_base::Memory;
@@ -47,10 +47,16 @@ fn tests_no_more(plain: &Image, image: &Image) -> bool
 }
 
 // The code, the rows of templates and the new places for an image whose top-level phrase has this number, and where that begins.
-fn made_of(alloc: Global, plain: &Image, top: u32, uses: &[Use]) -> Result<(Making, u32), Memory>
+fn made_of(
+    alloc: Global,
+    plain: &Image,
+    top: u32,
+    uses: &[Use],
+    extent: Extent,
+) -> Result<(Making, u32), Memory>
     ensures { IfOk result (λ made. IsMadeOf plain.now made.0 made.1) }
 {
-    let mut expander = make_expander(alloc, plain)?;
+    let mut expander = make_expander(alloc, plain, extent)?;
     let mut making = Making::new(alloc, plain)?;
     making.add_templates(&mut expander, alloc, plain, uses)?;
     making.add_words(&mut expander, alloc, plain, uses, top)?;
@@ -87,10 +93,11 @@ fn expanded(
     plain: &Image,
     top: u32,
     uses: &[Use],
+    extent: Extent,
 ) -> Result<Option<Image>, Memory>
     ensures { IfOk result (λ o. MatchOption o (Unit {0}) (Expands top plain.now)) }
 {
-    let (making, start) = made_of(alloc, plain, top, uses)?;
+    let (making, start) = made_of(alloc, plain, top, uses, extent)?;
     match image_of(alloc, plain, top, making, start)? {
         Some(image) => {
             if tests_no_more(plain, &image) {
@@ -104,13 +111,19 @@ fn expanded(
 }
 
 /// The image with its code expanded: a callable that is made of a quotation and applied at once is run in place. The top-level phrase has this
-/// number, and `uses` says by the number of a word what a use of it becomes, which is only a hint. The tables are those of
+/// number, and `uses` says by the number of a word what a use of it becomes; both that and the extent are only hints. The tables are those of
 /// the plain image but for places. For each program with this top-level phrase for whose phrases the plain code stands, the code that is made
 /// stands too. Where it can't be made so, the image stays as it is. Want of memory is the one error.
-pub fn expand(alloc: Global, plain: Image, top: u32, uses: &[Use]) -> Result<Image, Memory>
+pub fn expand(
+    alloc: Global,
+    plain: Image,
+    top: u32,
+    uses: &[Use],
+    extent: Extent,
+) -> Result<Image, Memory>
     ensures { IfOk result (Expands top plain) }
 {
-    match expanded(alloc, &plain, top, uses)? {
+    match expanded(alloc, &plain, top, uses, extent)? {
         Some(image) => Ok(image),
         None => Ok(plain),
     }

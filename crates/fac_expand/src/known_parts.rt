@@ -3,8 +3,8 @@ ghost use Rattle.std.specs.Prelude.{◌≡◌, slice_get, Some, IfOk};
 ghost use Rattle.fac_expand.specs.inner.Steps.{IsPart, IsCodePart};
 
 use crate::draft::Draft;
-use crate::put_off::{Curried, PutOff};
 use crate::plan::Plan;
+use crate::put_off::{Curried, PutOff};
 use crate::stopped::Stopped;
 use fac_base::{Duplicate, List};
 

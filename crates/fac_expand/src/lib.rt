@@ -20,6 +20,7 @@ mod placing;
 mod plan;
 mod primitives;
 mod put_off;
+mod reach;
 mod running;
 mod shuffles;
 mod steps;
@@ -27,4 +28,5 @@ mod stopped;
 mod tables;
 
 pub use expansion::expand;
+pub use pieces::Extent;
 pub use plan::Use;

@@ -10,6 +10,7 @@ use crate::entries::Entries;
 use crate::growing::Growing;
 use crate::hints::Hints;
 use crate::plan::{Plan, Use};
+use crate::reach::reached;
 use crate::running::MOST_NESTED;
 use crate::stopped::Stopped;
 use fac_base::{List, Memory};
@@ -19,16 +20,36 @@ use std::alloc::Global;
 /// How many times a piece is gone through to find which quotations are to be made.
 const MOST_ROUNDS: u32 = 8;
 
+/// Which code of an image is expanded.
+#[derive(Clone, Copy, Debug, PartialEq, Eq)]
+pub enum Extent {
+    /// All of it.
+    All,
+    /// That which a run can come to. It is found by what instructions name.
+    Reached,
+}
+
 /// What makes pieces of code.
 #[derive(Drop)]
 pub struct Expander {
     hints: Hints,
+    // By the place of an instruction of the plain image, whether what begins there is to be expanded. None where all is.
+    wanted: Option<Growing<bool>>,
     // How many items may still be gone over, in all pieces.
     left: u64,
 }
 
+// Which code is to be expanded. None where all is.
+fn wanted(alloc: Global, plain: &Image, extent: Extent) -> Result<Option<Growing<bool>>, Memory> {
+    match extent {
+        Extent::All => Ok(None),
+        Extent::Reached => Ok(Some(reached(alloc, plain)?)),
+    }
+}
+
 /// What makes pieces of code from this plain image.
-pub fn make_expander(alloc: Global, plain: &Image) -> Result<Expander, Memory> {
+pub fn make_expander(alloc: Global, plain: &Image, extent: Extent) -> Result<Expander, Memory> {
+    let wanted = wanted(alloc, plain, extent)?;
     let mut made: Growing<bool> = Growing::new(alloc);
     for _ in 0..plain.templates.len() {
         made.push(false)?;
@@ -43,6 +64,7 @@ pub fn make_expander(alloc: Global, plain: &Image) -> Result<Expander, Memory> {
             passed: 0,
             hopeless: false,
         },
+        wanted,
         left: 8 * plain.code.len() as u64 + 100_000,
     })
 }
@@ -151,6 +173,17 @@ impl Expander {
         strict.drafted(&mut self.hints, last, cells, start)
     }
 
+    // Whether what begins at a place is to be expanded.
+    fn is_wanted(&self, start: u32) -> bool {
+        match &self.wanted {
+            None => true,
+            Some(places) => match places.get(start as usize) {
+                Some(wanted) => *wanted,
+                None => false,
+            },
+        }
+    }
+
     // Before a piece nothing is known of it.
     fn begin(&mut self) {
         self.hints.passed = 0;
@@ -184,7 +217,7 @@ impl Expander {
         requires { ends_phrase last ≡ true }
         ensures { MadePiece plain.now last cells start base result }
     {
-        if self.left == 0 {
+        if self.left == 0 || !self.is_wanted(start) {
             return Ok(None);
         }
         let lenient = Plan {

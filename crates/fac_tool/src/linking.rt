@@ -13,7 +13,7 @@ use fac_bytes::{encode, spelled_length};
 use fac_check::{Checked, effects, safe_programs_are_not_stuck};
 use fac_code::Image;
 use fac_emit::{asks_effects, compile};
-use fac_expand::{Use, expand};
+use fac_expand::{Extent, Use, expand};
 use fac_lang::WordDef;
 use fac_locals::Closed;
 use std::alloc::Global;
@@ -60,7 +60,12 @@ fn uses_of(alloc: Global, words: &[WordDef]) -> Result<List<Use>, Memory> {
 }
 
 // The image of an accepted program with these effects of its templates.
-fn image_with(alloc: Global, checked: &Checked, heights: &[Option<Height>]) -> Result<Image, Memory>
+fn image_with(
+    alloc: Global,
+    checked: &Checked,
+    heights: &[Option<Height>],
+    extent: Extent,
+) -> Result<Image, Memory>
     requires stands { (P : Source) × StandsForSafe checked.now.closed P }
     requires effects { AreEffectsIfAsked checked.now.closed heights.now }
     ensures carried { IfOk result (λ image. (P : Source) → StandsForSafe checked.now.closed P → Carried P image) }
@@ -69,7 +74,13 @@ fn image_with(alloc: Global, checked: &Checked, heights: &[Option<Height>]) -> R
     safe_programs_are_not_stuck();
     let plain = compile(alloc, &checked.closed, heights)?;
     let uses = uses_of(alloc, checked.closed.program.words.as_slice())?;
-    expand(alloc, plain, checked.closed.program.top, uses.as_slice())
+    expand(
+        alloc,
+        plain,
+        checked.closed.program.top,
+        uses.as_slice(),
+        extent,
+    )
 }
 
 // The image of an accepted program, with the effects of all of its templates.
@@ -78,7 +89,7 @@ fn whole_image(alloc: Global, checked: &Checked) -> Result<Image, Memory>
     ensures { IfOk result (λ image. (P : Source) → StandsForSafe checked.now.closed P → CarriedWhole P image) }
 {
     let heights = effects(alloc, &checked.closed)?;
-    image_with(alloc, checked, heights.as_slice())
+    image_with(alloc, checked, heights.as_slice(), Extent::All)
 }
 
 // The image of an accepted program, with the effects of its templates where a run asks for any.
@@ -87,7 +98,7 @@ fn image_to_run(alloc: Global, checked: &Checked) -> Result<Image, Memory>
     ensures { IfOk result (λ image. (P : Source) → StandsForSafe checked.now.closed P → Carried P image) }
 {
     let heights = asked_effects(alloc, &checked.closed)?;
-    image_with(alloc, checked, heights.as_slice())
+    image_with(alloc, checked, heights.as_slice(), Extent::Reached)
 }
 
 /// The image of an accepted program, which carries it and has the effects of its callables in its rows, and its bytes. Want of memory is the one error, also where the image would have more
