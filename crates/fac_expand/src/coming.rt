@@ -6,6 +6,9 @@ ghost use Rattle.fac_expand.specs.inner.Steps.{IsUntailed, is_end, Comes, FindsE
 use crate::plan::{Plan, Use};
 use fac_code::{Action, Instr};
 
+// How many instructions the code of an ordinary word may have that stands in place of its calls, the `ret` among them.
+const MOST_SMALL: u32 = 8;
+
 /// What comes at a place of plain code.
 #[derive(Clone, Copy)]
 pub enum Coming {
@@ -116,17 +119,65 @@ impl<'a> Plan<'a> {
         }
     }
 
-    /// The place of the code of a word that may stand in place of its calls.
+    // Whether an instruction is that of an item that calls nothing and makes no callable.
+    fn is_plain_item(&self, instr: Instr) -> bool {
+        match instr {
+            Instr::Int(_) => true,
+            Instr::True => true,
+            Instr::False => true,
+            Instr::Text(_) => true,
+            Instr::Array(_) => true,
+            Instr::Word(_) => true,
+            Instr::Prim(_) => true,
+            Instr::Get(_) => true,
+            Instr::Set(_) => true,
+            Instr::Put(_) => true,
+            Instr::Isa(_) => true,
+            _ => false,
+        }
+    }
+
+    // Whether the plain code at a place has few items, each of which calls nothing and makes no callable.
+    fn is_small(&self, entry: u32) -> bool {
+        for at in 0..MOST_SMALL {
+            let place = match entry.checked_add(at) {
+                Some(place) => place,
+                None => return false,
+            };
+            match self.plain.code.get(place as usize) {
+                Some(Instr::Ret) => return true,
+                Some(instr) => {
+                    if !self.is_plain_item(*instr) {
+                        return false;
+                    }
+                }
+                None => return false,
+            }
+        }
+        false
+    }
+
+    // Whether the phrase of a word stands in place of its calls. Nothing is promised of that.
+    fn is_in_place(&self, word: u32, entry: u32) -> bool {
+        match self.uses.get(word as usize) {
+            Some(Use::InPlace) => true,
+            Some(Use::Called) => self.is_small(entry),
+            _ => false,
+        }
+    }
+
+    /// The place of the code of a word that stands in place of its calls.
     pub fn code_in_place(&self, word: u32) -> Option<u32>
         ensures { FindsEntry self.now.plain.now word result }
     {
-        match self.uses.get(word as usize) {
-            Some(Use::InPlace) => {}
-            _ => return None,
-        }
         match self.plain.words.get(word as usize) {
             Some(row) => match row.action {
-                Action::Code(entry) => Some(entry),
+                Action::Code(entry) => {
+                    if self.is_in_place(word, entry) {
+                        return Some(entry);
+                    }
+                    None
+                }
                 _ => None,
             },
             None => None,

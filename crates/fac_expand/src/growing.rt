@@ -1,5 +1,5 @@
 //! A list that grows at its end, of which one element may be changed and the last ones taken away.
-ghost use Rattle.std.specs.Prelude.{◌≡◌, ◌++◌, ◌∷◌, ◌<◌, ◌≤◌, [], length, slice_get, slice_set, take, OnOk};
+ghost use Rattle.std.specs.Prelude.{◌≡◌, ◌++◌, ◌∷◌, ◌<◌, ◌≤◌, [], length, slice_get, slice_set, take, IfOk, OnOk};
 ghost use Rattle.std.specs.Option.{option_copied};
 
 use fac_base::Memory;
@@ -31,6 +31,15 @@ impl<T> Growing<T> {
         Growing {
             vec: Vec::new(alloc),
         }
+    }
+
+    /// An empty list with room for so many elements. Want of memory is the one error.
+    pub fn with_room(alloc: Global, count: usize) -> Result<Self, Memory>
+        ensures { IfOk result (λ list. list ≡ []) }
+    {
+        Ok(Growing {
+            vec: Vec::with_capacity(alloc, count)?,
+        })
     }
 
     /// The number of elements.

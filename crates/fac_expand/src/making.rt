@@ -26,7 +26,7 @@ pub struct Making {
 fn no_places(alloc: Global, count: u32) -> Result<Growing<Option<u32>>, Memory>
     ensures { IfOk result HasNone }
 {
-    let mut places = Growing::new(alloc);
+    let mut places = Growing::with_room(alloc, count as usize)?;
     for _ in 0..count {
         places.push(None)?;
     }

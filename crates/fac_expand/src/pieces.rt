@@ -50,7 +50,7 @@ fn wanted(alloc: Global, plain: &Image, extent: Extent) -> Result<Option<Growing
 /// What makes pieces of code from this plain image.
 pub fn make_expander(alloc: Global, plain: &Image, extent: Extent) -> Result<Expander, Memory> {
     let wanted = wanted(alloc, plain, extent)?;
-    let mut made: Growing<bool> = Growing::new(alloc);
+    let mut made: Growing<bool> = Growing::with_room(alloc, plain.templates.len() as usize)?;
     for _ in 0..plain.templates.len() {
         made.push(false)?;
     }

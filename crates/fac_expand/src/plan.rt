@@ -5,7 +5,7 @@ use std::alloc::Global;
 /// What a use of a word becomes.
 #[derive(Clone, Copy, Debug, PartialEq, Eq)]
 pub enum Use {
-    /// A call of its code.
+    /// A call of its code, or its phrase in place where that is small.
     Called,
     /// Its phrase, in place.
     InPlace,

@@ -118,7 +118,7 @@ impl Reach {
 /// By the place of an instruction of a plain image, whether a phrase begins there that a run can come to. Want of memory is the one error.
 pub fn reached(alloc: Global, plain: &Image) -> Result<Growing<bool>, Memory> {
     let mut reach = Reach {
-        reached: Growing::new(alloc),
+        reached: Growing::with_room(alloc, plain.code.len() as usize)?,
         places: Growing::new(alloc),
     };
     for _ in 0..plain.code.len() {
