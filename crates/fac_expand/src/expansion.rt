@@ -7,7 +7,7 @@ ghost use Rattle.fac_expand.specs.inner.Makings.{Makes, IsMadeOf};
 ghost use Rattle.fac_expand.specs.inner.Pieces.{is_test, IsMade, ArePlaced};
 
 use crate::making::{Making, are_placed};
-use crate::pieces::{Extent, make_expander};
+use crate::pieces::{Expander, Extent, make_expander};
 use crate::plan::Use;
 use crate::tables::moved_tables;
 use fac_base::Memory;
@@ -48,19 +48,18 @@ fn tests_no_more(plain: &Image, image: &Image) -> bool
 
 // The code, the rows of templates and the new places for an image whose top-level phrase has this number, and where that begins.
 fn made_of(
+    expander: &mut Expander,
     alloc: Global,
     plain: &Image,
     top: u32,
     uses: &[Use],
-    extent: Extent,
 ) -> Result<(Making, u32), Memory>
     ensures { IfOk result (λ made. IsMadeOf plain.now made.0 made.1) }
 {
-    let mut expander = make_expander(alloc, plain, extent)?;
     let mut making = Making::new(alloc, plain)?;
-    making.add_templates(&mut expander, alloc, plain, uses)?;
-    making.add_words(&mut expander, alloc, plain, uses, top)?;
-    let start = making.add_start(&mut expander, alloc, plain, uses)?;
+    making.add_templates(expander, alloc, plain, uses)?;
+    making.add_words(expander, alloc, plain, uses, top)?;
+    let start = making.add_start(expander, alloc, plain, uses)?;
     Ok((making, start))
 }
 
@@ -97,7 +96,11 @@ fn expanded(
 ) -> Result<Option<Image>, Memory>
     ensures { IfOk result (λ o. MatchOption o (Unit {0}) (Expands top plain.now)) }
 {
-    let (making, start) = made_of(alloc, plain, top, uses, extent)?;
+    let mut expander = make_expander(alloc, plain, extent)?;
+    if expander.is_idle() {
+        return Ok(None);
+    }
+    let (making, start) = made_of(&mut expander, alloc, plain, top, uses)?;
     match image_of(alloc, plain, top, making, start)? {
         Some(image) => {
             if tests_no_more(plain, &image) {

@@ -10,7 +10,7 @@ use crate::entries::Entries;
 use crate::growing::Growing;
 use crate::hints::Hints;
 use crate::plan::{Plan, Use};
-use crate::reach::reached;
+use crate::reach::{Reach, reach_of};
 use crate::running::MOST_NESTED;
 use crate::stopped::Stopped;
 use fac_base::{List, Memory};
@@ -33,17 +33,17 @@ pub enum Extent {
 #[derive(Drop)]
 pub struct Expander {
     hints: Hints,
-    // By the place of an instruction of the plain image, whether what begins there is to be expanded. None where all is.
-    wanted: Option<Growing<bool>>,
+    // What is to be expanded. None where all is.
+    wanted: Option<Reach>,
     // How many items may still be gone over, in all pieces.
     left: u64,
 }
 
-// Which code is to be expanded. None where all is.
-fn wanted(alloc: Global, plain: &Image, extent: Extent) -> Result<Option<Growing<bool>>, Memory> {
+// What is to be expanded. None where all is.
+fn wanted(alloc: Global, plain: &Image, extent: Extent) -> Result<Option<Reach>, Memory> {
     match extent {
         Extent::All => Ok(None),
-        Extent::Reached => Ok(Some(reached(alloc, plain)?)),
+        Extent::Reached => Ok(Some(reach_of(alloc, plain)?)),
     }
 }
 
@@ -177,10 +177,15 @@ impl Expander {
     fn is_wanted(&self, start: u32) -> bool {
         match &self.wanted {
             None => true,
-            Some(places) => match places.get(start as usize) {
-                Some(wanted) => *wanted,
-                None => false,
-            },
+            Some(reach) => reach.has(start),
+        }
+    }
+
+    /// Whether there is nothing to be expanded.
+    pub fn is_idle(&self) -> bool {
+        match &self.wanted {
+            None => false,
+            Some(reach) => !reach.has_quotations(),
         }
     }
 

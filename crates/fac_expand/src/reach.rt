@@ -5,13 +5,15 @@ use fac_base::Memory;
 use fac_code::{Action, Elem, Image, Instr};
 use std::alloc::Global;
 
-// What was come to so far.
+/// What a run can come to, as far as instructions name it.
 #[derive(Drop)]
-struct Reach {
+pub struct Reach {
     // By the place of an instruction, whether a phrase that begins there was come to.
     reached: Growing<bool>,
     // The places of these phrases, in the order in which they were come to.
     places: Growing<u32>,
+    // Whether there is a quotation in any of them.
+    has_quotations: bool,
 }
 
 // Whether a phrase ends in an instruction.
@@ -90,7 +92,10 @@ impl Reach {
         match instr {
             Instr::Callw { word, .. } => self.note_word(plain, word),
             Instr::Word(word) => self.note_word(plain, word),
-            Instr::Quot(template) => self.note_template(plain, template),
+            Instr::Quot(template) => {
+                self.has_quotations = true;
+                self.note_template(plain, template)
+            }
             Instr::Fry(template) => self.note_template(plain, template),
             Instr::Array(array) => self.note_array(plain, array),
             Instr::Generic { generic, .. } => self.note_generic(plain, generic),
@@ -115,11 +120,27 @@ impl Reach {
     }
 }
 
-/// By the place of an instruction of a plain image, whether a phrase begins there that a run can come to. Want of memory is the one error.
-pub fn reached(alloc: Global, plain: &Image) -> Result<Growing<bool>, Memory> {
+impl Reach {
+    /// Whether a phrase that begins at this place was come to.
+    pub fn has(&self, place: u32) -> bool {
+        match self.reached.get(place as usize) {
+            Some(reached) => *reached,
+            None => false,
+        }
+    }
+
+    /// Whether there is a quotation in what was come to.
+    pub fn has_quotations(&self) -> bool {
+        self.has_quotations
+    }
+}
+
+/// What a run of a plain image can come to. Want of memory is the one error.
+pub fn reach_of(alloc: Global, plain: &Image) -> Result<Reach, Memory> {
     let mut reach = Reach {
         reached: Growing::with_room(alloc, plain.code.len() as usize)?,
         places: Growing::new(alloc),
+        has_quotations: false,
     };
     for _ in 0..plain.code.len() {
         reach.reached.push(false)?;
@@ -131,9 +152,8 @@ pub fn reached(alloc: Global, plain: &Image) -> Result<Growing<bool>, Memory> {
                 let place = *place;
                 reach.pass(plain, place)?;
             }
-            None => break,
+            None => return Ok(reach),
         }
     }
-    let Reach { reached, .. } = reach;
-    Ok(reached)
+    Ok(reach)
 }
