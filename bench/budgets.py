@@ -1,19 +1,26 @@
 #!/usr/bin/env python3
 """Runs programs made at random with every budget, from the source and from the image, beside the model of the language in bench/model.py.
 
-    python3 bench/budgets.py [PROGRAM] [--programs N] [--seed S] [--jobs J]
+    python3 bench/budgets.py [PROGRAM | --eager] [--programs N] [--seed S] [--jobs J]
 
 PROGRAM is the built program, by default crates/factorc/out/factorc. Of the kinds of bench/compare.py, those that make runs, it makes programs
 until N of them, 2,000 by default, end by themselves within 60 ticks. Each is built into an image, and run by `run` and by `exec` with every budget
 from no tick to one more than it takes. Status, output and note have to be the model's each time. The same seed S, 1 by default, gives the same
 programs. J processes share the work, as many as there are processors by default.
 
+With `--eager` the program is one in which each store collects before every step that the machine's loop leaves, so before every step that makes
+a value of the store, and what a collection loses or numbers wrongly shows in an answer. The script builds it of a copy of the repository, without a
+proof, in two to four minutes.
+
 It ends with status 1 where an answer differs, or a run takes too long or is ended by a signal, and keeps the files of each such case in a folder.
 """
 import argparse
 import multiprocessing
 import os
+import pathlib
 import random
+import shutil
+import subprocess
 import sys
 import tempfile
 
@@ -23,6 +30,25 @@ import speed
 from kinds import Case, run_of
 
 MOST_TICKS = 60
+
+ROOT = pathlib.Path(__file__).resolve().parent.parent
+
+# Where a store is made, how that stands there, and how it stands where it always collects.
+STORE = "crates/fac_store/src/store.rt"
+SELDOM = "            room: LEAST_ROOM,\n            is_eager: false,\n"
+ALWAYS = "            room: 0,\n            is_eager: true,\n"
+
+
+def eager_program(folder):
+    """Builds in a folder a program whose stores always collect, and gives its path."""
+    copy, program = pathlib.Path(folder) / "repository", pathlib.Path(folder) / "factorc"
+    shutil.copytree(ROOT, copy, ignore=shutil.ignore_patterns(".git", "out", "__pycache__"))
+    text = (copy / STORE).read_text(encoding="utf-8")
+    if text.count(SELDOM) != 1:
+        sys.exit(f"{STORE} has no one place where a store is made as this script knows it")
+    (copy / STORE).write_text(text.replace(SELDOM, ALWAYS), encoding="utf-8")
+    subprocess.run([sys.executable, str(copy / "bench/unproved.py"), "factorc", str(program)], stdin=subprocess.DEVNULL, check=True)
+    return str(program)
 
 
 def cases_of(seed):
@@ -73,11 +99,13 @@ def compared(part):
 def main():
     words = argparse.ArgumentParser(usage=__doc__)
     words.add_argument("program", nargs="?", default=speed.DEFAULT)
+    words.add_argument("--eager", action="store_true")
     words.add_argument("--programs", type=int, default=2_000)
     words.add_argument("--seed", type=int, default=1)
     words.add_argument("--jobs", type=int, default=os.cpu_count())
     given = words.parse_args()
-    program = speed.built(given.program)
+    room = tempfile.TemporaryDirectory(prefix="factorc-eager-")
+    program = eager_program(room.name) if given.eager else speed.built(given.program)
     parts = [(program, f"{given.seed} {job}", (given.programs + job) // given.jobs) for job in range(given.jobs)]
     with multiprocessing.Pool(given.jobs) as pool:
         ended = pool.map(compared, parts)
