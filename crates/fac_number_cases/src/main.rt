@@ -1,7 +1,8 @@
 //! A program that tests integers: it reads lines of the form `read TEXT` or `SIGN INTEGER INTEGER`, where a sign is one of
 //! `+ - * / % <<`, and tells behind each line what it comes to.
 //!
-//! `stdout` was written by hand, from the rules of the language. So it shows that the definitions of integers mean what was meant.
+//! `stdout` was written from the rules of the language, by hand, and where 64 bits end by integers of any size in another language. So it
+//! shows that the definitions of integers mean what was meant.
 #![tactic(auto)]
 
 use fac_base::{Memory, Text};
