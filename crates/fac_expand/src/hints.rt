@@ -9,7 +9,7 @@ use std::alloc::Global;
 pub const MOST_ITEMS: u32 = 100_000;
 
 // How many times a word may have code of its own within its own code, for other callables each time.
-const MOST_LOOPS: u32 = 4;
+const MOST_LOOPS: u32 = 24;
 
 // How many parts of a callable are looked at to find the quotations in it.
 const MOST_PARTS: u32 = 64;
