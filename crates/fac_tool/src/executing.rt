@@ -4,14 +4,15 @@ ghost use Rattle.fac_lines.specs.Channels.{CountsFaults, CountsStand};
 ghost use Rattle.fac_vm.specs.SeenMachine.{callables_in, held_in};
 ghost use Rattle.fac_tool.specs.Executed.{DoesOnBytes, executed};
 ghost use Rattle.fac_tool.specs.SeenObjects.{input_seen, output_seen, OnInput};
-ghost use Rattle.fac_tool.specs.inner.ImageSteps.{IsImageReportOf, MakesMachine, RunsFirst, RunsImage};
+ghost use Rattle.fac_tool.specs.inner.ImageSteps.{IsImageReportOf, MakesImage, MakesMachine, RunsFirst, RunsImage};
 ghost use Rattle.fac_tool.specs.inner.Stops.{IsFresh};
 
 use crate::ended::{bare, reported};
 use crate::images::image_of_bytes;
 use crate::value_texts::{stack_texts, value_text};
 use crate::{Ended, Report};
-use fac_base::Memory;
+use fac_base::{Bytes, Memory};
+use fac_code::Image;
 use fac_io::{Sink, Source as Reader};
 use fac_lines::Channels;
 use fac_notes::name_in_image;
@@ -96,11 +97,18 @@ pub fn run_image<S: Reader, K: Sink>(
     }
 }
 
-// A machine of the image of bytes.
-fn machine_of_bytes(alloc: Global, bytes: &[u8]) -> Result<Machine, Ended>
-    ensures { MakesMachine bytes.now result }
+// The image of bytes, which are given back.
+fn image_alone(alloc: Global, bytes: Bytes) -> Result<Image, Ended>
+    ensures { MakesImage bytes result }
 {
-    let image = image_of_bytes(alloc, bytes)?;
+    image_of_bytes(alloc, bytes.as_slice())
+}
+
+// A machine of the image of bytes, which are given back before it is made.
+fn machine_of_bytes(alloc: Global, bytes: Bytes) -> Result<Machine, Ended>
+    ensures { MakesMachine bytes result }
+{
+    let image = image_alone(alloc, bytes)?;
     match Machine::new(alloc, image) {
         Ok(machine) => Ok(machine),
         Err(_) => Err(bare(NO_MEMORY, 0)),
@@ -110,11 +118,11 @@ fn machine_of_bytes(alloc: Global, bytes: &[u8]) -> Result<Machine, Ended>
 /// Runs the image of bytes over channels with this budget of ticks.
 pub fn execute<S: Reader, K: Sink>(
     alloc: Global,
-    bytes: &[u8],
+    bytes: Bytes,
     budget: u64,
     channels: &mut Channels<S, K>,
 ) -> Ended
-    ensures ends { DoesOnBytes (executed budget) bytes.now (input_seen channels.old channels.new) (output_seen channels.old channels.new) result }
+    ensures ends { DoesOnBytes (executed budget) bytes (input_seen channels.old channels.new) (output_seen channels.old channels.new) result }
     ensures counts { CountsStand channels.old channels.new }
 {
     match machine_of_bytes(alloc, bytes) {

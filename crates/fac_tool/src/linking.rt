@@ -3,6 +3,8 @@ ghost use Rattle.std.specs.Prelude.{◌≡◌, ◌≤◌, true, IfOk};
 ghost use Rattle.fac_lang.specs.declared.program.Program.{Program as Source};
 ghost use Rattle.fac_check.specs.Judged.{StandsForWhole};
 ghost use Rattle.fac_check.specs.TemplateEffects.{AreEffects};
+ghost use Rattle.fac_emit.specs.CarriedPrograms.{AgreesEach, StandsForEach};
+ghost use Rattle.fac_emit.specs.ProgramCode.{IsPlain};
 ghost use Rattle.fac_tool.specs.Saved.{HasEffects};
 ghost use Rattle.fac_tool.specs.inner.Stops.{Carried, StandsForSafe};
 ghost use Rattle.fac_tool.specs.inner.ImageSteps.{AreEffectsIfAsked, CarriedWhole, IsLinked, IsShort};
@@ -39,6 +41,13 @@ fn asked_effects(alloc: Global, closed: &Closed) -> Result<List<Option<Height>>,
     Ok(heights)
 }
 
+// What is expanded: plain code, and what uses of words are to become.
+#[derive(Drop)]
+struct Plain {
+    image: Image,
+    uses: List<Use>,
+}
+
 // What a use of a word is to become. An inline word has its phrase in place of its calls, and one that calls itself has code of its own.
 fn use_of(word: &WordDef) -> Use {
     if !word.inline {
@@ -59,53 +68,60 @@ fn uses_of(alloc: Global, words: &[WordDef]) -> Result<List<Use>, Memory> {
     Ok(uses)
 }
 
-// The image of an accepted program with these effects of its templates.
+// The plain code of an accepted program with these effects of its templates. The program is given back.
+fn plain_code(alloc: Global, checked: Checked, heights: &[Option<Height>]) -> Result<Plain, Memory>
+    requires { (P : Source) × StandsForSafe checked.closed P }
+    ensures agrees { IfOk result (λ plain. AgreesEach checked.closed heights.now plain.image) }
+    ensures stands { IfOk result (λ plain. StandsForEach checked.closed plain.image) }
+    ensures plain { IfOk result (λ plain. IsPlain checked.closed heights.now plain.image) }
+{
+    let image = compile(alloc, &checked.closed, heights)?;
+    let uses = uses_of(alloc, checked.closed.program.words.as_slice())?;
+    Ok(Plain { image, uses })
+}
+
+// The image of an accepted program with these effects of its templates. The program is given back before its code is expanded.
 fn image_with(
     alloc: Global,
-    checked: &Checked,
+    checked: Checked,
     heights: &[Option<Height>],
     extent: Extent,
 ) -> Result<Image, Memory>
-    requires stands { (P : Source) × StandsForSafe checked.now.closed P }
-    requires effects { AreEffectsIfAsked checked.now.closed heights.now }
-    ensures carried { IfOk result (λ image. (P : Source) → StandsForSafe checked.now.closed P → Carried P image) }
-    ensures rows { IfOk result (λ image. AreEffects checked.now.closed heights.now → (P : Source) → StandsForSafe checked.now.closed P → HasEffects P image) }
+    requires stands { (P : Source) × StandsForSafe checked.closed P }
+    requires effects { AreEffectsIfAsked checked.closed heights.now }
+    ensures carried { IfOk result (λ image. (P : Source) → StandsForSafe checked.closed P → Carried P image) }
+    ensures rows { IfOk result (λ image. AreEffects checked.closed heights.now → (P : Source) → StandsForSafe checked.closed P → HasEffects P image) }
 {
     safe_programs_are_not_stuck();
-    let plain = compile(alloc, &checked.closed, heights)?;
-    let uses = uses_of(alloc, checked.closed.program.words.as_slice())?;
-    expand(
-        alloc,
-        plain,
-        checked.closed.program.top,
-        uses.as_slice(),
-        extent,
-    )
+    let top = checked.closed.program.top;
+    let plain = plain_code(alloc, checked, heights)?;
+    let Plain { image, uses } = plain;
+    expand(alloc, image, top, uses.as_slice(), extent)
 }
 
 // The image of an accepted program, with the effects of all of its templates.
-fn whole_image(alloc: Global, checked: &Checked) -> Result<Image, Memory>
-    requires { (P : Source) × StandsForSafe checked.now.closed P }
-    ensures { IfOk result (λ image. (P : Source) → StandsForSafe checked.now.closed P → CarriedWhole P image) }
+fn whole_image(alloc: Global, checked: Checked) -> Result<Image, Memory>
+    requires { (P : Source) × StandsForSafe checked.closed P }
+    ensures { IfOk result (λ image. (P : Source) → StandsForSafe checked.closed P → CarriedWhole P image) }
 {
     let heights = effects(alloc, &checked.closed)?;
     image_with(alloc, checked, heights.as_slice(), Extent::All)
 }
 
 // The image of an accepted program, with the effects of its templates where a run asks for any.
-fn image_to_run(alloc: Global, checked: &Checked) -> Result<Image, Memory>
-    requires { (P : Source) × StandsForSafe checked.now.closed P }
-    ensures { IfOk result (λ image. (P : Source) → StandsForSafe checked.now.closed P → Carried P image) }
+fn image_to_run(alloc: Global, checked: Checked) -> Result<Image, Memory>
+    requires { (P : Source) × StandsForSafe checked.closed P }
+    ensures { IfOk result (λ image. (P : Source) → StandsForSafe checked.closed P → Carried P image) }
 {
     let heights = asked_effects(alloc, &checked.closed)?;
     image_with(alloc, checked, heights.as_slice(), Extent::Reached)
 }
 
 /// The image of an accepted program, which carries it and has the effects of its callables in its rows, and its bytes. Want of memory is the one error, also where the image would have more
-/// bytes than one may have.
-pub fn link(alloc: Global, checked: &Checked) -> Result<Linked, Memory>
-    requires { (P : Source) × StandsForSafe checked.now.closed P }
-    ensures { IfOk result (λ linked. IsLinked linked × ((P : Source) → StandsForSafe checked.now.closed P → CarriedWhole P linked.image)) }
+/// bytes than one may have. What the program took is given back when its image is made.
+pub fn link(alloc: Global, checked: Checked) -> Result<Linked, Memory>
+    requires { (P : Source) × StandsForSafe checked.closed P }
+    ensures { IfOk result (λ linked. IsLinked linked × ((P : Source) → StandsForSafe checked.closed P → CarriedWhole P linked.image)) }
 {
     let image = whole_image(alloc, checked)?;
     match encode(alloc, &image) {
@@ -120,10 +136,10 @@ pub fn link(alloc: Global, checked: &Checked) -> Result<Linked, Memory>
 }
 
 /// An image of an accepted program that is only run, with no bytes: its templates have no effects where the run asks for none. Want of
-/// memory is the one error, also where the image would have more bytes than one may have.
-pub fn link_to_run(alloc: Global, checked: &Checked) -> Result<Image, Memory>
-    requires { (P : Source) × StandsForSafe checked.now.closed P }
-    ensures { IfOk result (λ image. IsShort image × ((P : Source) → StandsForSafe checked.now.closed P → Carried P image)) }
+/// memory is the one error, also where the image would have more bytes than one may have. What the program took is given back.
+pub fn link_to_run(alloc: Global, checked: Checked) -> Result<Image, Memory>
+    requires { (P : Source) × StandsForSafe checked.closed P }
+    ensures { IfOk result (λ image. IsShort image × ((P : Source) → StandsForSafe checked.closed P → Carried P image)) }
 {
     let image = image_to_run(alloc, checked)?;
     match spelled_length(alloc, &image) {

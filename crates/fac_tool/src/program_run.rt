@@ -40,11 +40,11 @@ fn run_carried<S: Reader, K: Sink>(
     run_image(alloc, machine, budget, channels)
 }
 
-// A fresh machine for an accepted program.
+// A fresh machine for an accepted program, which is given back before.
 #[tactic(auto, using(crate::proofs::StopLemmas::made_fresh))]
-fn machine_of(alloc: Global, checked: &Checked) -> Result<Machine, Memory>
-    requires { (P : Source) × StandsForSafe checked.now.closed P }
-    ensures { IfOk result (λ machine. IsFresh machine × ((P : Source) → StandsForSafe checked.now.closed P → Carried P machine.image)) }
+fn machine_of(alloc: Global, checked: Checked) -> Result<Machine, Memory>
+    requires { (P : Source) × StandsForSafe checked.closed P }
+    ensures { IfOk result (λ machine. IsFresh machine × ((P : Source) → StandsForSafe checked.closed P → Carried P machine.image)) }
 {
     match link_to_run(alloc, checked) {
         Ok(image) => Machine::new(alloc, image),
@@ -52,15 +52,15 @@ fn machine_of(alloc: Global, checked: &Checked) -> Result<Machine, Memory>
     }
 }
 
-/// Compiles an accepted program and runs it over channels with this budget of ticks.
+/// Compiles an accepted program and runs it over channels with this budget of ticks. Of the program its image alone is there while it runs.
 pub fn run_program<S: Reader, K: Sink>(
     alloc: Global,
-    checked: &Checked,
+    checked: Checked,
     budget: u64,
     channels: &mut Channels<S, K>,
 ) -> Result<Ended, Ended>
-    requires { (P : Source) × StandsForSafe checked.now.closed P }
-    ensures ends { StepsEnd checked.now.closed (λ P input. run_answer P input budget) (λ P input. runs P input budget) channels.old channels.new result }
+    requires { (P : Source) × StandsForSafe checked.closed P }
+    ensures ends { StepsEnd checked.closed (λ P input. run_answer P input budget) (λ P input. runs P input budget) channels.old channels.new result }
     ensures counts { CountsStand channels.old channels.new }
 {
     match machine_of(alloc, checked) {
@@ -74,12 +74,12 @@ pub fn run_program<S: Reader, K: Sink>(
 /// Likewise, and then writes the lines of the stack where the run is done.
 pub fn run_and_list<S: Reader, K: Sink>(
     alloc: Global,
-    checked: &Checked,
+    checked: Checked,
     budget: u64,
     channels: &mut Channels<S, K>,
 ) -> Result<Ended, Ended>
-    requires { (P : Source) × StandsForSafe checked.now.closed P }
-    ensures ends { StepsEnd checked.now.closed (λ P input. stack_answer P input budget) (λ P input. runs_and_lists P input budget) channels.old channels.new result }
+    requires { (P : Source) × StandsForSafe checked.closed P }
+    ensures ends { StepsEnd checked.closed (λ P input. stack_answer P input budget) (λ P input. runs_and_lists P input budget) channels.old channels.new result }
     ensures counts { CountsStand channels.old channels.new }
 {
     match machine_of(alloc, checked) {

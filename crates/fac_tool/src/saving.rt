@@ -15,18 +15,18 @@ use fac_notes::status::{NO_MEMORY, SUCCESS};
 use std::alloc::Global;
 
 // The bytes of the image of an accepted program.
-fn image_bytes(alloc: Global, checked: &Checked) -> Result<Bytes, Memory>
-    requires { (P : Source) × StandsForSafe checked.now.closed P }
-    ensures { IfOk result (λ bytes. (P : Source) → StandsForSafe checked.now.closed P → CarriesSaved P bytes) }
+fn image_bytes(alloc: Global, checked: Checked) -> Result<Bytes, Memory>
+    requires { (P : Source) × StandsForSafe checked.closed P }
+    ensures { IfOk result (λ bytes. (P : Source) → StandsForSafe checked.closed P → CarriesSaved P bytes) }
 {
     let linked = link(alloc, checked)?;
     Ok(linked.bytes)
 }
 
 /// Saves the image of an accepted program under a name.
-pub fn save_image<F: Files>(alloc: Global, checked: &Checked, name: &str, files: &mut F) -> Ended
-    requires { (P : Source) × StandsForSafe checked.now.closed P }
-    ensures saves { (P : Source) → StandsForSafe checked.now.closed P → Saves P name.now (files_seen F.held F.asked F.faults files.old files.new) result }
+pub fn save_image<F: Files>(alloc: Global, checked: Checked, name: &str, files: &mut F) -> Ended
+    requires { (P : Source) × StandsForSafe checked.closed P }
+    ensures saves { (P : Source) → StandsForSafe checked.closed P → Saves P name.now (files_seen F.held F.asked F.faults files.old files.new) result }
     ensures count { F.faults files.old ≤ F.faults files.new }
 {
     let Ok(bytes) = image_bytes(alloc, checked) else {

@@ -41,17 +41,17 @@ enum Task {
 fn carry_out<S: Reader, K: Sink>(
     alloc: Global,
     task: Task,
-    accepted: &Accepted,
+    accepted: Accepted,
     channels: &mut Channels<S, K>,
 ) -> Result<Ended, Ended>
-    requires { (P : Source) × StandsForSafe accepted.now.checked.closed P }
-    ensures ends { StepsEnd accepted.now.checked.closed ((task_seen task).answer accepted.now.definitions) (task_seen task).work channels.old channels.new result }
+    requires { (P : Source) × StandsForSafe accepted.checked.closed P }
+    ensures ends { StepsEnd accepted.checked.closed ((task_seen task).answer accepted.definitions) (task_seen task).work channels.old channels.new result }
     ensures counts { CountsStand channels.old channels.new }
 {
     match task {
         Task::Check => Ok(tell_checked(alloc, accepted.definitions, channels)),
-        Task::Run(budget) => run_program(alloc, &accepted.checked, budget, channels),
-        Task::RunStack(budget) => run_and_list(alloc, &accepted.checked, budget, channels),
+        Task::Run(budget) => run_program(alloc, accepted.checked, budget, channels),
+        Task::RunStack(budget) => run_and_list(alloc, accepted.checked, budget, channels),
     }
 }
 
@@ -71,7 +71,7 @@ fn steps<F: Files, S: Reader, K: Sink>(
     resolved_programs_are_whole();
     let texts = load_all(alloc, names, files)?;
     let accepted = accepted_program(alloc, texts)?;
-    carry_out(alloc, task, &accepted, channels)
+    carry_out(alloc, task, accepted, channels)
 }
 
 // The steps of `build` on the sources of these names, whose image has this one.
@@ -89,7 +89,7 @@ fn build_steps<F: Files>(
     resolved_programs_are_whole();
     let texts = load_all(alloc, names, files)?;
     let accepted = accepted_program(alloc, texts)?;
-    Ok(save_image(alloc, &accepted.checked, image, files))
+    Ok(save_image(alloc, accepted.checked, image, files))
 }
 
 // The steps of `exec` on the image of this name.
@@ -105,7 +105,7 @@ fn execute_steps<F: Files, S: Reader, K: Sink>(
     ensures ending { ReachesBy (on_image name.now (executed budget)) (files_seen F.held F.asked F.faults files.old files.new) (input_seen channels.old channels.new) (output_seen channels.old channels.new) (ended_by result) }
 {
     let bytes = load_one(alloc, name, MOST_IMAGE_BYTES, files)?;
-    Ok(execute(alloc, bytes.as_slice(), budget, channels))
+    Ok(execute(alloc, bytes, budget, channels))
 }
 
 // The steps of `list` on the image of this name.

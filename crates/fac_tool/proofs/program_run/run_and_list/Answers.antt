@@ -10,7 +10,7 @@ pub returns-in-Ok-clause-ends : goal.returns-in-Ok-clause-ends
 returns-in-Ok-clause-ends g c =
     let ran = c.run_carried-ended in
     let listed = c.list_stack in
-    lists_on c.args.checked.now.closed c.args.budget c.args.channels.now ran.new.channels listed.new.channels ran.result listed.result listed.ensures.unread ran.ensures.counts
+    lists_on c.args.checked.closed c.args.budget c.args.channels.now ran.new.channels listed.new.channels ran.result listed.result listed.ensures.unread ran.ensures.counts
     (onward (λ input left h P stands. h P (c.in-Ok.ensures.1 P stands)) ran.ensures.ends) listed.ensures.lists
 
 pub returns-in-Err-clause-ends : goal.returns-in-Err-clause-ends

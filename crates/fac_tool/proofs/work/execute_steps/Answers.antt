@@ -1,3 +1,4 @@
+use Rattle.std.proofs.Common.{refl}
 use Rattle.fac_tool.specs.Executed.{executed}
 use Rattle.fac_tool.specs.Plans.{on_image}
 use Rattle.fac_tool.proofs.Composing.{reaches_no_texts, reaches_image}
@@ -9,4 +10,4 @@ returns-in_err-bytes-clause-ending g c =
 
 pub returns-clause-ending : goal.returns-clause-ending
 returns-clause-ending g c =
-    reaches_image c.args.name.now (executed c.args.budget) _ c.in_ok-bytes.bytes c.as_slice.result.now _ _ c.execute.result c.as_slice.ensures c.in_ok-bytes.ensures.loads c.execute.ensures.ends
+    reaches_image c.args.name.now (executed c.args.budget) _ c.in_ok-bytes.bytes c.in_ok-bytes.bytes _ _ c.execute.result refl c.in_ok-bytes.ensures.loads c.execute.ensures.ends
