@@ -1,12 +1,13 @@
 #!/usr/bin/env python3
 """Runs programs made at random with every budget, from the source and from the image, beside the model of the language in bench/model.py.
 
-    python3 bench/budgets.py [PROGRAM] [--programs N] [--seed S] [--jobs J]
+    python3 bench/budgets.py [PROGRAM] [--programs N] [--most-ticks N] [--kinds NAME,NAME,..] [--seed S] [--jobs J]
 
 PROGRAM is the built program, by default crates/factorc/out/factorc. Of the kinds of bench/compare.py, those that make runs, it makes programs
-until N of them, 2,000 by default, end by themselves within 60 ticks. Each is built into an image, and run by `run` and by `exec` with every budget
-from no tick to one more than it takes. Status, output and note have to be the model's each time. The same seed S, 1 by default, gives the same
-programs. J processes share the work, as many as there are processors by default.
+until so many of them, 2,000 by default, end by themselves within the most ticks, 60 by default. Each is built into an image, and run by `run` and
+by `exec` with every budget from no tick to one more than it takes. Status, output and note have to be the model's each time. `--kinds` names the
+kinds that are wanted. The same seed S, 1 by default, gives the same programs. J processes share the work, as many as there are processors by
+default.
 
 It ends with status 1 where an answer differs, or a run takes too long or is ended by a signal, and keeps the files of each such case in a folder.
 """
@@ -25,10 +26,11 @@ from kinds import Case, run_of
 MOST_TICKS = 60
 
 
-def cases_of(seed):
-    """Runs of programs made at random, one kind after the other by its share."""
+def cases_of(seed, names):
+    """Runs of programs made at random, one kind after the other by its share: of the kinds of these names, or of all where it is None."""
     chance = random.Random(f"budgets {seed}")
-    kinds, shares = zip(*((kind, share) for kind, share, needs in compare.ALL_KINDS if model.BUILT.issuperset(needs)))
+    built = [(kind, share) for kind, share, needs in compare.ALL_KINDS if model.BUILT.issuperset(needs)]
+    kinds, shares = zip(*((kind, share) for kind, share in built if names is None or kind.__name__ in names))
     while True:
         made = chance.choices(kinds, shares)[0](chance)
         yield made if isinstance(made, Case) else run_of(made)
@@ -36,18 +38,18 @@ def cases_of(seed):
 
 def compared(part):
     """Compares so many programs of a seed, and tells how many runs that took and what differed."""
-    program, seed, wanted = part
+    program, seed, wanted, most_ticks, names = part
     runs, programs, failed = 0, 0, []
     with tempfile.TemporaryDirectory() as folder:
         comparison = compare.Comparison(program, folder, seed)
-        for case in cases_of(seed):
+        for case in cases_of(seed, names):
             if programs == wanted or len(failed) >= compare.MOST_FAILURES:
                 break
             command = model.read_words(case.words)
             if command is None or command.name != "run":
                 continue
             try:
-                whole = model.answer(case.words, case.files, MOST_TICKS, case.given)
+                whole = model.answer(case.words, case.files, most_ticks, case.given)
             except model.Stuck:
                 continue
             if whole.status not in (model.DONE, model.ERROR):
@@ -74,11 +76,14 @@ def main():
     words = argparse.ArgumentParser(usage=__doc__)
     words.add_argument("program", nargs="?", default=speed.DEFAULT)
     words.add_argument("--programs", type=int, default=2_000)
+    words.add_argument("--most-ticks", type=int, default=MOST_TICKS)
+    words.add_argument("--kinds", type=lambda names: names.split(","))
     words.add_argument("--seed", type=int, default=1)
     words.add_argument("--jobs", type=int, default=os.cpu_count())
     given = words.parse_args()
     program = speed.built(given.program)
-    parts = [(program, f"{given.seed} {job}", (given.programs + job) // given.jobs) for job in range(given.jobs)]
+    shares = [(given.programs + job) // given.jobs for job in range(given.jobs)]
+    parts = [(program, f"{given.seed} {job}", share, given.most_ticks, given.kinds) for job, share in enumerate(shares)]
     with multiprocessing.Pool(given.jobs) as pool:
         ended = pool.map(compared, parts)
     print(f"{sum(part[0] for part in ended)} programs, {sum(part[1] for part in ended)} runs with every budget")
