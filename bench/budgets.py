@@ -12,6 +12,7 @@ default.
 It ends with status 1 where an answer differs, or a run takes too long or is ended by a signal, and keeps the files of each such case in a folder.
 """
 import argparse
+import io
 import multiprocessing
 import os
 import random
@@ -26,11 +27,11 @@ from kinds import Case, run_of
 MOST_TICKS = 60
 
 
-def cases_of(seed, names):
-    """Runs of programs made at random, one kind after the other by its share: of the kinds of these names, or of all where it is None."""
+def cases_of(seed, wanted):
+    """Runs of programs made at random, one kind after the other by its share: of the kinds of these names, or of all where they are None."""
     chance = random.Random(f"budgets {seed}")
     built = [(kind, share) for kind, share, needs in compare.ALL_KINDS if model.BUILT.issuperset(needs)]
-    kinds, shares = zip(*((kind, share) for kind, share in built if names is None or kind.__name__ in names))
+    kinds, shares = zip(*((kind, share) for kind, share in built if wanted is None or kind.__name__ in wanted))
     while True:
         made = chance.choices(kinds, shares)[0](chance)
         yield made if isinstance(made, Case) else run_of(made)
@@ -38,11 +39,11 @@ def cases_of(seed, names):
 
 def compared(part):
     """Compares so many programs of a seed, and tells how many runs that took and what differed."""
-    program, seed, wanted, most_ticks, names = part
+    program, seed, wanted, most_ticks, kinds = part
     runs, programs, failed = 0, 0, []
     with tempfile.TemporaryDirectory() as folder:
         comparison = compare.Comparison(program, folder, seed)
-        for case in cases_of(seed, names):
+        for case in cases_of(seed, kinds):
             if programs == wanted or len(failed) >= compare.MOST_FAILURES:
                 break
             command = model.read_words(case.words)
@@ -60,9 +61,10 @@ def compared(part):
             if built[0]:
                 failed.append(f"{comparison.keep(case, f'{seed}-{programs}')}: isn't built: {compare.shortened(built)}")
                 continue
+            names, _ = model.program_of(command.files, model.sources_of(command.files, case.files))
             for ticks in range(whole.ticks + 2):
                 limited = compare.with_budget(case, command, ticks)
-                answer = model.answer(limited.words, limited.files, given=limited.given)
+                answer = model.answer_of_run(names.top, ticks, io.BytesIO(case.given))
                 for one in (limited, Case(["exec", "--steps", str(ticks), "image"], {}, case.given)):
                     runs += 1
                     told = comparison.difference(one, answer)

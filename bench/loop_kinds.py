@@ -86,6 +86,10 @@ GOING_BACK = [
 IN_THE_MIDST = [
     own(COUNTING, "over 0 > [ dup 2dip [ 1 - ] dip counted 1 + ] [ 2drop 0 ] if", "N Q counted", 1),
     own("n q: ( -- ) -- m", "n 0 > [ n 1 - q added q call n + ] [ 0 ] if", "N F00 added", 1, head="::"),
+    own(COUNTING, "over 0 > [ [ 1 - ] dip [ counted-first ] keep drop 1 + ] [ 2drop 0 ] if", "N Q counted-first", 1),
+    own(COUNTING, "over even? [ over 0 > [ dup 2dip [ 1 - ] dip of-odd 1 + ] [ 2drop 0 ] if ] [ [ 1 - ] dip of-odd ] if", "N Q of-odd", 1),
+    own(COUNTING, "over 0 > [ dup 2dip over 1 = [ [ 1 - ] dip met 1 + ] [ [ 2 - ] dip met 2 + ] if 1 + ] [ 2drop 0 ] if", "N Q met", 1),
+    own(COUNTING, "over 0 > [ dup 2dip dup [ [ 1 - ] dip summed ] dip drop 1 + ] [ 2drop 0 ] if", "N Q summed", 1),
     own(COUNTING, "over 0 > [ over [ dup 2dip [ 1 - ] dip under ] dip + ] [ 2drop 0 ] if", "N Q under", 1),
     own(COUNTING, "over 0 > [ over dup 5 [ 2drop ] 2curry drop [ dup 2dip [ 1 - ] dip cells ] dip + ] [ 2drop 0 ] if", "N Q cells", 1),
     own(ONE, "over 0 > [ [ 1 - ] dip [ behind ] 2keep nip call ] [ 2drop ] if", "N Q behind"),
@@ -194,6 +198,7 @@ class Looper(Weaver):
         self.tells = tells
         self.most_items = chance.choice([6, 12, 12, 25, 60])
         self.loops = 0
+        self.in_method = False
 
     def item(self, stack, depth):
         """One item or a few that belong together, on values of these sorts."""
@@ -202,6 +207,8 @@ class Looper(Weaver):
             return self.failing(stack)
         if happens(chance, self.tells) and stack[-1:] == [NUMBER]:
             return chance.choice(TELLING).split(" ")
+        if self.in_method and happens(chance, 0.1) and stack[-1:] == [NUMBER]:
+            return ["call-next-method"]
         makes = [self.number, self.named, self.compute, self.compute, self.move, self.bind, self.apply, self.hole, self.use]
         if depth:
             makes += [self.push_quotation, self.push_fry, self.choose, self.cases, *[self.turn] * 8, self.kept_below]
@@ -210,6 +217,31 @@ class Looper(Weaver):
             if tokens:
                 return tokens
         return self.number(stack, depth)
+
+    def inside(self, inputs, outputs, depth, named=()):
+        """The items of a quotation that takes so many integers and leaves so many. The last one may be a loop."""
+        tokens = super().inside(inputs, outputs, depth, named)
+        if happens(self.chance, 0.3) and self.size < self.most_items:
+            tokens += self.last_turn(outputs, depth - 1)
+        return tokens
+
+    def last_turn(self, outputs, depth):
+        """A use of a row word behind which there are as many integers as before, or nothing."""
+        for _ in range(5):
+            stack = [NUMBER] * outputs
+            tokens = self.turn(stack, depth)
+            if len(stack) == outputs:
+                return tokens
+        return []
+
+    def ending(self, name):
+        """The definition of an ordinary or an expanded word whose last item is a loop."""
+        self.scope, self.binds = [], False
+        inputs = [NUMBER] * self.chance.choice([0, 1, 2])
+        stack = list(inputs)
+        body = self.text(stack, self.chance.choice([0, 1, 2]), 2) + self.settled(stack, 1) + self.last_turn(1, 3)
+        self.words.append((name, inputs, [NUMBER]))
+        return f": {name} ( {' '.join('ab'[: len(inputs)])} -- x ) {' '.join(body)} ; {self.chance.choice(['', '', 'inline'])}"
 
     def failing(self, stack):
         """An item that fails, or may fail, on the integer on top, in the branch of an `if` or not."""
@@ -246,6 +278,8 @@ class Looper(Weaver):
         self.loops -= 1
         if word.left < 0 and row == 0:
             return []
+        if happens(self.chance, 0.04) and tokens[-1][0].islower() and tokens[-1] not in ("drop", "length", "sum", "each"):
+            tokens[-1:] = ["\\", tokens[-1], "execute"]
         stack += [NUMBER] * max(0, word.left)
         return tokens
 
@@ -349,7 +383,9 @@ class Looper(Weaver):
 
     def method(self, number):
         """A generic word with a method on integers that may have loops, and one on other values."""
+        self.in_method = True
         body = self.inside(1, 1, 3)
+        self.in_method = False
         self.words.append((f"g{number}", [NUMBER], [NUMBER]))
         return f"GENERIC: g{number} ( x -- y ) M: object g{number} drop 0 ; M: integer g{number} {' '.join(body)} ;"
 
@@ -359,7 +395,9 @@ class Looper(Weaver):
         texts = [": same ( q -- q ) ; inline", *[word.text for word in self.own_words]]
         for number in range(1, chance.choice([1, 1, 1, 2, 3])):
             self.size = 0
-            texts.append(self.method(number) if happens(chance, 0.25) else self.definition(f"w{number}"))
+            share = chance.random()
+            name = f"w{number}"
+            texts.append(self.method(number) if share < 0.25 else self.ending(name) if share < 0.6 else self.definition(name))
         stack, self.size = [], 0
         tokens = []
         while not tokens or happens(chance, 0.4):
@@ -393,7 +431,7 @@ def loops(chance):
 def own_loops(chance):
     """Aims at row words of a program's own, which go back to their beginning or call themselves in their midst, in one another and in the
     prelude's loops."""
-    words = chance.sample(GOING_BACK + IN_THE_MIDST + HANDING_ON, chance.choice([1, 1, 2, 3]))
+    words = [chance.choice(chance.choice([GOING_BACK, IN_THE_MIDST, HANDING_ON])) for _ in range(chance.choice([1, 1, 2, 3]))]
     return loop_case(chance, Looper(chance, with_those_needed(words)))
 
 
@@ -411,14 +449,19 @@ def failing_loops(chance):
 
 LOOP_TOKENS = """
     dup drop swap over rot -rot pick nip 2drop 2dup call dip keep 2dip 3dip if when times each map loop while until compose curry + - 0 1 2 f t
-    n p q dup drop swap over call dip inline recursive
+    n p q dup drop swap over call dip
     """.split()
+
+
+# What stays where it is, so that a text is read at all.
+BRACKETS = ": :: ; [ ] [| '[ | { } ( ) -- inline recursive GENERIC: M: _ @ :> \\".split()
 
 
 def with_tokens_moved(chance, text):
     """A text in which a token of a loop is taken away, doubled, put in or replaced, or two that stand near one another are exchanged."""
     tokens = text.split(" ")
-    place = chance.randrange(len(HEAD.split(" ")) + 5, len(tokens))
+    places = [place for place, token in enumerate(tokens[:-1]) if place > len(LOOP_HEAD.split(" ")) and token not in BRACKETS]
+    place = chance.choice(places)
     share = chance.random()
     if share < 0.2:
         tokens.pop(place)
@@ -429,7 +472,7 @@ def with_tokens_moved(chance, text):
     elif share < 0.8:
         tokens[place] = chance.choice(LOOP_TOKENS)
     else:
-        other = min(len(tokens) - 1, place + chance.choice([1, 1, 2, 5]))
+        other = chance.choice(places[places.index(place) :][:5])
         tokens[place], tokens[other] = tokens[other], tokens[place]
     return " ".join(tokens)
 
