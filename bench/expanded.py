@@ -46,7 +46,10 @@ WORDS = [
 
 TURNED = ": turned ( ..a n q: ( ..a -- ..a ) -- ..a ) over 0 > [ dup 2dip [ 1 - ] dip turned ] [ 2drop ] if ; inline recursive "
 COUNTED = ": counted ( ..a n q: ( ..a -- ..a ) -- ..a m ) over 0 > [ dup 2dip [ 1 - ] dip counted 1 + ] [ 2drop 0 ] if ; inline recursive "
-BOTH = ": both ( ..a n p: ( ..a -- ..a ) q: ( ..a -- ..a ) -- ..a ) pick 0 > [ dup 3dip over 3dip [ 1 - ] 2dip both ] [ 3drop ] if ; inline recursive "
+BOTH = (
+    ": both ( ..a n p: ( ..a -- ..a ) q: ( ..a -- ..a ) -- ..a ) "
+    "pick 0 > [ dup 3dip over 3dip [ 1 - ] 2dip both ] [ 3drop ] if ; inline recursive "
+)
 SWAPPED = ": swapped ( n p q -- ) rot dup 0 > [ 1 - -rot swap swapped ] [ 3drop ] if ; inline recursive "
 NAMED = ":: named ( ..a n q: ( ..a -- ..a ) -- ..a ) n 0 > [ q call n 1 - q named ] [ ] if ; inline recursive "
 

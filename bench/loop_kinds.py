@@ -4,7 +4,7 @@ that are known there and at others. Each makes one case, or the source of a run,
 from dataclasses import dataclass
 
 from input_kinds import some_input
-from kinds import FILE, Case, apart, happens, run_of, with_a_token_changed, within
+from kinds import FILE, Case, apart, happens, with_a_token_changed, within
 from local_kinds import HEAD, NUMBER, Weaver
 
 # The most ticks of a run.
