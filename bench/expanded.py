@@ -1,14 +1,20 @@
 #!/usr/bin/env python3
-"""Looks at the code that factorc makes of words whose quotations are applied at once.
+"""Looks at the code that factorc makes of words whose quotations are applied at once, and of loops.
 
     python3 bench/expanded.py [PROGRAM]
 
 PROGRAM is the built program, by default crates/factorc/out/factorc. Each word below is built into an image, and its code is that from its
-entry to the next entry of a word or a method, or to the end. Where the word is direct, which is that each of its quotations stands directly
-before the `call`, `dip` or `if` that takes it, its code has none of the instructions `quot`, `fry`, `call`, `dip` and `if`, and each `jump`,
-`branch` and `callp` in it goes to an instruction of the same code. The others have quotations that go through words and shuffles, or are
-made; what is in their code is told beside them. Sixty words, each of which runs the one before twice, are compiled within a second. The
-script ends with status 1 where that isn't so.
+entry to the next entry of a word or a method, or to the end; that of the top-level phrase is from the start to the end. Where the word is
+direct, which is that each of its quotations stands directly before the `call`, `dip` or `if` that takes it, its code has none of the
+instructions `quot`, `fry`, `call`, `dip` and `if`, and each `jump`, `branch` and `callp` in it goes to an instruction of the same code. The
+others have quotations that go through words and shuffles, or are made; what is in their code is told beside them.
+
+A loop is a use of a row word that calls itself. At quotations that are known there it has code of its own, to the beginning of which a `callp`
+that is a tail call goes back, and calls no row word; the code ends with such a way back for each loop whose own call comes last. At a
+quotation that is made the row word is called by `callw`.
+
+Sixty words, each of which runs the one before twice, are compiled within a second, and so are sixty loops in one another, and thirty uses in
+one another of row words that run their quotation twice. The script ends with status 1 where that isn't so.
 """
 import pathlib
 import resource
@@ -36,43 +42,134 @@ WORDS = [
     (":: w ( a b -- c ) a b > [ a ] [ b ] if ; 5 6 w .", APPLY, {"branch", "local"}),
     (": w ( x -- y ) { { [ dup 1 < ] [ drop 0 ] } { [ dup 2 < ] [ drop 10 ] } [ drop 20 ] } cond ; 1 w .", APPLY, {"branch"}),
     (": w ( -- q n ) [ 1 ] 5 ; w . drop", {"call", "dip", "if"}, {"quot"}),
-    (": w ( seq -- seq ) [ 2 * ] map ; { 1 2 } w .", {"call", "dip", "if"}, {"quot"}),
+]
+
+TURNED = ": turned ( ..a n q: ( ..a -- ..a ) -- ..a ) over 0 > [ dup 2dip [ 1 - ] dip turned ] [ 2drop ] if ; inline recursive "
+COUNTED = ": counted ( ..a n q: ( ..a -- ..a ) -- ..a m ) over 0 > [ dup 2dip [ 1 - ] dip counted 1 + ] [ 2drop 0 ] if ; inline recursive "
+BOTH = (
+    ": both ( ..a n p: ( ..a -- ..a ) q: ( ..a -- ..a ) -- ..a ) "
+    "pick 0 > [ dup 3dip over 3dip [ 1 - ] 2dip both ] [ 3drop ] if ; inline recursive "
+)
+SWAPPED = ": swapped ( n p q -- ) rot dup 0 > [ 1 - -rot swap swapped ] [ 3drop ] if ; inline recursive "
+NAMED = ":: named ( ..a n q: ( ..a -- ..a ) -- ..a ) n 0 > [ q call n 1 - q named ] [ ] if ; inline recursive "
+
+# Code with loops at quotations that are known: how many ways back it has that are tail calls, and how many that are none.
+LOOPS = [
+    ("{ 1 2 3 } [ . ] each", None, 1, 0),
+    (": w ( n -- n ) [ 1 - dup 0 > ] loop ; 3 w .", "w", 1, 0),
+    (": w ( n -- n ) [ dup 0 > ] [ 1 - ] while ; 3 w .", "w", 1, 0),
+    (": w ( n -- n ) [ dup 0 = ] [ 1 - ] until ; 3 w .", "w", 1, 0),
+    (": w ( x -- y ) 5 [ 2 * ] times ; 3 w .", "w", 1, 0),
+    (": w ( seq -- seq ) [ 2 * ] map ; { 1 2 } w .", "w", 1, 0),
+    (": w ( seq -- seq ) [ 2 > ] filter ; { 1 2 } w .", "w", 1, 0),
+    (": w ( seq -- n ) 0 [ + ] reduce ; { 1 2 } w .", "w", 1, 0),
+    (":: w ( seq n -- seq ) seq [ n * ] map ; { 1 2 } 3 w .", "w", 1, 0),
+    (": w ( seq -- seq ) [ 2 * ] map [ 1 + ] map ; { 1 2 } w .", "w", 2, 0),
+    (": w ( x -- y ) 5 [ 4 [ 3 [ 1 + ] times ] times ] times ; 3 w .", "w", 3, 0),
+    (": w ( x ? -- y ) [ 5 [ 1 + ] times ] [ 4 [ 2 * ] times ] if 3 + ; 3 t w .", "w", 2, 0),
+    (TURNED + ": w ( x -- y ) 5 [ 2 * ] turned ; 3 w .", "w", 1, 0),
+    (TURNED + ": w ( x y -- y x ) [ 5 [ 2 * ] turned ] dip swap ; 3 4 w . .", "w", 1, 0),
+    (BOTH + ": w ( x -- y ) 5 [ 2 * ] [ 1 + ] both ; 3 w .", "w", 1, 0),
+    (SWAPPED + ": w ( -- ) 5 [ 2 * ] [ 1 + ] swapped ; w", "w", 1, 0),
+    (COUNTED + ": w ( x -- y n ) 5 [ 2 * ] counted ; 3 w . .", "w", 0, 1),
+]
+
+# Words in whose code a row word is called, since a quotation is made: the names of those that are called.
+CALLS = [
+    (": w ( x n -- y q ) [ 2 * ] dup [ times ] dip ; 3 4 w drop .", {"(each-integer)"}),
+    (": w ( x n -- y ) [ 2 * ] dup . times ; 3 4 w .", {"(each-integer)"}),
+    (TURNED + ": w ( x n -- y ) [ 2 * ] dup . turned ; 3 4 w .", {"turned"}),
+    (TURNED + ": w ( x n m -- y ) '[ _ * ] turned ; 3 4 5 w .", {"turned"}),
+    (NAMED + ": w ( x n -- y ) [ 2 * ] named ; 3 4 w .", {"named"}),
 ]
 
 
-def code_of(program, folder, source, word):
-    """The instructions of a word of this source, with their places."""
+def image_of(program, folder, source):
+    """The image of this source."""
     (folder / "a").write_text(HEAD + source + "\n")
     subprocess.run([program, "build", "a", "-o", "i"], cwd=folder, check=True)
-    image = image_model.decode((folder / "i").read_bytes())
+    return image_model.decode((folder / "i").read_bytes())
+
+
+def code_of(program, folder, source, word):
+    """The instructions of a word of this source, or those of its top-level phrase where it is None, with their places; and the names of the
+    words that they call."""
+    image = image_of(program, folder, source)
     entries = {row[2][1]: row for row in image.words if isinstance(row[2], tuple) and row[2][0] == image_model.CODE}
-    entry = next(at for at, row in entries.items() if image.texts[row[1]] == word)
-    later = [at for at in entries if at > entry]
-    return list(enumerate(image.code))[entry : min(later, default=len(image.code))]
+    if word is None:
+        entry, later = image.start, []
+    else:
+        entry = next(at for at, row in entries.items() if image.texts[row[1]] == word)
+        later = [at for at in entries if at > entry]
+    code = list(enumerate(image.code))[entry : min(later, default=len(image.code))]
+    return code, {image.texts[image.words[instr[1]][1]] for _, instr in code if NAME_OF[instr[0]] == "callw"}
+
+
+def leaving(code):
+    """What in this code goes to an instruction of other code."""
+    places = {place for place, _ in code}
+    return {NAME_OF[instr[0]] for _, instr in code if NAME_OF[instr[0]] in ("jump", "branch", "callp") and instr[1] not in places}
+
+
+def ways_back(code, tail):
+    """How many places of this code are gone back to from behind, by tail calls or by others."""
+    return len({instr[1] for place, instr in code if NAME_OF[instr[0]] == "callp" and instr[1] <= place and bool(instr[2]) == tail})
+
+
+def tell(source, code, wrong):
+    """Tells of a word whether its code is as it is to be, and whether it isn't."""
+    print("WRONG" if wrong else "as it is to be", len(code), "instructions:", source, *sorted(map(str, wrong)))
+    return bool(wrong)
+
+
+def wrong_words(program, folder):
+    """Whether a word has other code than it is to have."""
+    failed = False
+    for source, without, having in WORDS:
+        code, _ = code_of(program, folder, source, "w")
+        names = {NAME_OF[instr[0]] for _, instr in code}
+        failed |= tell(source, code, (names & without) | (having - names) | leaving(code))
+    for source, word, last, others in LOOPS:
+        code, called = code_of(program, folder, source, word)
+        names = {NAME_OF[instr[0]] for _, instr in code}
+        wrong = (names & APPLY) | (called - {"w"}) | leaving(code)
+        wrong |= {f"{ways_back(code, True)} ways back"} if ways_back(code, True) != last else set()
+        wrong |= {f"{ways_back(code, False)} calls back"} if ways_back(code, False) != others else set()
+        failed |= tell(source, code, wrong)
+    for source, calls in CALLS:
+        code, called = code_of(program, folder, source, "w")
+        failed |= tell(source, code, leaving(code) | (calls ^ called))
+    return failed
+
+
+def long_ones():
+    """Sources that grow when they are expanded, each with what is told of it, and the most instructions that it may have."""
+    steps = ": w0 ( x -- y ) 1 + ; inline " + " ".join(f": w{k} ( x -- y ) [ w{k - 1} ] [ w{k - 1} ] bi + ; inline" for k in range(1, 9))
+    nested = ": a0 ( x -- y ) 1 + ; " + " ".join(f": a{k} ( x -- y ) [ a{k - 1} ] [ 1 + ] bi + ;" for k in range(1, 61))
+    yield "twice in one another", steps + " 1 w8 .", 100_000
+    yield "sixty uses of `bi`", nested + " 1 a60 .", 100_000
+    for count in (4, 60):
+        yield f"{count} `times` in one another", f": w ( x -- y ) {'1 [ ' * count} 1 + {'] times ' * count} ; 0 w .", 10_000
+    uses = ("( ..a q: ( ..a -- ..a ) -- ..a ) dup dip call ; inline", "")
+    turns = ("( ..a n q: ( ..a -- ..a ) -- ..a ) over 0 > [ dup 2dip dup 2dip [ 1 - ] dip twice ] [ 2drop ] if ; inline recursive", "1 ")
+    for text, count in (uses, turns):
+        source = f": twice {text} : w ( x -- y ) {f'{count}[ ' * 30} 1 + {'] twice ' * 30} ; 0 drop"
+        yield f"thirty uses in one another of a row word that runs its quotation twice{', and calls itself' if count else ''}", source, 200_000
 
 
 def main():
     program = str(pathlib.Path(sys.argv[1] if len(sys.argv) > 1 else speed.DEFAULT).resolve())
-    failed = False
     with tempfile.TemporaryDirectory() as name:
         folder = pathlib.Path(name)
-        for source, without, having in WORDS:
-            code = code_of(program, folder, source, "w")
-            names = {NAME_OF[instr[0]] for _, instr in code}
-            places = {place for place, _ in code}
-            wrong = (names & without) | (having - names)
-            wrong |= {NAME_OF[instr[0]] for _, instr in code if NAME_OF[instr[0]] in ("jump", "branch", "callp") and instr[1] not in places}
-            print("WRONG" if wrong else "as it is to be", len(code), "instructions:", source, *sorted(wrong))
-            failed |= bool(wrong)
-        steps = ": w0 ( x -- y ) 1 + ; inline " + " ".join(f": w{k} ( x -- y ) [ w{k - 1} ] [ w{k - 1} ] bi + ; inline" for k in range(1, 9))
-        nested = ": a0 ( x -- y ) 1 + ; " + " ".join(f": a{k} ( x -- y ) [ a{k - 1} ] [ 1 + ] bi + ;" for k in range(1, 61))
-        for about, source in (("twice in one another", steps + " 1 w8 ."), ("sixty uses of `bi`", nested + " 1 a60 .")):
-            (folder / "a").write_text(HEAD + source + "\n")
+        failed = wrong_words(program, folder)
+        for about, source, most in long_ones():
             before = resource.getrusage(resource.RUSAGE_CHILDREN).ru_utime
-            subprocess.run([program, "build", "a", "-o", "i"], cwd=folder, check=True)
+            image = image_of(program, folder, source)
             taken = resource.getrusage(resource.RUSAGE_CHILDREN).ru_utime - before
-            print(f"{about}: {taken:.3f} s, {len(image_model.decode((folder / 'i').read_bytes()).code)} instructions")
-            failed |= taken > 1.0
+            code, called = code_of(program, folder, source, "w") if ": w (" in source else ([], set())
+            back = f", {len(code)} of them of the word, which has {ways_back(code, True)} ways back and calls {sorted(called)}" if code else ""
+            print(f"{about}: {taken:.3f} s, {len(image.code)} instructions{back}")
+            failed |= taken > 1.0 or len(image.code) > most
     return 1 if failed else 0
 
 

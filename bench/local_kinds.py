@@ -29,7 +29,12 @@ class Weaver:
     is the pair of how many integers it takes and how many it leaves.
 
     `scope` has the names of the locals in scope with what they are, the last one first found. `holes` has for each open fry what is left
-    of the values that it took, the deepest first; None stands for an array, in which there are none."""
+    of the values that it took, the deepest first; None stands for an array, in which there are none. `names` and `input_names` are those
+    that locals have. Texts with more items than `most_items` get no more quotations."""
+
+    names = NAMES
+    input_names = NAMES_OF_INPUTS
+    most_items = 120
 
     def __init__(self, chance):
         self.chance = chance
@@ -52,7 +57,7 @@ class Weaver:
         tokens = []
         for _ in range(count):
             self.size += 1
-            tokens += self.item(stack, depth if self.size < 120 else 0)
+            tokens += self.item(stack, depth if self.size < self.most_items else 0)
         return tokens
 
     def item(self, stack, depth):
@@ -101,7 +106,7 @@ class Weaver:
         """`:>` with any name."""
         if not self.binds or not stack or len(self.scope) > 40:
             return []
-        name = self.chance.choice(NAMES)
+        name = self.chance.choice(self.names)
         self.scope.append((name, stack.pop()))
         return [":>", name]
 
@@ -177,7 +182,7 @@ class Weaver:
     def quotation(self, inputs, outputs, depth):
         """A quotation that takes so many integers and leaves so many; some bind their inputs."""
         if happens(self.chance, 0.4):
-            names = [self.chance.choice(NAMES) for _ in range(inputs)]
+            names = [self.chance.choice(self.names) for _ in range(inputs)]
             if len(set(names)) == inputs:
                 body = self.inside(inputs, outputs, depth, names)
                 if inputs or happens(self.chance, 0.5):
@@ -257,7 +262,7 @@ class Weaver:
         inline = happens(self.chance, 0.4)
         if inline and happens(self.chance, 0.7):
             inputs.append(self.chance.choice([(0, 1), (1, 1), (2, 1)]))
-        names = [self.chance.choice(NAMES_OF_INPUTS) for _ in inputs]
+        names = [self.chance.choice(self.input_names) for _ in inputs]
         self.binds = len(set(names)) == len(names) and happens(self.chance, 0.85)
         self.scope = list(zip(names, inputs)) if self.binds else []
         stack = [] if self.binds else list(inputs)

@@ -22,5 +22,6 @@ pub mod Changing
 pub mod Advancing
 pub mod Applying
 pub mod Looping
+pub mod DroppedCells
 pub mod Passed
 pub mod Counts
