@@ -23,5 +23,6 @@ pub mod Advancing
 pub mod Applying
 pub mod Looping
 pub mod DroppedCells
+pub mod ShorterFrames
 pub mod Passed
 pub mod Counts

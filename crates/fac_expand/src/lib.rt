@@ -22,6 +22,7 @@ mod primitives;
 mod put_off;
 mod reach;
 mod running;
+mod shrinking;
 mod shuffles;
 mod steps;
 mod stopped;
