@@ -51,6 +51,10 @@ def rows():
     yield "lines that are read and dropped", "0 [ readln dup ] [ drop 1 + ] while drop .", line * lines, f"{lines}\n", 20 * MIB
     yield "strings that `append` makes", f'"" {lines} [ drop "some text " "and more of it" append ] times print', b"", "some text and more of it\n", 20 * MIB
     yield "numbers that are written as text and read again", f"0 {elements} [ number>string string>number 1 + ] times .", b"", f"{elements}\n", 10 * MIB
+    loop = f"{elements} 0 <array> [ drop ] each\n"
+    yield "arrays that loops went over, one after another", loop * 20 + "7 .", b"", "7\n", 10 * MIB + 6 * VALUE * elements
+    chain = "TUPLE: link next ; :: chain ( first n -- last ) first n [ link new [ swap next<< ] keep ] times ; "
+    yield "a chain of tuples whose first one a local had", f"{chain}link new {elements} chain drop 7 .", b"", "7\n", 10 * MIB
     few = turns(10_000)
     alive = few * (VALUE + TEXT + len(line))
     yield "lines that `suffix` collects", "{ } [ readln dup ] [ suffix ] while drop length .", line * few, f"{few}\n", 10 * MIB + 4 * alive

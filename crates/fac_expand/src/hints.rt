@@ -3,6 +3,7 @@ use crate::growing::Growing;
 use crate::known::Entry;
 use crate::put_off::{Curried, PutOff};
 use fac_base::Memory;
+use indexmap::IndexSet;
 use std::alloc::Global;
 
 /// How many items one piece of code may have. Beyond them it is left plain.
@@ -14,32 +15,84 @@ const MOST_LOOPS: u32 = 24;
 // How many parts of a callable are looked at to find the quotations in it.
 const MOST_PARTS: u32 = 64;
 
-/// Which quotations are made where they are pushed, in one piece of code.
+// A number by which a key is spread.
+const SPREAD: u64 = 0x9E37_79B9_7F4A_7C15;
+
+/// Which quotations are made where they are pushed, in one piece of code. A quotation is known by its place in the plain code, and by the places of the
+/// calls that led to the phrase in which it stands: of these a key is made, and two quotations with one key are taken for one.
 #[derive(Drop)]
 pub struct Hints {
-    /// By the number of a template, whether its quotations are made.
-    pub made: Growing<bool>,
-    /// The templates that are made.
-    pub noted: Growing<u32>,
-    /// The templates whose quotations are being run, the innermost last.
-    pub inside: Growing<u32>,
+    /// The keys of quotations that are made.
+    pub made: IndexSet<u64>,
+    /// By the numbers of callables that were put off, the keys of quotations.
+    pub keys: Growing<u64>,
+    /// The keys of quotations that are being run, the innermost last.
+    pub inside: Growing<u64>,
     /// The loops in whose code this is, by their numbers among what was put off, the innermost last.
     pub loops: Growing<u32>,
     /// The words of these loops.
     pub loop_words: Growing<u32>,
+    /// The place of the item that is done.
+    pub place: u32,
+    /// The key of the calls that led to its phrase.
+    pub calls: u64,
     /// How many items were gone over.
     pub passed: u32,
     /// Whether the piece can't be made so at all.
     pub hopeless: bool,
 }
 
+// The key of a place behind these calls.
+fn mixed(calls: u64, place: u32) -> u64 {
+    (calls.rotate_left(5) ^ (place as u64)).wrapping_mul(SPREAD)
+}
+
 impl Hints {
-    /// Whether quotations of a template are made.
-    pub fn is_made(&self, template: u32) -> bool {
-        match self.made.get(template as usize) {
-            Some(made) => *made,
-            None => false,
+    /// Nothing is known.
+    pub fn new(alloc: Global) -> Self {
+        Hints {
+            made: IndexSet::new(alloc),
+            keys: Growing::new(alloc),
+            inside: Growing::new(alloc),
+            loops: Growing::new(alloc),
+            loop_words: Growing::new(alloc),
+            place: 0,
+            calls: 0,
+            passed: 0,
+            hopeless: false,
         }
+    }
+
+    /// Whether the quotation at this place is made.
+    pub fn is_made(&self) -> bool {
+        let key = mixed(self.calls, self.place);
+        self.made.contains(&key)
+    }
+
+    /// The quotation at this place is put off, and has this number.
+    pub fn put_off(&mut self, number: usize) -> Result<(), Memory> {
+        self.keys.shorten(number);
+        for _ in self.keys.len()..number {
+            self.keys.push(0)?;
+        }
+        let key = mixed(self.calls, self.place);
+        self.keys.push(key)
+    }
+
+    /// The phrase of what is called or applied at this place begins. The calls that led here are answered, for its end.
+    pub fn enter(&mut self) -> u64 {
+        let calls = self.calls;
+        self.calls = mixed(calls, self.place);
+        calls
+    }
+
+    /// A quotation that was put off and has this number is run.
+    pub fn begin_run(&mut self, number: u32) -> Result<(), Memory> {
+        let key = match self.keys.get(number as usize) {
+            Some(key) => *key,
+            None => 0,
+        };
+        self.inside.push(key)
     }
 
     /// Counts an item. Whether it was one too many.
@@ -102,31 +155,27 @@ impl Hints {
         }
     }
 
-    /// Nothing is inside anything.
+    /// A piece is gone through from its beginning.
     pub fn begin(&mut self) {
+        self.keys.shorten(0);
         self.inside.shorten(0);
         self.loops.shorten(0);
         self.loop_words.shorten(0);
+        self.calls = 0;
     }
 
-    /// From now on quotations of this template are made.
-    pub fn note(&mut self, template: u32) -> Result<(), Memory> {
-        if self.is_made(template) {
-            return Ok(());
-        }
-        if (template as usize) < self.made.len() {
-            self.made.set(template as usize, true);
-            self.noted.push(template)?;
-        }
+    // From now on the quotation with this key is made.
+    fn note(&mut self, key: u64) -> Result<(), Memory> {
+        self.made.insert(key)?;
         Ok(())
     }
 
     /// From now on the quotation that is run is made, since what is in it can't be put off.
     pub fn note_inside(&mut self) -> Result<(), Memory> {
         match self.inside.as_slice().last() {
-            Some(template) => {
-                let template = *template;
-                self.note(template)
+            Some(key) => {
+                let key = *key;
+                self.note(key)
             }
             None => {
                 self.hopeless = true;
@@ -150,7 +199,13 @@ impl Hints {
                 None => return Ok(()),
             };
             match put_off.get(number as usize) {
-                Some(PutOff::Quotation { template, .. }) => self.note(*template)?,
+                Some(PutOff::Quotation { .. }) => match self.keys.get(number as usize) {
+                    Some(key) => {
+                        let key = *key;
+                        self.note(key)?;
+                    }
+                    None => self.hopeless = true,
+                },
                 Some(PutOff::Curry { value, callable }) => {
                     waiting.push(*callable)?;
                     match value {

@@ -50,20 +50,8 @@ fn wanted(alloc: Global, plain: &Image, extent: Extent) -> Result<Option<Reach>,
 /// What makes pieces of code from this plain image.
 pub fn make_expander(alloc: Global, plain: &Image, extent: Extent) -> Result<Expander, Memory> {
     let wanted = wanted(alloc, plain, extent)?;
-    let mut made: Growing<bool> = Growing::with_room(alloc, plain.templates.len() as usize)?;
-    for _ in 0..plain.templates.len() {
-        made.push(false)?;
-    }
     Ok(Expander {
-        hints: Hints {
-            made,
-            noted: Growing::new(alloc),
-            inside: Growing::new(alloc),
-            loops: Growing::new(alloc),
-            loop_words: Growing::new(alloc),
-            passed: 0,
-            hopeless: false,
-        },
+        hints: Hints::new(alloc),
         wanted,
         left: 8 * plain.code.len() as u64 + 100_000,
     })
@@ -124,13 +112,13 @@ impl Expander {
     ) -> Result<bool, Stopped>
         requires { ends_phrase last ≡ true }
     {
-        let noted = self.hints.noted.len();
+        let made = self.hints.made.len();
         self.hints.begin();
         plan.drafted(&mut self.hints, last, cells, start)?;
         if self.hints.hopeless {
             return Err(Stopped::Plain);
         }
-        Ok(self.hints.noted.len() == noted)
+        Ok(self.hints.made.len() == made)
     }
 
     // Finds which quotations of a piece are to be made.
@@ -198,12 +186,7 @@ impl Expander {
 
     // What was found of a piece is forgotten.
     fn forget(&mut self) {
-        for template in self.hints.noted.as_slice() {
-            if (*template as usize) < self.hints.made.len() {
-                self.hints.made.set(*template as usize, false);
-            }
-        }
-        self.hints.noted.shorten(0);
+        self.hints.made.clear();
         self.left -= self.left.min(self.hints.passed as u64);
     }
 
