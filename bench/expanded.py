@@ -14,7 +14,8 @@ that is a tail call goes back, and calls no row word; the code ends with such a 
 quotation that is made the row word is called by `callw`.
 
 Sixty words, each of which runs the one before twice, are compiled within a second, and so are sixty loops in one another, and thirty uses in
-one another of row words that run their quotation twice. The script ends with status 1 where that isn't so.
+one another of row words that run their quotation twice. In no image of these, or of the examples, does a call leave a return entry where a
+`ret` comes next; and 2,000 tail calls have few return entries at any moment. The script ends with status 1 where that isn't so.
 """
 import pathlib
 import resource
@@ -27,6 +28,7 @@ import speed
 
 HEAD = "USING: kernel math prettyprint sequences combinators ; "
 NAME_OF = {code: name for name, code in image_model.CODES.items()}
+CALLING = {name for name, operands in image_model.INSTRUCTIONS if operands.endswith("t")}
 APPLY = {"quot", "fry", "call", "dip", "if"}
 
 # A word, the instructions that its code must not have, and those that it must have.
@@ -116,6 +118,36 @@ def ways_back(code, tail):
     return len({instr[1] for place, instr in code if NAME_OF[instr[0]] == "callp" and instr[1] <= place and bool(instr[2]) == tail})
 
 
+def next_place(code, place):
+    """The place of the instruction that comes next from a place on: a `jump` is followed; `unbind`, a `tick` of nothing, and a `hold` with the
+    `back` that comes next behind it are passed. None where that never ends."""
+    for _ in range(len(code)):
+        if place >= len(code):
+            return None
+        name, *operands = NAME_OF[code[place][0]], *code[place][1:]
+        if name == "jump":
+            place = operands[0]
+        elif name == "unbind" or (name == "tick" and operands[0] == 0):
+            place += 1
+        elif name == "hold":
+            behind = next_place(code, place + 1)
+            if behind is None or NAME_OF[code[behind][0]] != "back":
+                return place
+            place = behind + 1
+        else:
+            return place
+    return None
+
+
+def late_calls(image):
+    """The places of calls of an image that leave a return entry though a `ret` comes next."""
+    for place, instr in enumerate(image.code):
+        if NAME_OF[instr[0]] in CALLING and not instr[-1]:
+            behind = next_place(image.code, place + 1)
+            if behind is not None and NAME_OF[image.code[behind][0]] == "ret":
+                yield place
+
+
 def tell(source, code, wrong):
     """Tells of a word whether its code is as it is to be, and whether it isn't."""
     print("WRONG" if wrong else "as it is to be", len(code), "instructions:", source, *sorted(map(str, wrong)))
@@ -157,6 +189,38 @@ def long_ones():
         yield f"thirty uses in one another of a row word that runs its quotation twice{', and calls itself' if count else ''}", source, 200_000
 
 
+def has_late_calls(program, folder):
+    """Whether a call of any image above, or of one of the examples, leaves a return entry though a `ret` comes next."""
+    sources = [row[0] for rows in (WORDS, LOOPS, CALLS) for row in rows] + [source for _, source, _ in long_ones()]
+    images = [(source, image_of(program, folder, source)) for source in sources]
+    for path in sorted((pathlib.Path(__file__).resolve().parent.parent / "examples").glob("*.factor")):
+        done = subprocess.run([program, "build", str(path), "-o", "i"], cwd=folder, capture_output=True)
+        if done.returncode == 0:
+            images.append((path.name, image_model.decode((folder / "i").read_bytes())))
+    found = [(source, place) for source, image in images for place in late_calls(image)]
+    print(f"{len(images)} images, of whose calls {len(found)} leave a return entry before a `ret`", *found[:3])
+    return bool(found)
+
+
+def keeps_entries(program, folder):
+    """Whether a program of tail calls alone has many return entries at any moment, by the model of the machine."""
+    source = ": count ( n -- n ) dup 0 > [ 1 - count ] [ ] if ; 2000 count ."
+    machine = Deepest(image_of(program, folder, source))
+    machine.run(100_000)
+    print(f"2,000 tail calls: at most {machine.deepest} return entries at once")
+    return machine.deepest > 100
+
+
+class Deepest(image_model.Machine):
+    """A machine that tells the greatest number of return entries at any moment of its run."""
+
+    deepest = 0
+
+    def tick(self, count):
+        self.deepest = max(self.deepest, len(self.returns))
+        return super().tick(count)
+
+
 def main():
     program = str(pathlib.Path(sys.argv[1] if len(sys.argv) > 1 else speed.DEFAULT).resolve())
     with tempfile.TemporaryDirectory() as name:
@@ -170,6 +234,8 @@ def main():
             back = f", {len(code)} of them of the word, which has {ways_back(code, True)} ways back and calls {sorted(called)}" if code else ""
             print(f"{about}: {taken:.3f} s, {len(image.code)} instructions{back}")
             failed |= taken > 1.0 or len(image.code) > most
+        failed |= has_late_calls(program, folder)
+        failed |= keeps_entries(program, folder)
     return 1 if failed else 0
 
 
