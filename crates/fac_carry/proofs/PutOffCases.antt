@@ -7,7 +7,8 @@ use Rattle.fac_base.specs.HeightArithmetic.{fits}
 use Rattle.fac_lang.specs.declared.program.Program.{Program}
 use Rattle.fac_lang.specs.declared.program.Sort.TheVariants.{Prim as prim_sort, Core as core_sort}
 use Rattle.fac_lang.specs.declared.core_table.CoreWord.TheVariants.{Call as w_call, Dip as w_dip, If as w_if}
-use Rattle.fac_lang.specs.Phrases.{Phrase, then, Item, word, Value, fun, of_phrase, cur, both}
+use Rattle.fac_lang.specs.Phrases.{Phrase, then, Item, word, fry, held, Value, fun, of_phrase, cur, both}
+use Rattle.fac_lang.specs.Substitution.{put_holes}
 use Rattle.fac_lang.specs.World.{World, State, pile}
 use Rattle.fac_lang.specs.Procedures.{Fn, by_inputs}
 use Rattle.fac_lang.specs.Operations.{PrimitiveMeaning, curry, seen_no}
@@ -262,6 +263,27 @@ module _ (Y : Setting) where
           owed_goes Y last R base s (suc b) d (suc b) (word wd) p t L1 st st' acts
           (step_before Y last R base s (at (F ++ m ∷ []) (pc + 1) ms1 rs R w) (suc b) b _ (fetch Y s (suc b) Bind e)
           (go m ok.values.0 R base ms1 rs (fun (cur (value_view T m) q) ∷ us1) (l_phrase t ∷ L1) w b (omega (arith, le)) ok1 (live_goes Y (word wd) p t L1 st st' acts lv) (lies_more (r_aside (a_off (n_cur hk a_kept))) l1) (keeps_phrase h)))
+
+  -- a fry of one hole, whose value gets the next cell
+  pub g_fry_kept : (f : ℕ) (F : List MValue) (last : Option Instr) (d : ℕ) (b : Phrase) (p : Place) (t : Phrase) (S S1 : List Sym) (K : List Task) (pc : ℕ) → Top S here S1 → slice_get M.code pc ≡ Some Bind →
+      ((m : MValue) → Whole m → Go Y f (F ++ m ∷ []) last d (off (k_phrase (put_holes (held (value_view T m) ∷ []) b)) ∷ S1) (do_phrase t ∷ K) (pc + 1)) → Go Y f F last d S (do_phrase (then (fry b 1) p t) ∷ K) pc
+  g_fry_kept f F last d b p t S S1 K pc top e go R base ms rs vs L w zero le ok lv l (keeps_phrase {L = L1} h) =
+      owed_none Y last R base (at F pc ms rs R w) d (left Y (l_phrase (then (fry b 1) p t) ∷ L1) (state vs (V w))) (state vs (V w)) (Some (fry b 1)) Bind e refl refl refl
+  g_fry_kept f F last d b p t S S1 K pc top e go R base ms rs vs L w (suc n) le ok lv l (keeps_phrase {L = L1} h) = one ms vs ok lv (take_here T S S1 ms vs top l)
+    where
+      one : (ms : List MValue) (us : List Value) → Fine F rs ms w → Live Y (l_phrase (then (fry b 1) p t) ∷ L1) (state us (V w)) → OnTop T S1 ms us →
+          Follows Y last R base (at F pc ms rs R w) (suc n) (owing (V w) d (suc n) (left Y (l_phrase (then (fry b 1) p t) ∷ L1) (state us (V w))))
+      one ms us ok lv none_there = wrong_here Y (fry b 1) p t L1 (state [] (V w)) refl lv
+      one ms us ok lv (on_top {m = m} {ms = ms1} {vs = us1} l1) =
+          let s = at F pc (m ∷ ms1) rs R w in
+          let c = of_phrase (put_holes (held (value_view T m) ∷ []) b) in
+          let st = state (value_view T m ∷ us1) (V w) in
+          let st' = state (fun c ∷ us1) (V w) in
+          let acts : A (fry b 1) st ≡ goes st' = refl in
+          let ok1 : Fine (F ++ m ∷ []) rs ms1 w = record { cells = more_whole P M F (m ∷ []) ok.cells (ok.values.0, tt); held = ok.held; values = ok.values.1; objects = ok.objects } in
+          owed_goes Y last R base s (suc n) d (suc n) (fry b 1) p t L1 st st' acts
+          (step_before Y last R base s (at (F ++ m ∷ []) (pc + 1) ms1 rs R w) (suc n) n _ (fetch Y s (suc n) Bind e)
+          (go m ok.values.0 R base ms1 rs (fun c ∷ us1) (l_phrase t ∷ L1) w n (omega (arith, le)) ok1 (live_goes Y (fry b 1) p t L1 st st' acts lv) (lies_more (r_aside (a_off n_phrase)) l1) (keeps_phrase h)))
 
   -- what was put off is applied
   pub g_call_off : (f : ℕ) (F : List MValue) (last : Option Instr) (d wd : ℕ) (c : Known) (p : Place) (t : Phrase) (S : List Sym) (K : List Task) (pc : ℕ) → sort_of P wd ≡ Some (core_sort w_call) → Go Y f F last (suc d) (off c ∷ S) (do_call ∷ do_phrase t ∷ K) pc →

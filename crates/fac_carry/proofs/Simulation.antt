@@ -23,7 +23,7 @@ use Rattle.fac_carry.specs.WholeValues as whole
 use Rattle.fac_carry.specs.Accessors.{accessor_outs}
 use Rattle.fac_carry.specs.Stands.{HasCode, Calling, l_word, l_call, l_if, l_execute, l_call_effect, l_execute_effect, l_generic, l_next}
 use Rattle.fac_carry.specs.Symbols.{Sym, here, off, kept, k_phrase, k_cur, k_com, Task, do_phrase, do_back, do_call, below as under, heres, AllHere, all_none, outs, Empties, Special, own_code, In, in_first, in_later}
-use Rattle.fac_carry.specs.Expanded.{Code, c_last, c_tick, c_jump, c_unbind, c_hold, c_back, c_fetch, c_make, c_trim, c_end, c_run, c_cur, c_com, c_off, c_fry_off, c_move_off, c_curry_off, c_compose_off, c_call_off, c_dip_off, c_if_off, c_expand, c_move, c_curry, c_int, c_true, c_false, c_text, c_array, c_reference, c_symbol, c_prim, c_accessor, c_isa, c_boa, c_held, c_bind, c_fry, c_stuck, c_word, c_call, c_dip, c_if, c_execute, c_call_effect, c_execute_effect, c_generic, c_next, c_tail, c_special, c_own, c_special_tail, c_own_tail, EachCalled}
+use Rattle.fac_carry.specs.Expanded.{Code, c_last, c_tick, c_jump, c_unbind, c_hold, c_back, c_fetch, c_make, c_trim, c_end, c_run, c_cur, c_com, c_off, c_fry_off, c_move_off, c_curry_off, c_compose_off, c_call_off, c_dip_off, c_if_off, c_expand, c_move, c_curry, c_fry_kept, c_int, c_true, c_false, c_text, c_array, c_reference, c_symbol, c_prim, c_accessor, c_isa, c_boa, c_held, c_bind, c_fry, c_stuck, c_word, c_call, c_dip, c_if, c_execute, c_call_effect, c_execute_effect, c_generic, c_next, c_tail, c_special, c_own, c_special_tail, c_own_tail, EachCalled}
 use Rattle.fac_carry.proofs.RunLaws.{free}
 use Rattle.fac_carry.proofs.SymbolicStacks.{l_phrase, Lies, lies_none, keeps_none, keeps_phrase, all_here}
 use Rattle.fac_carry.specs.Setting.{Setting}
@@ -31,7 +31,7 @@ use Rattle.fac_carry.proofs.Following.{state, at, Follows, LivePhrase, Go, Calls
 use Rattle.fac_carry.proofs.CaseLemmas.{g_array, g_end, g_fry_off, g_last, g_make, g_off, g_prim, g_push, g_stuck, g_trim}
 use Rattle.fac_carry.proofs.CallLemmas.{on, none_left, g_call, g_dip, g_if, g_word, g_special}
 use Rattle.fac_carry.proofs.FrameCases.{g_held, g_bind, g_fry}
-use Rattle.fac_carry.proofs.PutOffCases.{g_tick, g_jump, g_unbind, g_hold, g_back, g_fetch, g_run, g_cur, g_com, g_move_off, g_curry_off, g_compose_off, g_call_off, g_dip_off, g_if_off, g_expand, g_move, g_curry}
+use Rattle.fac_carry.proofs.PutOffCases.{g_tick, g_jump, g_unbind, g_hold, g_back, g_fetch, g_run, g_cur, g_com, g_move_off, g_curry_off, g_compose_off, g_call_off, g_dip_off, g_if_off, g_expand, g_move, g_curry, g_fry_kept}
 use Rattle.fac_carry.proofs.ClassCases.{g_accessor, g_boa, g_generic, g_isa, g_next}
 use Rattle.fac_carry.proofs.ActionCases.{itself_pushed, g_execute, g_call_effect, g_execute_effect}
 
@@ -148,6 +148,8 @@ module _ (Y : Setting) where
       g_move Y f F last d wd k n ks ys j m js p t S K1 pc es is ey ij moves e (main f below each tpl Γ last F d (pile ys (under n S)) (do_phrase t ∷ K1) (pc + 1) c v)
   main f below each tpl Γ last F d S K pc (c_curry {p = p} {t = t} {e = k2} {S = S0} {S1 = S1} {K = K1} wd k es is top e c) v =
       g_curry Y f F last d wd k k2 p t S0 S1 K1 pc es is top e (λ m h. main f below each tpl Γ last (F ++ m ∷ []) d (off (k_cur (kept m) k2) ∷ S1) (do_phrase t ∷ K1) (pc + 1) (c m h) v)
+  main f below each tpl Γ last F d S K pc (c_fry_kept {p = p} {t = t} {b = b} {S1 = S1} {K = K1} top e c) v =
+      g_fry_kept Y f F last d b p t S S1 K1 pc top e (λ m h. main f below each tpl Γ last (F ++ m ∷ []) d (off (k_phrase (put_holes (held (value_view T m) ∷ []) b)) ∷ S1) (do_phrase t ∷ K1) (pc + 1) (c m h) v)
   main f below each tpl Γ last F d S K pc (c_int {p = p} {t = t} {K = K1} z e c) v = g_push Y f F last d (lit (int z)) p t S K1 pc (Int z) (m_plain (int z)) (λ h. tt) e (λ s. refl) (λ ms rs R w n. refl) (λ st. refl)
       (main f below each tpl Γ last F d (here ∷ S) (do_phrase t ∷ K1) (pc + 1) c v)
   main f below each tpl Γ last F d S K pc (c_true {p = p} {t = t} {K = K1} e c) v = g_push Y f F last d (lit yes) p t S K1 pc True (m_plain yes) (λ h. tt) e (λ s. refl) (λ ms rs R w n. refl) (λ st. refl)

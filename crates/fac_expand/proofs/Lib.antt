@@ -20,6 +20,7 @@ pub mod MadePieces
 pub mod Expansions
 pub mod Changing
 pub mod Advancing
+pub mod FryMoves
 pub mod Applying
 pub mod Looping
 pub mod DroppedCells
