@@ -70,6 +70,7 @@ LOOPS = [
     (": w ( x -- y ) 5 [ 4 [ 3 [ 1 + ] times ] times ] times ; 3 w .", "w", 3, 0),
     (": w ( x ? -- y ) [ 5 [ 1 + ] times ] [ 4 [ 2 * ] times ] if 3 + ; 3 t w .", "w", 2, 0),
     (TURNED + ": w ( x -- y ) 5 [ 2 * ] turned ; 3 w .", "w", 1, 0),
+    (TURNED + ": w ( x n m -- y ) '[ _ * ] turned ; 3 4 5 w .", "w", 1, 0),
     (TURNED + ": w ( x y -- y x ) [ 5 [ 2 * ] turned ] dip swap ; 3 4 w . .", "w", 1, 0),
     (BOTH + ": w ( x -- y ) 5 [ 2 * ] [ 1 + ] both ; 3 w .", "w", 1, 0),
     (SWAPPED + ": w ( -- ) 5 [ 2 * ] [ 1 + ] swapped ; w", "w", 1, 0),
@@ -81,7 +82,7 @@ CALLS = [
     (": w ( x n -- y q ) [ 2 * ] dup [ times ] dip ; 3 4 w drop .", {"(each-integer)"}),
     (": w ( x n -- y ) [ 2 * ] dup . times ; 3 4 w .", {"(each-integer)"}),
     (TURNED + ": w ( x n -- y ) [ 2 * ] dup . turned ; 3 4 w .", {"turned"}),
-    (TURNED + ": w ( x n m -- y ) '[ _ * ] turned ; 3 4 5 w .", {"turned"}),
+    (TURNED + ": w ( x n m k -- y ) '[ _ * _ + ] turned ; 3 4 5 6 w .", {"turned"}),
     (NAMED + ": w ( x n -- y ) [ 2 * ] named ; 3 4 w .", {"named"}),
 ]
 
