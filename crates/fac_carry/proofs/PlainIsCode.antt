@@ -56,7 +56,7 @@ module _ (P : Program) (M : Image) (T : Templates) where
   item_code Γ last F i x p t K pc e (t_isa w c k es same) rest = c_isa w c k es same (needs_any 1) e (rest (here ∷ []) (all_more all_none))
   item_code Γ last F i x p t K pc e (t_dip w es) rest = c_dip w es all_none e (rest [] all_none)
   item_code Γ last F i x p t K pc e (t_boa w es) rest = c_boa w es all_none e (rest (here ∷ []) (all_more all_none))
-  item_code Γ last F i x p t K pc e (t_stuck y none stuck) rest = c_stuck stuck
+  item_code Γ last F i x p t K pc e (t_stuck stuck) rest = c_stuck stuck
   item_code Γ last F i x p t K pc e (t_calling c) rest = calling_code Γ last F i x p t K pc e c (rest [] all_none)
 
   pub plain_is_code : (last : Instr) (F : List MValue) (pc : ℕ) (t : Phrase) → Stands P M T last F pc t → Code P M T [] (Some last) F zero [] (do_phrase t ∷ []) pc

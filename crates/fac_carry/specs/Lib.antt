@@ -11,3 +11,4 @@ pub mod Shuffles
 pub mod Expanded
 pub mod PrintedForms
 pub mod CodeLaws
+pub mod Direct

@@ -109,8 +109,7 @@ ends_phrase _ = false
 
 module _ (P : Program) (M : Image) (T : Templates) where
   -- An item and its plain instruction, where the frame is F and T has the phrases of the templates. A run error of a primitive or an accessor names the first
-  -- word of the image that does it, so that is to be the item's word. No run comes to an item that nothing can do, so its instruction is any that ends no
-  -- phrase.
+  -- word of the image that does it, so that is to be the item's word. No run comes to an item that nothing can do, whose instruction is that of `boa`.
   pub data Translates (F : List MValue) : Item → Instr → Type 0 where
     t_int : (z : ℤ) → Translates F (lit (int z)) (Int z)
     t_true : Translates F (lit yes) True
@@ -130,7 +129,7 @@ module _ (P : Program) (M : Image) (T : Templates) where
     t_isa : (w c k : ℕ) → sort_of P w ≡ Some (isa c) → ((j : ℕ) → set_has (slice_get M.sets k) j ≡ has_kind P.classes c j) → Translates F (word w) (Isa k)
     t_dip : (w : ℕ) → sort_of P w ≡ Some (core_sort c_dip) → Translates F (word w) Dip
     t_boa : (w : ℕ) → sort_of P w ≡ Some (core_sort c_boa) → Translates F (word w) Boa
-    t_stuck : {i : Item} (x : Instr) → ends_phrase x ≡ false → IsStuck P i → Translates F i x
+    t_stuck : {i : Item} → IsStuck P i → Translates F i Boa
     t_calling : {i : Item} {x : Instr} → Calling P M false i x → Translates F i x
 
   -- The plain instructions of a phrase stand at this place under the frame F, and behind them the last one.

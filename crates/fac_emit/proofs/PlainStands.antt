@@ -85,7 +85,7 @@ module _ (P : Program) (C : Closed) (heights : List (Option Height)) (M : Image)
   core_does F w c_if e = t_calling (l_if w e)
   core_does F w c_execute e = t_calling (l_execute w e)
   core_does F w c_boa e = t_boa w e
-  core_does F w c_cond e = t_stuck Boa refl (λ fits callable_height st. ap (λ (o : Option Sort). sort_act P w o st) e)
+  core_does F w c_cond e = t_stuck (λ fits callable_height st. ap (λ (o : Option Sort). sort_act P w o st) e)
 
   slot_of : (x : Accessor) (w : ℕ) (s : List ℕ) (d : WordDef) → slice_get P.words w ≡ Some d → d.sort ≡ accessor_sort x s → slice_get M.texts (text_number C s) ≡ Some s
   slot_of x w s d at is = text_in P C heights M b closes is_plain s (accessor_slot C x s (subst (Named C) is (slots w d at)))
@@ -214,7 +214,7 @@ module _ (P : Program) (C : Closed) (heights : List (Option Height)) (M : Image)
   plain_does F (lit (wrd w)) h r n = let there = row_there w r in t_reference w there.0 (no_top P b w r) there.1
   plain_does F (lit_arr a) h r n = t_array a
   plain_does F (word w) h r n = word_does_so F w r
-  plain_does F next_method h r n = t_stuck Boa refl (λ fits callable_height st. refl)
+  plain_does F next_method h r n = t_stuck (λ fits callable_height st. refl)
   plain_does F (next_after m) h r n = next_does F m r
   plain_does F (lit _) h r n = absurd r
   plain_does F (call_effect k) h r n = t_calling (l_call_effect k)
@@ -241,7 +241,7 @@ module _ (P : Program) (C : Closed) (heights : List (Option Height)) (M : Image)
   tail_does F i x p pc e (t_calling (l_execute_effect h)) rest = s_tail (ExecuteEffect h true) refl e (l_execute_effect h)
   tail_does F i x p pc e (t_calling (l_generic w n r is there own same)) rest = s_tail (Generic n true) refl e (l_generic w n r is there own same)
   tail_does F i x p pc e (t_calling (l_next m n j r at there own same)) rest = s_tail (Next m true) refl e (l_next m n j r at there own same)
-  tail_does F i x p pc e (t_stuck y none stuck) rest = s_item (tailed y) e (t_stuck (tailed y) (tailed_ends y ∙ none) stuck) rest
+  tail_does F i x p pc e (t_stuck stuck) rest = s_item Boa e (t_stuck stuck) rest
   tail_does F i x p pc e (t_fry q r vs b there cells put) rest = s_item (making q r.holes) (e ∙ ap Some (tailed_making q r.holes)) (t_fry q r vs b there cells put) rest
   tail_does F i x p pc e (t_accessor y w k s is there first) rest = s_item (accessor_instr y k) (e ∙ ap Some (tailed_accessor y k)) (t_accessor y w k s is there first) rest
   tail_does F i x p pc e does rest = s_item x e does rest

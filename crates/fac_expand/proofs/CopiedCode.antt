@@ -64,7 +64,7 @@ module _ (P : Program) (N : Image) (T : Templates) where
   item_goes_on F _ _ (t_isa w c k es same) = refl
   item_goes_on F _ _ (t_dip w es) = refl
   item_goes_on F _ _ (t_boa w es) = refl
-  item_goes_on F _ _ (t_stuck x none stuck) = none
+  item_goes_on F _ _ (t_stuck stuck) = refl
   item_goes_on F _ _ (t_calling c) = calling_goes_on false _ _ c
 
 -- code up to an end, by its first instruction

@@ -205,7 +205,7 @@ module _ (top : ℕ) (P : Program) (N M : Image) (h : IsMade top N M) where
   translates_moved F _ _ (t_isa w c k es same) = t_isa w c k es (set_moved k _ same)
   translates_moved F _ _ (t_dip w es) = t_dip w es
   translates_moved F _ _ (t_boa w es) = t_boa w es
-  translates_moved F _ _ (t_stuck x none stuck) = t_stuck x none stuck
+  translates_moved F _ _ (t_stuck stuck) = t_stuck stuck
   translates_moved F _ _ (t_calling c) = t_calling (calls_moved false _ _ c)
 
   accessor_stays : (x : Accessor) (k : ℕ) → accessor_action x k ≡ moved_action M.start h.places (accessor_action x k)

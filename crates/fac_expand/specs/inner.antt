@@ -9,3 +9,4 @@ pub mod Loops
 pub mod PieceCode
 pub mod Pieces
 pub mod Makings
+pub mod DirectPlaces

@@ -1,0 +1,108 @@
+-- Direct phrases, all of whose literal quotations are applied where they stand, and what the code of a body has whose phrase is direct; and which calls
+-- leave no return entry.
+use Rattle.std.specs.Prelude.{◌≡◌, ◌<◌, ◌≤◌, ◌+◌, ℕ, length, Bool, true, false, Option, Some, None, slice_get}
+use Rattle.fac_base.specs.declared.place.Place.{Place}
+use Rattle.fac_lang.specs.declared.program.Program.{Program}
+use Rattle.fac_lang.specs.declared.program.WordDef.{WordDef}
+use Rattle.fac_lang.specs.declared.program.Sort.{Sort}
+use Rattle.fac_lang.specs.declared.program.Sort.TheVariants.{Core as core_sort}
+use Rattle.fac_lang.specs.declared.core_table.CoreWord.TheVariants.{Call as w_call, Dip as w_dip, If as w_if}
+use Rattle.fac_lang.specs.Phrases.{Phrase, end, then, Item, quot, word, fry}
+use Rattle.fac_lang.specs.Meaning.{sort_of, word_phrase}
+use Rattle.fac_code.specs.declared.image.Instr.{Instr}
+use Rattle.fac_code.specs.declared.image.Instr.TheVariants.{Tick, Quot, Fry, Callw, Callp, Call, Dip, If, Execute, CallEffect, ExecuteEffect, Ret, Hold, Back, Jump, Branch, Unbind, Generic, Next}
+use Rattle.fac_code.specs.declared.image.Action.TheVariants as action
+use Rattle.fac_code.specs.declared.image.WordRow.{WordRow}
+use Rattle.fac_code.specs.declared.image.GenericRow.{GenericRow}
+use Rattle.fac_code.specs.declared.image.MethodRow.{MethodRow}
+use Rattle.fac_code.specs.declared.image.Image.{Image}
+use Rattle.fac_carry.specs.Stands.{HasCode}
+
+module _ (P : Program) where
+  -- a word whose definition isn't inline
+  abbrev pub IsNotInline : ℕ → Type 0
+  IsNotInline w = (d : WordDef) → slice_get P.words w ≡ Some d → d.inline ≡ false
+
+  -- a word of this sort applies no callable by `call`, `dip` or `if`
+  abbrev pub AppliesNothing : Option Sort → Type 0
+  AppliesNothing (Some (core_sort w_call)) = ⊥
+  AppliesNothing (Some (core_sort w_dip)) = ⊥
+  AppliesNothing (Some (core_sort w_if)) = ⊥
+  AppliesNothing _ = Unit {0}
+
+  -- an item that is no quotation, makes none and applies none
+  abbrev pub IsOther : Item → Type 0
+  IsOther (quot t) = ⊥
+  IsOther (fry t n) = ⊥
+  IsOther (word w) = AppliesNothing (sort_of P w) × IsNotInline w
+  IsOther i = Unit {0}
+
+  -- A direct phrase: each literal quotation stands directly before `call` or `dip`, or two stand directly before `if`, each of these is direct itself, and no
+  -- fry and no inline word is in it. A `call`, `dip` or `if` for itself isn't in it either; in an accepted program there would be no quotation for it there.
+  pub data Direct : Phrase → Type 0 where
+    direct_end : Direct end
+    direct_item : {i : Item} {p : Place} {t : Phrase} → IsOther i → Direct t → Direct (then i p t)
+    direct_call : {b t : Phrase} {p q : Place} (w : ℕ) → sort_of P w ≡ Some (core_sort w_call) → Direct b → Direct t → Direct (then (quot b) p (then (word w) q t))
+    direct_dip : {b t : Phrase} {p q : Place} (w : ℕ) → sort_of P w ≡ Some (core_sort w_dip) → Direct b → Direct t → Direct (then (quot b) p (then (word w) q t))
+    direct_if : {b c t : Phrase} {p q r : Place} (w : ℕ) → sort_of P w ≡ Some (core_sort w_if) → Direct b → Direct c → Direct t → Direct (then (quot b) p (then (quot c) q (then (word w) r t)))
+
+module _ (M : Image) where
+  -- a place where the code of a word, of a method or of the top-level phrase begins
+  pub data Begins : ℕ → Type 0 where
+    begins_word : (w a : ℕ) (r : WordRow) → slice_get M.words w ≡ Some r → r.action ≡ action.Code a → Begins a
+    begins_method : (n j : ℕ) (r : GenericRow) (m : MethodRow) → slice_get M.generics n ≡ Some r → slice_get r.methods j ≡ Some m → Begins m.entry
+    begins_top : Begins M.start
+
+  -- a place in the body that begins at a place: from there up to where the next one begins, or the code ends
+  pub record InBody (a pc : ℕ) : Type 0 where
+    pub from : a ≤ pc
+    pub within : pc < length M.code
+    pub before_next : (b : ℕ) → Begins b → a < b → b ≤ pc → ⊥
+
+  -- an instruction that makes no quotation and applies no callable, and that leads to places of the same body alone
+  abbrev pub IsDirect : ℕ → Instr → Type 0
+  IsDirect a (Quot q) = ⊥
+  IsDirect a (Fry q) = ⊥
+  IsDirect a (Call t) = ⊥
+  IsDirect a Dip = ⊥
+  IsDirect a (If t) = ⊥
+  IsDirect a (Jump b) = InBody a b
+  IsDirect a (Branch b) = InBody a b
+  IsDirect a (Callp b t) = InBody a b
+  IsDirect a i = Unit {0}
+
+  -- each instruction of the body at a place is such a one
+  abbrev pub HasDirectCode : ℕ → Type 0
+  HasDirectCode a = (pc : ℕ) (i : Instr) → InBody a pc → slice_get M.code pc ≡ Some i → IsDirect a i
+
+  -- From a place on the next instruction is this one, at that place: a jump is followed, an `unbind` and a `tick` of nothing are passed, and so is a `hold` with the
+  -- `back` that comes next behind it.
+  pub data ComesTo (x : Instr) : ℕ → ℕ → Type 0 where
+    comes_here : (pc : ℕ) → slice_get M.code pc ≡ Some x → ComesTo x pc pc
+    comes_by_jump : (pc a b : ℕ) → slice_get M.code pc ≡ Some (Jump a) → ComesTo x a b → ComesTo x pc b
+    comes_by_unbind : (pc k b : ℕ) → slice_get M.code pc ≡ Some (Unbind k) → ComesTo x (pc + 1) b → ComesTo x pc b
+    comes_by_tick : (pc b : ℕ) → slice_get M.code pc ≡ Some (Tick 0) → ComesTo x (pc + 1) b → ComesTo x pc b
+    comes_by_hold : (pc a b : ℕ) → slice_get M.code pc ≡ Some Hold → ComesTo Back (pc + 1) a → ComesTo x (a + 1) b → ComesTo x pc b
+
+  -- an instruction that calls and leaves a return entry
+  abbrev pub leaves_entry : Instr → Bool
+  leaves_entry (Callw w false) = true
+  leaves_entry (Callp a false) = true
+  leaves_entry (Call false) = true
+  leaves_entry (If false) = true
+  leaves_entry (Execute false) = true
+  leaves_entry (CallEffect h false) = true
+  leaves_entry (ExecuteEffect h false) = true
+  leaves_entry (Generic g false) = true
+  leaves_entry (Next m false) = true
+  leaves_entry _ = false
+
+  -- no call leaves a return entry where `ret` comes next behind it
+  abbrev pub TailsLeaveNone : Type 0
+  TailsLeaveNone = (pc b : ℕ) (i : Instr) → slice_get M.code pc ≡ Some i → leaves_entry i ≡ true → ComesTo Ret (pc + 1) b → ⊥
+
+-- The code of each body of a program whose phrase is direct makes and applies no callable, and no call leaves a return entry before a `ret`.
+pub record DirectIsInPlace (P : Program) (M : Image) : Type 0 where
+  pub words : (w a : ℕ) → HasCode P M w a → Direct P (word_phrase P w) → HasDirectCode M a
+  pub top : Direct P (word_phrase P P.top) → HasDirectCode M M.start
+  pub tails : TailsLeaveNone M
