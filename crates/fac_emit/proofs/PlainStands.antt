@@ -50,7 +50,7 @@ use Rattle.fac_emit.proofs.NextMethods.{method_found}
 use Rattle.fac_emit.proofs.Placed.{Rows, code_at, row_of, template_at, all_rows}
 use Rattle.fac_emit.proofs.PlacedWords.{found_below, Ran, ran, text_in, WordPut, word_put, word_does, place_by, has_code, one_place, in_set, picked_same, next_same, generic_row}
 use Rattle.fac_carry.proofs.ElementLemmas.{element_at}
-use Rattle.fac_emit.proofs.TailCalls.{bind_before, tailed_making, tailed_accessor, tailed_ends}
+use Rattle.fac_emit.proofs.TailCalls.{bind_before, tailed_making, tailed_accessor}
 use Rattle.fac_emit.proofs.TopPhrases.{no_top, before_top}
 use Rattle.fac_locals.proofs.RunningPhrases.{IsMethod, word_runs, literal_runs}
 use Rattle.fac_emit.proofs.TableNumbers.{order_same}

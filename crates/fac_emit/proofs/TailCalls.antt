@@ -4,7 +4,7 @@ use Rattle.fac_lang.specs.Phrases.{Phrase, end, then}
 use Rattle.fac_code.specs.declared.image.Instr.{Instr}
 use Rattle.fac_code.specs.declared.image.Instr.TheVariants.{Bind, Callw, Call, If, Execute, CallEffect, ExecuteEffect, Ret, Generic, Next}
 use Rattle.fac_carry.specs.Accessors.{Accessor, getting, setting, putting, accessor_instr}
-use Rattle.fac_carry.specs.Stands.{making, ends_phrase}
+use Rattle.fac_carry.specs.Stands.{making}
 use Rattle.fac_emit.specs.ProgramCode.{tailed, before}
 
 -- before the rest of a phrase a test tells the same of it
@@ -27,15 +27,3 @@ pub tailed_accessor : (x : Accessor) (k : ℕ) → tailed (accessor_instr x k) �
 tailed_accessor getting k = refl
 tailed_accessor setting k = refl
 tailed_accessor putting k = refl
-
--- what ends no phrase ends none as a tail call
-pub tailed_ends : (i : Instr) → ends_phrase (tailed i) ≡ ends_phrase i
-tailed_ends (Callw w t) = refl
-tailed_ends (Call t) = refl
-tailed_ends (If t) = refl
-tailed_ends (Execute t) = refl
-tailed_ends (CallEffect h t) = refl
-tailed_ends (ExecuteEffect h t) = refl
-tailed_ends (Generic g t) = refl
-tailed_ends (Next m t) = refl
-tailed_ends _ = refl
