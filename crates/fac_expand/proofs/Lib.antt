@@ -27,3 +27,6 @@ pub mod DroppedCells
 pub mod ShorterFrames
 pub mod Passed
 pub mod Counts
+pub mod BackwardCode
+pub mod BackwardGroups
+pub mod BackwardSteps

@@ -10,3 +10,4 @@ pub mod PieceCode
 pub mod Pieces
 pub mod Makings
 pub mod DirectPlaces
+pub mod Backward

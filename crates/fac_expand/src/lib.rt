@@ -3,6 +3,7 @@
 
 mod coming;
 mod copying;
+mod direct;
 mod draft;
 mod entries;
 mod expansion;
@@ -13,6 +14,7 @@ mod known;
 mod known_parts;
 mod loops;
 mod making;
+mod mapping;
 mod moving;
 mod parts;
 mod pieces;
