@@ -27,3 +27,7 @@ pub mod DroppedCells
 pub mod ShorterFrames
 pub mod Passed
 pub mod Counts
+pub mod DirectGroups
+pub mod DirectThere
+pub mod BodyLemmas
+pub mod TailLemmas

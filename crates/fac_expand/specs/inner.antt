@@ -10,3 +10,6 @@ pub mod PieceCode
 pub mod Pieces
 pub mod Makings
 pub mod DirectPlaces
+pub mod Bodies
+pub mod Tails
+pub mod DirectImages

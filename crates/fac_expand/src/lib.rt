@@ -1,8 +1,11 @@
 //! Expanded code: what plain code makes as a callable and applies at once is done in place.
 #![tactic(auto)]
 
+mod bodies;
 mod coming;
 mod copying;
+mod direct_image;
+mod direct_places;
 mod draft;
 mod entries;
 mod expansion;
@@ -27,6 +30,7 @@ mod shuffles;
 mod steps;
 mod stopped;
 mod tables;
+mod tails;
 
 pub use expansion::expand;
 pub use pieces::Extent;
