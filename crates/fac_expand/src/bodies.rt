@@ -1,5 +1,6 @@
 //! Bodies of code: where they begin and end, and whether one has direct code.
 ghost use Rattle.std.specs.Prelude.{◌≡◌, ◌<◌, ◌≤◌, ◌&&◌, ℕ, nat_le, nat_lt, true, Some, slice_get, IfOk, MatchOption};
+ghost use Rattle.fac_code.specs.declared.image.Instr.{Instr as Instruction};
 ghost use Rattle.fac_carry.specs.Direct.{HasDirectCode};
 ghost use Rattle.fac_expand.specs.inner.Bodies.{AreBegins, AreMethodsFlagged, EndsAt, HasActionFlag, HasNoFlag, HaveGenericFlags, HaveMethodFlags, HaveWordFlags, IsActionFlagged, IsFlagged, OnlyBegin};
 ghost use Rattle.fac_expand.specs.inner.Bodies.{is_direct_between as stays_between};
@@ -219,7 +220,7 @@ fn is_direct_between(first: u32, second: u32, instr: Instr) -> bool
 
 // Whether all instructions between two places do so.
 fn are_direct_between(code: &List<Instr>, first: u32, second: u32) -> bool
-    ensures { result ≡ true → (pc : ℕ) → pc < second → first ≤ pc → (i : Instr) → slice_get code.now pc ≡ Some i → stays_between first second i ≡ true }
+    ensures { result ≡ true → (pc : ℕ) → pc < second → first ≤ pc → (i : Instruction) → slice_get code.now pc ≡ Some i → stays_between first second i ≡ true }
 {
     for at in first..second {
         match code.get(at as usize) {

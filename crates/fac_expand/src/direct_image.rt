@@ -116,13 +116,5 @@ pub fn has_direct_code(
     if !are_direct_actions(alloc, plain, uses, image, &flags, top)? {
         return Ok(false);
     }
-    is_direct_place(
-        alloc,
-        plain,
-        uses,
-        image,
-        &flags,
-        plain.start,
-        image.start,
-    )
+    is_direct_place(alloc, plain, uses, image, &flags, plain.start, image.start)
 }

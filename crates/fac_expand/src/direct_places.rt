@@ -1,6 +1,7 @@
 //! Whether the code of a direct phrase begins at a place of plain code.
-ghost use Rattle.std.specs.Prelude.{◌≡◌, ◌+◌, ◌++◌, None, Some, false, slice_get, IfOk, OnOk, MatchOption};
-ghost use Rattle.fac_carry.specs.Stands.{ends_phrase};
+ghost use Rattle.std.specs.Prelude.{◌≡◌, ◌+◌, ◌++◌, List, None, Some, false, slice_get, IfOk, OnOk, MatchOption};
+ghost use Rattle.fac_code.specs.declared.image.Image.{Image as Code};
+ghost use Rattle.fac_expand.specs.declared.plan.Use.{Use as Becomes};
 ghost use Rattle.fac_expand.specs.inner.DirectPlaces.{DirectAt, LeadsTo, Passes, entry_in, is_called, is_other, listed, made_quotation, stands_behind, tail_of_if};
 
 use crate::coming::is_tailed;
@@ -32,7 +33,7 @@ enum Group {
 }
 
 // What stands at a place, which is that behind a quotation.
-fn behind(plain: &Image, place: usize) -> Behind
+fn standing_at(plain: &Image, place: usize) -> Behind
     ensures { result ≡ stands_behind (slice_get plain.now.code place) }
 {
     match plain.code.get(place) {
@@ -87,7 +88,7 @@ fn next_place(place: u32, count: u32, is_last: bool) -> Option<u32>
 fn applied(plain: &Image, place: u32, quotation: u32, is_last: bool) -> Group
     requires there { slice_get plain.now.code place ≡ Some (Instr.Quot quotation) }
     requires behind { stands_behind (slice_get plain.now.code (place + 1)) ≡ Behind.Applied is_last }
-    ensures { (uses : List Use) → LeadsTo plain.now uses place result }
+    ensures { (uses : List Becomes) → LeadsTo plain.now uses place result }
 {
     let entry = entry_of(plain, quotation);
     let next = next_place(place, 2, is_last);
@@ -98,7 +99,7 @@ fn applied(plain: &Image, place: u32, quotation: u32, is_last: bool) -> Group
 fn branched(plain: &Image, place: u32, first: u32, second: u32) -> Group
     requires there { slice_get plain.now.code place ≡ Some (Instr.Quot first) }
     requires behind { stands_behind (slice_get plain.now.code (place + 1)) ≡ Behind.Quotation second }
-    ensures { (uses : List Use) → LeadsTo plain.now uses place result }
+    ensures { (uses : List Becomes) → LeadsTo plain.now uses place result }
 {
     match if_at(plain, place as usize + 2) {
         Some(is_last) => {
@@ -114,9 +115,9 @@ fn branched(plain: &Image, place: u32, first: u32, second: u32) -> Group
 // A quotation.
 fn quoted(plain: &Image, place: u32, quotation: u32) -> Group
     requires { slice_get plain.now.code place ≡ Some (Instr.Quot quotation) }
-    ensures { (uses : List Use) → LeadsTo plain.now uses place result }
+    ensures { (uses : List Becomes) → LeadsTo plain.now uses place result }
 {
-    match behind(plain, place as usize + 1) {
+    match standing_at(plain, place as usize + 1) {
         Behind::Nothing => Group::Indirect,
         Behind::Applied(is_last) => applied(plain, place, quotation, is_last),
         Behind::Quotation(second) => branched(plain, place, quotation, second),
@@ -153,7 +154,7 @@ fn is_item(uses: &[Use], instr: Instr) -> bool
 // What is no quotation.
 fn unquoted(uses: &[Use], place: u32, instr: Instr) -> Group
     requires { made_quotation instr ≡ None }
-    ensures { (N : Image) → slice_get N.code place ≡ Some instr → LeadsTo N uses.now place result }
+    ensures { (N : Code) → slice_get N.code place ≡ Some instr → LeadsTo N uses.now place result }
 {
     if is_end(instr) {
         return Group::Leads(None, None, None);
@@ -166,7 +167,7 @@ fn unquoted(uses: &[Use], place: u32, instr: Instr) -> Group
 }
 
 // What begins at a place.
-fn group(plain: &Image, uses: &[Use], place: u32) -> Group
+fn group_at(plain: &Image, uses: &[Use], place: u32) -> Group
     ensures { LeadsTo plain.now uses.now place result }
 {
     match plain.code.get(place as usize) {
@@ -189,15 +190,10 @@ fn add(waiting: &mut Growing<u32>, place: Option<u32>) -> Result<(), Memory>
 }
 
 // Passes the items at a place where a direct phrase may begin. Otherwise there is none.
-fn pass(
-    waiting: &mut Growing<u32>,
-    plain: &Image,
-    uses: &[Use],
-    place: u32,
-) -> Result<bool, Memory>
+fn pass(waiting: &mut Growing<u32>, plain: &Image, uses: &[Use], place: u32) -> Result<bool, Memory>
     ensures { IfOk result (Passes plain.now uses.now place waiting.old waiting.new) }
 {
-    match group(plain, uses, place) {
+    match group_at(plain, uses, place) {
         Group::Indirect => Ok(false),
         Group::Leads(first, second, third) => {
             add(waiting, first)?;

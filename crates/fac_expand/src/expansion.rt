@@ -116,12 +116,7 @@ fn expanded(
 }
 
 // The image with its code expanded as far as a run comes, or as it is.
-fn expanded_or_plain(
-    alloc: Global,
-    plain: Image,
-    top: u32,
-    uses: &[Use],
-) -> Result<Image, Memory>
+fn expanded_or_plain(alloc: Global, plain: Image, top: u32, uses: &[Use]) -> Result<Image, Memory>
     ensures { IfOk result (Expands top plain) }
 {
     match expanded(alloc, &plain, top, uses, Extent::Reached)? {

@@ -1,5 +1,6 @@
 //! Whether calls leave no return entry where `ret` comes next behind them.
 ghost use Rattle.std.specs.Prelude.{◌≡◌, ◌+◌, ℕ, true, length, slice_get, IfOk, MatchOption};
+ghost use Rattle.fac_code.specs.declared.image.Image.{Image as Code};
 ghost use Rattle.fac_code.specs.declared.image.Instr.TheVariants.{Ret};
 ghost use Rattle.fac_carry.specs.Direct.{ComesTo, TailsLeaveNone, leaves_entry};
 ghost use Rattle.fac_expand.specs.inner.Tails.{ComesNext, IsNextIf, Tells, passing_of, told as told_by};
@@ -131,7 +132,7 @@ fn table_of(alloc: Global, image: &Image) -> Result<Option<Growing<Next>>, Memor
 
 // Whether an instruction is a call that leaves a return entry.
 fn is_leaving(instr: Instr) -> bool
-    ensures { result ≡ leaves_entry instr }
+    ensures { (M : Code) → result ≡ leaves_entry M instr }
 {
     match instr {
         Instr::Callw { tail, .. } => !tail,
@@ -160,7 +161,7 @@ fn is_before_ret(table: &Growing<Next>, place: usize) -> bool
 // Whether an instruction at a place leaves no return entry where `ret` comes next behind it.
 fn is_needed(image: &Image, table: &Growing<Next>, place: u32, instr: Instr) -> bool
     requires { Tells image.now table.now 0 }
-    ensures { result ≡ true → leaves_entry instr ≡ true → (b : ℕ) → ComesTo image.now Ret (place + 1) b → ⊥ }
+    ensures { result ≡ true → leaves_entry image.now instr ≡ true → (b : ℕ) → ComesTo image.now Ret (place + 1) b → ⊥ }
 {
     if !is_leaving(instr) {
         return true;

@@ -13,12 +13,12 @@ use Rattle.fac_expand.specs.declared.plan.Use.{Use}
 use Rattle.fac_expand.specs.declared.plan.Use.TheVariants.{Called, InPlace, Specialised}
 use Rattle.fac_expand.specs.inner.Calls.{has_tail}
 
-module _ (uses : List Use) where
-  -- what a use of a word is to become, where it isn't inline
-  abbrev pub is_called : Option Use → Bool
-  is_called (Some Called) = true
-  is_called _ = false
+-- what a use of a word is to become, where it isn't inline
+abbrev pub is_called : Option Use → Bool
+is_called (Some Called) = true
+is_called _ = false
 
+module _ (uses : List Use) where
   -- an instruction of another item than a quotation and what applies one, and of no call of an inline word
   abbrev pub is_other : Instr → Bool
   is_other Halt = false
