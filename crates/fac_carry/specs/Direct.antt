@@ -77,12 +77,12 @@ module _ (M : Image) where
 
   -- From a place on the next instruction is this one, at that place: a jump is followed, an `unbind` and a `tick` of nothing are passed, and so is a `hold` with the
   -- `back` that comes next behind it.
-  pub data ComesTo (x : Instr) : ℕ → ℕ → Type 0 where
-    comes_here : (pc : ℕ) → slice_get M.code pc ≡ Some x → ComesTo x pc pc
-    comes_by_jump : (pc a b : ℕ) → slice_get M.code pc ≡ Some (Jump a) → ComesTo x a b → ComesTo x pc b
-    comes_by_unbind : (pc k b : ℕ) → slice_get M.code pc ≡ Some (Unbind k) → ComesTo x (pc + 1) b → ComesTo x pc b
-    comes_by_tick : (pc b : ℕ) → slice_get M.code pc ≡ Some (Tick 0) → ComesTo x (pc + 1) b → ComesTo x pc b
-    comes_by_hold : (pc a b : ℕ) → slice_get M.code pc ≡ Some Hold → ComesTo Back (pc + 1) a → ComesTo x (a + 1) b → ComesTo x pc b
+  pub data ComesTo : Instr → ℕ → ℕ → Type 0 where
+    comes_here : {x : Instr} (pc : ℕ) → slice_get M.code pc ≡ Some x → ComesTo x pc pc
+    comes_by_jump : {x : Instr} (pc a b : ℕ) → slice_get M.code pc ≡ Some (Jump a) → ComesTo x a b → ComesTo x pc b
+    comes_by_unbind : {x : Instr} (pc k b : ℕ) → slice_get M.code pc ≡ Some (Unbind k) → ComesTo x (pc + 1) b → ComesTo x pc b
+    comes_by_tick : {x : Instr} (pc b : ℕ) → slice_get M.code pc ≡ Some (Tick 0) → ComesTo x (pc + 1) b → ComesTo x pc b
+    comes_by_hold : {x : Instr} (pc a b : ℕ) → slice_get M.code pc ≡ Some Hold → ComesTo Back (pc + 1) a → ComesTo x (a + 1) b → ComesTo x pc b
 
   -- an instruction that calls and leaves a return entry
   abbrev pub leaves_entry : Instr → Bool

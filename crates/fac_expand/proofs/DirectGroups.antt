@@ -78,7 +78,7 @@ module _ (N : Image) (uses : List Use) where
   applied_leads a q t e f d = applied_by a q t f (quoted a q e d)
 
   -- two quotations before an `if`
-  record Branched (a q s : ℕ) : Type 0 where
+  pub record Branched (a q s : ℕ) : Type 0 where
     pub tail : Bool
     pub there : tail_of_if (slice_get N.code (a + 2)) ≡ Some tail
     pub first : IsDirectThere N uses (entry_in (slice_get N.templates q))

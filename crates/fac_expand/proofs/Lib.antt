@@ -31,3 +31,6 @@ pub mod DirectGroups
 pub mod DirectThere
 pub mod BodyLemmas
 pub mod TailLemmas
+pub mod BackwardCode
+pub mod BackwardGroups
+pub mod BackwardSteps

@@ -13,3 +13,4 @@ pub mod DirectPlaces
 pub mod Bodies
 pub mod Tails
 pub mod DirectImages
+pub mod Backward

@@ -70,8 +70,8 @@ fn empty_draft(alloc: Global, cells: u32) -> Draft
     }
 }
 
-// The numbers from 0 on, so many.
-fn numbers(alloc: Global, count: u32) -> Result<List<u32>, Memory>
+/// The numbers from 0 on, so many.
+pub fn numbers(alloc: Global, count: u32) -> Result<List<u32>, Memory>
     ensures { IfOk result (λ numbers. numbers ≡ places_from 0 count) }
 {
     let mut numbers: List<u32> = List::new(alloc);

@@ -15,7 +15,7 @@ loop-word-preserved c =
     let uses = c.args.uses.now in
     let at = c.loop-word.word in
     below_more (λ (w : ℕ). (s : WordRow) → slice_get M.words w ≡ Some s → HasDirectAction N uses M w s.action) at c.loop-word.invariant
-    (λ s e. subst (λ (r : WordRow). HasDirectAction N uses M at r.action) (same_found (slice_get M.words at) c.in-Some.row.now s (sym c.in-Some.ensures) e) (c.in_ok-is_direct_action.ensures c.in-true.is))
+    (λ s e. subst (λ (r : WordRow). HasDirectAction N uses M at r.action) (same_found (slice_get M.words at) c.in-Some.row.now s (sym c.in-Some.ensures) e) (c.in_ok-is_direct_action-in-Some.ensures c.in-true.is))
 
 pub returns : goal.returns
 returns c =

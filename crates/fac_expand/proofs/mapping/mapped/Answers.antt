@@ -2,7 +2,7 @@ use Rattle.std.proofs.Common.{◌≡◌, ◌++◌, ℕ, List, Some, refl, ap, sy
 use Rattle.std.proofs.lemmas.Option.{slice_get-get_or}
 use Rattle.fac_expand.specs.inner.Calls.{cells_in}
 use Rattle.fac_expand.proofs.Changing.{mapping_goes_on, mapping_ends}
-use Rattle.fac_expand.proofs.plan.Plan.mapped.Goals as goal
+use Rattle.fac_expand.proofs.mapping.mapped.Goals as goal
 
 pub loop-cell-init : goal.loop-cell-init
 loop-cell-init c =
