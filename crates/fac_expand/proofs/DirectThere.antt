@@ -35,14 +35,14 @@ use Rattle.fac_expand.proofs.RunMoves.{template_stands, values_whole}
 
 -- Direct phrases with their shapes, which stay where values are put in.
 data Shape : Type 0 where
-  none : Shape
+  flat : Shape
   one : Shape → Shape
   two : Shape → Shape → Shape
   three : Shape → Shape → Shape → Shape
 
 module _ (P : Program) where
   data Shaped : Shape → Phrase → Type 0 where
-    shaped_end : Shaped none end
+    shaped_end : Shaped flat end
     shaped_item : {s : Shape} {i : Item} {p : Place} {t : Phrase} → IsOther P i → Shaped s t → Shaped (one s) (then i p t)
     shaped_call : {s u : Shape} {b t : Phrase} {p q : Place} (w : ℕ) → sort_of P w ≡ Some (core_sort w_call) → Shaped s b → Shaped u t → Shaped (two s u) (then (quot b) p (then (word w) q t))
     shaped_dip : {s u : Shape} {b t : Phrase} {p q : Place} (w : ℕ) → sort_of P w ≡ Some (core_sort w_dip) → Shaped s b → Shaped u t → Shaped (two s u) (then (quot b) p (then (word w) q t))
@@ -50,7 +50,7 @@ module _ (P : Program) where
         {s u v : Shape} {b c t : Phrase} {p q r : Place} (w : ℕ) → sort_of P w ≡ Some (core_sort w_if) → Shaped s b → Shaped u c → Shaped v t → Shaped (three s u v) (then (quot b) p (then (quot c) q (then (word w) r t)))
 
   has_shape : (t : Phrase) → Direct P t → (s : Shape) × Shaped s t
-  has_shape _ direct_end = (none, shaped_end)
+  has_shape _ direct_end = (flat, shaped_end)
   has_shape _ (direct_item o d) = let r = has_shape _ d in (one r.0, shaped_item o r.1)
   has_shape _ (direct_call w e b d) = let r = has_shape _ b in let u = has_shape _ d in (two r.0 u.0, shaped_call w e r.1 u.1)
   has_shape _ (direct_dip w e b d) = let r = has_shape _ b in let u = has_shape _ d in (two r.0 u.0, shaped_dip w e r.1 u.1)
@@ -89,19 +89,19 @@ module _ (P : Program) where
   put_shaped x v _ _ (shaped_if w e b c d) = shaped_if w e (put_shaped x v _ _ b) (put_shaped x v _ _ c) (put_shaped x v _ _ d)
 
 -- A quotation can be done, and so can what applies one.
-blank_world : World Value
+abbrev blank_world : World Value
 blank_world = record { objects = []; literals = []; input = []; asked = 0; output = [] }
 
-blank : List Value → State Value
+abbrev blank : List Value → State Value
 blank vs = record { stack = vs; world = blank_world }
 
-any_fits : Height → Height → Bool
+abbrev any_fits : Height → Height → Bool
 any_fits h k = true
 
-no_height : Callable → Option Height
+abbrev no_height : Callable → Option Height
 no_height c = None
 
-nothing : Callable
+abbrev nothing : Callable
 nothing = of_phrase end
 
 module _ (P : Program) where
@@ -250,7 +250,7 @@ module _ (P : Program) (N : Image) (uses : List Use) (plain : PlainCode P N) (ar
       Stands P N (template_phrases P) last F (a + 1) (then (quot c) p (then (word w) q t)) → DirectAt N uses a
   two_quoted last F a x w p q c t ends whole e h es other go (s_item z f tr st) = if_there last F a x z w q t ends whole e h f (quoted F c z whole other tr) es go st
 
-  any_value : MValue
+  abbrev any_value : MValue
   any_value = m_plain yes
 
   shaped_there : (s : Shape) (t : Phrase) → Shaped P s t → There t
