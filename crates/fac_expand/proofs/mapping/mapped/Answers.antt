@@ -10,8 +10,8 @@ loop-cell-init c =
 
 pub loop-cell-preserved : goal.loop-cell-preserved
 loop-cell-preserved c =
-    mapping_goes_on c.args.env.now c.as_slice-cell-items.result.now c.loop-cell.cell-index _ c.in-Some.place.now c.loop-cell.real c.push.new.self c.loop-cell.invariant (slice_get-get_or c.as_slice-cell-items.result.now c.loop-cell.cell-index 0 c.loop-cell-test.true) (sym c.in-Some.ensures) c.in_ok-push-in-Some.ensures.ok
+    mapping_goes_on c.args.env.now c.args.cells.now c.loop-cell.cell-index _ c.in-Some.place.now c.loop-cell.real c.push.new.self c.loop-cell.invariant (slice_get-get_or c.args.cells.now c.loop-cell.cell-index 0 c.loop-cell-test.true) (sym c.in-Some.ensures) c.in_ok-push-in-Some.ensures.ok
 
 pub returns : goal.returns
 returns c =
-    subst (λ (ks : List ℕ). cells_in c.args.env.now ks ≡ Some c.loop-cell.real) c.as_slice-cell-items.ensures (mapping_ends c.args.env.now c.as_slice-cell-items.result.now c.loop-cell.cell-index c.loop-cell.real c.loop-cell.invariant c.loop-cell-test.false)
+    mapping_ends c.args.env.now c.args.cells.now c.loop-cell.cell-index c.loop-cell.real c.loop-cell.invariant c.loop-cell-test.false
