@@ -4,9 +4,9 @@
 mod bodies;
 mod coming;
 mod copying;
+mod direct;
 mod direct_image;
 mod direct_places;
-mod direct;
 mod draft;
 mod entries;
 mod expansion;
