@@ -1,6 +1,6 @@
 -- Flags for the places where bodies begin, and the code of a body.
 use Rattle.std.proofs.Common.{◌≡◌, ◌<◌, ◌≤◌, ◌∷◌, [], ◌+◌, ◌++◌, ℕ, zero, suc, List, length, Bool, true, false, Some, refl, ap, sym, subst, ◌∙◌, arith, inl, inr}
-use Rattle.std.proofs.lemmas.Bool.{cases_lt, ltb-true}
+use Rattle.std.proofs.lemmas.Bool.{cases_lt}
 use Rattle.std.specs.Prelude.{◌&&◌, nat_le, nat_lt, slice_get, slice_set}
 use Rattle.fac_code.specs.declared.image.Action.{Action}
 use Rattle.fac_code.specs.declared.image.Action.TheVariants as action
@@ -11,8 +11,7 @@ use Rattle.fac_code.specs.declared.image.GenericRow.{GenericRow}
 use Rattle.fac_code.specs.declared.image.MethodRow.{MethodRow}
 use Rattle.fac_code.specs.declared.image.Image.{Image}
 use Rattle.fac_carry.specs.Direct.{Begins, begins_word, begins_method, begins_top, InBody, IsDirect, HasDirectCode}
-use Rattle.fac_expand.specs.inner.Bodies.{HasNoFlag, FlagIs, was, own, IsFlagged, ActionFlagIs, action_was, action_own, IsActionFlagged, MethodFlagIs, method_was, method_own, AreMethodsFlagged, HasActionFlag, HaveMethodFlags, HaveWordFlags, HaveGenericFlags, OnlyBegin, AreBegins, EndsAt, is_direct_between}
-use Rattle.fac_expand.proofs.DirectGroups.{clash}
+use Rattle.fac_expand.specs.inner.Bodies.{HasNoFlag, FlagIs, was, own, IsFlagged, ActionFlagIs, action_was, action_own, IsActionFlagged, MethodFlagIs, method_was, method_own, AreMethodsFlagged, HasActionFlag, HaveWordFlags, HaveGenericFlags, OnlyBegin, AreBegins, EndsAt, is_direct_between}
 
 flag_lifted : (x : Bool) (xs : List Bool) (k b : ℕ) → FlagIs xs k b → FlagIs (x ∷ xs) (suc k) (suc b)
 flag_lifted x xs k b (was e) = was e

@@ -3,12 +3,11 @@ use Rattle.std.proofs.Common.{◌≡◌, ◌+◌, ◌++◌, ◌∷◌, [], ℕ, 
 use Rattle.std.proofs.lemmas.List.{append-nil}
 use Rattle.std.specs.Prelude.{slice_get, MatchOption}
 use Rattle.fac_code.specs.declared.image.Instr.{Instr}
-use Rattle.fac_code.specs.declared.image.Instr.TheVariants.{Quot, Call, Dip, If}
+use Rattle.fac_code.specs.declared.image.Instr.TheVariants.{Quot}
 use Rattle.fac_code.specs.declared.image.TemplateRow.{TemplateRow}
 use Rattle.fac_code.specs.declared.image.Image.{Image}
 use Rattle.fac_carry.specs.Stands.{ends_phrase}
 use Rattle.fac_expand.specs.declared.plan.Use.{Use}
-use Rattle.fac_expand.specs.declared.direct_places.Behind.{Behind}
 use Rattle.fac_expand.specs.declared.direct_places.Behind.TheVariants.{Nothing, Applied, Quotation}
 use Rattle.fac_expand.specs.inner.Calls.{has_tail}
 use Rattle.fac_expand.specs.inner.DirectPlaces.{is_other, DirectAt, at_end, at_last, at_item, at_call, at_last_call, at_dip, at_if, at_last_if, stands_behind, tail_of_if, made_quotation, entry_in, listed, IsDirectThere, AreDirect}

@@ -12,18 +12,17 @@ use Rattle.fac_lang.specs.declared.core_table.CoreWord.TheVariants.{Call as w_ca
 use Rattle.fac_lang.specs.Phrases.{yes, Phrase, end, then, Item, lit, lit_arr, quot, word, bind, local, fry, hole, call_effect, execute_effect, next_method, made, next_after, held, known, Value, plain as plain_value, fun, Callable, of_phrase}
 use Rattle.fac_lang.specs.Substitution.{binds_local, put_local, put_local_item}
 use Rattle.fac_lang.specs.World.{World, State}
-use Rattle.fac_lang.specs.Eval.{Act, wrong, goes, runs}
+use Rattle.fac_lang.specs.Eval.{wrong, goes, runs}
 use Rattle.fac_lang.specs.Meaning.{sort_of, sort_act, word_phrase}
 use Rattle.fac_code.specs.declared.image.Instr.{Instr}
 use Rattle.fac_code.specs.declared.image.Instr.TheVariants.{Quot, Call, Dip, If, Ret, Halt, Bind, Boa}
 use Rattle.fac_code.specs.declared.image.TemplateRow.{TemplateRow}
-use Rattle.fac_code.specs.declared.image.WordRow.{WordRow}
 use Rattle.fac_code.specs.declared.image.Image.{Image}
 use Rattle.fac_store.specs.MachineValues.{MValue, m_plain}
 use Rattle.fac_carry.specs.Accessors.{Accessor, getting, setting, putting, accessor_instr, accessor_sort}
-use Rattle.fac_carry.specs.MachineView.{template_phrases, value_view, values_view}
+use Rattle.fac_carry.specs.MachineView.{template_phrases, value_view}
 use Rattle.fac_carry.specs.WholeValues.{AllWhole}
-use Rattle.fac_carry.specs.Stands.{RunsPhrase, PushesItself, IsStuck, HasCode, ends_phrase, Calling, l_word, l_call, l_if, l_execute, l_call_effect, l_execute_effect, l_generic, l_next, Translates, t_int, t_true, t_false, t_text, t_array, t_reference, t_symbol, t_held, t_quot, t_fry, t_prim, t_accessor, t_isa, t_dip, t_boa, t_stuck, t_calling, Stands, s_end, s_item, s_tail, s_bind, PlainCode}
+use Rattle.fac_carry.specs.Stands.{RunsPhrase, PushesItself, IsStuck, ends_phrase, Calling, l_word, l_call, l_if, l_execute, l_call_effect, l_execute_effect, l_generic, l_next, Translates, t_int, t_true, t_false, t_text, t_array, t_reference, t_symbol, t_held, t_quot, t_fry, t_prim, t_accessor, t_isa, t_dip, t_boa, t_stuck, t_calling, Stands, s_end, s_item, s_tail, s_bind, PlainCode}
 use Rattle.fac_carry.specs.Direct.{AppliesNothing, IsOther, Direct, direct_end, direct_item, direct_call, direct_dip, direct_if}
 use Rattle.fac_carry.proofs.WholeValueLemmas.{cells_whole, more_whole}
 use Rattle.fac_expand.specs.declared.plan.Use.{Use}

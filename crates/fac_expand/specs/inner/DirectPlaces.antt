@@ -1,5 +1,5 @@
 -- Places of plain code where direct phrases begin: each quotation stands directly before what applies it.
-use Rattle.std.specs.Prelude.{◌≡◌, ◌+◌, ◌++◌, ◌∷◌, [], ℕ, List, Bool, true, false, Option, Some, None, slice_get}
+use Rattle.std.specs.Prelude.{◌≡◌, ◌+◌, ◌∷◌, [], ℕ, List, Bool, true, false, Option, Some, None, slice_get}
 use Rattle.fac_code.specs.declared.image.Instr.{Instr}
 use Rattle.fac_code.specs.declared.image.Instr.TheVariants.{Halt, Quot, Fry, Callw, Call, Dip, If, Ret}
 use Rattle.fac_code.specs.declared.image.TemplateRow.{TemplateRow}
@@ -10,7 +10,7 @@ use Rattle.fac_expand.specs.declared.direct_places.Behind.TheVariants.{Nothing, 
 use Rattle.fac_expand.specs.declared.direct_places.Group.{Group}
 use Rattle.fac_expand.specs.declared.direct_places.Group.TheVariants.{Indirect, Leads}
 use Rattle.fac_expand.specs.declared.plan.Use.{Use}
-use Rattle.fac_expand.specs.declared.plan.Use.TheVariants.{Called, InPlace, Specialised}
+use Rattle.fac_expand.specs.declared.plan.Use.TheVariants.{Called}
 use Rattle.fac_expand.specs.inner.Calls.{has_tail}
 
 -- what a use of a word is to become, where it isn't inline

@@ -1,5 +1,5 @@
 -- What comes next at places of code, as far as that tells which calls need no return entry.
-use Rattle.std.specs.Prelude.{◌≡◌, ◌≤◌, ◌+◌, ℕ, zero, suc, List, Bool, true, false, Option, Some, None, slice_get}
+use Rattle.std.specs.Prelude.{◌≡◌, ◌≤◌, ℕ, zero, List, Option, Some, None, slice_get}
 use Rattle.fac_code.specs.declared.image.Instr.{Instr}
 use Rattle.fac_code.specs.declared.image.Instr.TheVariants.{Tick, Ret, Hold, Back, Jump, Unbind}
 use Rattle.fac_code.specs.declared.image.Image.{Image}

@@ -1,4 +1,4 @@
-use Rattle.std.proofs.Common.{List, Bool, sym, subst}
+use Rattle.std.proofs.Common.{sym, subst}
 use Rattle.fac_expand.specs.inner.Bodies.{AreMethodsFlagged}
 use Rattle.fac_expand.proofs.BodyLemmas.{method_flagged}
 use Rattle.fac_expand.proofs.bodies.flag_methods.Goals as goal

@@ -1,4 +1,4 @@
-use Rattle.std.proofs.Common.{◌≡◌, ◌<◌, ℕ, Some, arith, sym, subst, below_more}
+use Rattle.std.proofs.Common.{◌≡◌, ℕ, Some, arith, sym, subst, below_more}
 use Rattle.std.proofs.lemmas.Option.{slice_get_within}
 use Rattle.std.specs.Prelude.{slice_get}
 use Rattle.fac_code.specs.declared.image.GenericRow.{GenericRow}

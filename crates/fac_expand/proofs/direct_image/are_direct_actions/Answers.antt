@@ -1,4 +1,4 @@
-use Rattle.std.proofs.Common.{◌≡◌, ◌<◌, ℕ, Some, arith, sym, subst, below_more}
+use Rattle.std.proofs.Common.{◌≡◌, ℕ, Some, arith, sym, subst, below_more}
 use Rattle.std.specs.Prelude.{slice_get}
 use Rattle.fac_code.specs.declared.image.WordRow.{WordRow}
 use Rattle.fac_expand.specs.inner.DirectImages.{HasDirectAction}
