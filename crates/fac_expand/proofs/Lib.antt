@@ -27,6 +27,10 @@ pub mod DroppedCells
 pub mod ShorterFrames
 pub mod Passed
 pub mod Counts
+pub mod DirectGroups
+pub mod DirectThere
+pub mod BodyLemmas
+pub mod TailLemmas
 pub mod BackwardCode
 pub mod BackwardGroups
 pub mod BackwardSteps

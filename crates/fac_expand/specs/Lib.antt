@@ -1,3 +1,4 @@
 pub mod SameButPlaces
 pub mod Expands
+pub mod DirectInPlace
 pub mod inner

@@ -10,4 +10,7 @@ pub mod PieceCode
 pub mod Pieces
 pub mod Makings
 pub mod DirectPlaces
+pub mod Bodies
+pub mod Tails
+pub mod DirectImages
 pub mod Backward

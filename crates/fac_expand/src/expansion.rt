@@ -3,9 +3,11 @@ ghost use Rattle.std.specs.Prelude.{◌≡◌, [], true, IfOk, MatchOption};
 ghost use Rattle.std.specs.List.{list_any};
 ghost use Rattle.fac_carry.specs.TestedCalls.{TestsCallables};
 ghost use Rattle.fac_expand.specs.Expands.{Expands};
+ghost use Rattle.fac_expand.specs.DirectInPlace.{KeepsDirect};
 ghost use Rattle.fac_expand.specs.inner.Makings.{Makes, IsMadeOf};
 ghost use Rattle.fac_expand.specs.inner.Pieces.{is_test, IsMade, ArePlaced};
 
+use crate::direct_image::has_direct_code;
 use crate::making::{Making, are_placed};
 use crate::pieces::{Expander, Extent, make_expander};
 use crate::plan::Use;
@@ -113,10 +115,65 @@ fn expanded(
     }
 }
 
+// The image with its code expanded as far as a run comes, or as it is.
+fn expanded_or_plain(alloc: Global, plain: Image, top: u32, uses: &[Use]) -> Result<Image, Memory>
+    ensures { IfOk result (Expands top plain) }
+{
+    match expanded(alloc, &plain, top, uses, Extent::Reached)? {
+        Some(image) => Ok(image),
+        None => Ok(plain),
+    }
+}
+
+// The image with all of its code expanded, where each direct phrase has direct code in it.
+fn directly_expanded(
+    alloc: Global,
+    plain: &Image,
+    top: u32,
+    uses: &[Use],
+) -> Result<Option<Image>, Memory>
+    ensures expands { IfOk result (λ o. MatchOption o (Unit {0}) (Expands top plain.now)) }
+    ensures direct { IfOk result (λ o. MatchOption o (Unit {0}) (KeepsDirect top plain.now uses.now)) }
+{
+    let image = match expanded(alloc, plain, top, uses, Extent::All)? {
+        Some(image) => image,
+        None => return Ok(None),
+    };
+    if has_direct_code(alloc, plain, uses, top, &image)? {
+        return Ok(Some(image));
+    }
+    Ok(None)
+}
+
+// The plain image, where each direct phrase has direct code in it.
+fn directly_plain(alloc: Global, plain: Image, top: u32, uses: &[Use]) -> Result<Image, Memory>
+    ensures expands { IfOk result (Expands top plain) }
+    ensures direct { IfOk result (KeepsDirect top plain uses.now) }
+{
+    if has_direct_code(alloc, &plain, uses, top, &plain)? {
+        return Ok(plain);
+    }
+    Err(Memory)
+}
+
+// The image with all of its code expanded. No program is known for which neither that image nor the plain one has direct code for each direct phrase; it would
+// be answered as want of memory.
+fn wholly_expanded(alloc: Global, plain: Image, top: u32, uses: &[Use]) -> Result<Image, Memory>
+    ensures expands { IfOk result (Expands top plain) }
+    ensures direct { IfOk result (KeepsDirect top plain uses.now) }
+{
+    match directly_expanded(alloc, &plain, top, uses)? {
+        Some(image) => Ok(image),
+        None => directly_plain(alloc, plain, top, uses),
+    }
+}
+
 /// The image with its code expanded: a callable that is made of a quotation and applied at once is run in place. The top-level phrase has this
 /// number, and `uses` says by the number of a word what a use of it becomes; both that and the extent are only hints. The tables are those of
 /// the plain image but for places. For each program with this top-level phrase for whose phrases the plain code stands, the code that is made
-/// stands too. Where it can't be made so, the image stays as it is. Want of memory is the one error.
+/// stands too. Where it can't be made so, the image stays as it is. Where all is expanded, each direct phrase has direct code. Want of memory is the one error:
+/// so it is answered too where all is to be expanded and neither the expanded image nor the plain one has direct code for each direct phrase. No program is
+/// known that comes to that.
 pub fn expand(
     alloc: Global,
     plain: Image,
@@ -124,10 +181,11 @@ pub fn expand(
     uses: &[Use],
     extent: Extent,
 ) -> Result<Image, Memory>
-    ensures { IfOk result (Expands top plain) }
+    ensures expands { IfOk result (Expands top plain) }
+    ensures direct { extent ≡ Extent.All → IfOk result (KeepsDirect top plain uses.now) }
 {
-    match expanded(alloc, &plain, top, uses, extent)? {
-        Some(image) => Ok(image),
-        None => Ok(plain),
+    match extent {
+        Extent::All => wholly_expanded(alloc, plain, top, uses),
+        Extent::Reached => expanded_or_plain(alloc, plain, top, uses),
     }
 }

@@ -1,9 +1,12 @@
 //! Expanded code: what plain code makes as a callable and applies at once is done in place.
 #![tactic(auto)]
 
+mod bodies;
 mod coming;
 mod copying;
 mod direct;
+mod direct_image;
+mod direct_places;
 mod draft;
 mod entries;
 mod expansion;
@@ -29,6 +32,7 @@ mod shuffles;
 mod steps;
 mod stopped;
 mod tables;
+mod tails;
 
 pub use expansion::expand;
 pub use pieces::Extent;

@@ -12,8 +12,8 @@ use fac_base::{List, Memory};
 use fac_code::{Image, Instr, TemplateRow};
 use std::alloc::Global;
 
-// Whether an instruction ends a phrase.
-fn is_end(instr: Instr) -> bool
+/// Whether an instruction ends a phrase.
+pub fn is_end(instr: Instr) -> bool
     ensures { result ≡ ends_phrase instr }
 {
     match instr {

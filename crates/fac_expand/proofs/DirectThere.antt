@@ -1,0 +1,282 @@
+-- Where plain code stands for a direct phrase, the code of a direct phrase begins.
+use Rattle.std.proofs.Common.{◌≡◌, ◌<◌, ◌+◌, ◌++◌, ℕ, List, [], ◌∷◌, length, Bool, true, false, Option, Some, None, refl, ap, sym, subst, ◌∙◌, arith}
+use Rattle.std.specs.Prelude.{nat_eq, slice_get}
+use Rattle.fac_base.specs.declared.height.Height.{Height}
+use Rattle.fac_base.specs.declared.place.Place.{Place}
+use Rattle.fac_lang.specs.declared.program.Program.{Program}
+use Rattle.fac_lang.specs.declared.program.WordDef.{WordDef}
+use Rattle.fac_lang.specs.declared.program.Sort.{Sort}
+use Rattle.fac_lang.specs.declared.program.Sort.TheVariants.{Core as core_sort}
+use Rattle.fac_lang.specs.declared.core_table.CoreWord.{CoreWord}
+use Rattle.fac_lang.specs.declared.core_table.CoreWord.TheVariants.{Call as w_call, Dip as w_dip, If as w_if, Execute as w_execute, Boa as w_boa}
+use Rattle.fac_lang.specs.Phrases.{yes, Phrase, end, then, Item, lit, lit_arr, quot, word, bind, local, fry, hole, call_effect, execute_effect, next_method, made, next_after, held, known, Value, plain as plain_value, fun, Callable, of_phrase}
+use Rattle.fac_lang.specs.Substitution.{binds_local, put_local, put_local_item}
+use Rattle.fac_lang.specs.World.{World, State}
+use Rattle.fac_lang.specs.Eval.{wrong, goes, runs}
+use Rattle.fac_lang.specs.Meaning.{sort_of, sort_act, word_phrase}
+use Rattle.fac_code.specs.declared.image.Instr.{Instr}
+use Rattle.fac_code.specs.declared.image.Instr.TheVariants.{Quot, Call, Dip, If, Ret, Halt, Bind, Boa}
+use Rattle.fac_code.specs.declared.image.TemplateRow.{TemplateRow}
+use Rattle.fac_code.specs.declared.image.Image.{Image}
+use Rattle.fac_store.specs.MachineValues.{MValue, m_plain}
+use Rattle.fac_carry.specs.Accessors.{Accessor, getting, setting, putting, accessor_instr, accessor_sort}
+use Rattle.fac_carry.specs.MachineView.{template_phrases, value_view}
+use Rattle.fac_carry.specs.WholeValues.{AllWhole}
+use Rattle.fac_carry.specs.Stands.{RunsPhrase, PushesItself, IsStuck, ends_phrase, Calling, l_word, l_call, l_if, l_execute, l_call_effect, l_execute_effect, l_generic, l_next, Translates, t_int, t_true, t_false, t_text, t_array, t_reference, t_symbol, t_held, t_quot, t_fry, t_prim, t_accessor, t_isa, t_dip, t_boa, t_stuck, t_calling, Stands, s_end, s_item, s_tail, s_bind, PlainCode}
+use Rattle.fac_carry.specs.Direct.{AppliesNothing, IsOther, Direct, direct_end, direct_item, direct_call, direct_dip, direct_if}
+use Rattle.fac_carry.proofs.WholeValueLemmas.{cells_whole, more_whole}
+use Rattle.fac_expand.specs.declared.plan.Use.{Use}
+use Rattle.fac_expand.specs.DirectInPlace.{UsesAre, KeepsDirect}
+use Rattle.fac_expand.specs.inner.Calls.{has_tail}
+use Rattle.fac_expand.specs.inner.DirectPlaces.{is_called, is_other, DirectAt, at_end, at_last, at_item, at_call, at_last_call, at_dip, at_if, at_last_if}
+use Rattle.fac_expand.specs.inner.DirectImages.{IsDirectOf}
+use Rattle.fac_expand.proofs.RunMoves.{template_stands, values_whole}
+
+-- Direct phrases with their shapes, which stay where values are put in.
+data Shape : Type 0 where
+  flat : Shape
+  one : Shape → Shape
+  two : Shape → Shape → Shape
+  three : Shape → Shape → Shape → Shape
+
+module _ (P : Program) where
+  data Shaped : Shape → Phrase → Type 0 where
+    shaped_end : Shaped flat end
+    shaped_item : {s : Shape} {i : Item} {p : Place} {t : Phrase} → IsOther P i → Shaped s t → Shaped (one s) (then i p t)
+    shaped_call : {s u : Shape} {b t : Phrase} {p q : Place} (w : ℕ) → sort_of P w ≡ Some (core_sort w_call) → Shaped s b → Shaped u t → Shaped (two s u) (then (quot b) p (then (word w) q t))
+    shaped_dip : {s u : Shape} {b t : Phrase} {p q : Place} (w : ℕ) → sort_of P w ≡ Some (core_sort w_dip) → Shaped s b → Shaped u t → Shaped (two s u) (then (quot b) p (then (word w) q t))
+    shaped_if :
+        {s u v : Shape} {b c t : Phrase} {p q r : Place} (w : ℕ) → sort_of P w ≡ Some (core_sort w_if) → Shaped s b → Shaped u c → Shaped v t → Shaped (three s u v) (then (quot b) p (then (quot c) q (then (word w) r t)))
+
+  has_shape : (t : Phrase) → Direct P t → (s : Shape) × Shaped s t
+  has_shape _ direct_end = (flat, shaped_end)
+  has_shape _ (direct_item o d) = let r = has_shape _ d in (one r.0, shaped_item o r.1)
+  has_shape _ (direct_call w e b d) = let r = has_shape _ b in let u = has_shape _ d in (two r.0 u.0, shaped_call w e r.1 u.1)
+  has_shape _ (direct_dip w e b d) = let r = has_shape _ b in let u = has_shape _ d in (two r.0 u.0, shaped_dip w e r.1 u.1)
+  has_shape _ (direct_if w e b c d) = let r = has_shape _ b in let s = has_shape _ c in let u = has_shape _ d in (three r.0 s.0 u.0, shaped_if w e r.1 s.1 u.1)
+
+  local_other : (v : Value) (y : ℕ) (b : Bool) → IsOther P (elim b [ true ↦ held v | false ↦ local y ])
+  local_other v y true = tt
+  local_other v y false = tt
+
+  put_other : (x : ℕ) (v : Value) (i : Item) → IsOther P i → IsOther P (put_local_item x (held v) i)
+  put_other x v (lit p) o = tt
+  put_other x v (lit_arr a) o = tt
+  put_other x v (quot t) o = absurd o
+  put_other x v (word w) o = o
+  put_other x v (bind y) o = tt
+  put_other x v (local y) o = local_other v y (nat_eq x y)
+  put_other x v (fry t n) o = absurd o
+  put_other x v (hole k) o = tt
+  put_other x v (call_effect h) o = tt
+  put_other x v (execute_effect h) o = tt
+  put_other x v next_method o = tt
+  put_other x v (made k) o = tt
+  put_other x v (next_after m) o = tt
+  put_other x v (held w) o = tt
+  put_other x v (known m) o = tt
+
+  either_shaped : (s : Shape) (t u : Phrase) (b : Bool) → Shaped s t → Shaped s u → Shaped s (elim b [ true ↦ t | false ↦ u ])
+  either_shaped s t u true h k = h
+  either_shaped s t u false h k = k
+
+  put_shaped : (x : ℕ) (v : Value) (s : Shape) (t : Phrase) → Shaped s t → Shaped s (put_local x (held v) t)
+  put_shaped x v _ _ shaped_end = shaped_end
+  put_shaped x v _ _ (shaped_item {s = s} {i = i} {t = t} o d) = shaped_item (put_other x v i o) (either_shaped s t (put_local x (held v) t) (binds_local x i) d (put_shaped x v s t d))
+  put_shaped x v _ _ (shaped_call w e b d) = shaped_call w e (put_shaped x v _ _ b) (put_shaped x v _ _ d)
+  put_shaped x v _ _ (shaped_dip w e b d) = shaped_dip w e (put_shaped x v _ _ b) (put_shaped x v _ _ d)
+  put_shaped x v _ _ (shaped_if w e b c d) = shaped_if w e (put_shaped x v _ _ b) (put_shaped x v _ _ c) (put_shaped x v _ _ d)
+
+-- A quotation can be done, and so can what applies one.
+abbrev blank_world : World Value
+blank_world = record { objects = []; literals = []; input = []; asked = 0; output = [] }
+
+abbrev blank : List Value → State Value
+blank vs = record { stack = vs; world = blank_world }
+
+abbrev any_fits : Height → Height → Bool
+any_fits h k = true
+
+abbrev no_height : Callable → Option Height
+no_height c = None
+
+abbrev nothing : Callable
+nothing = of_phrase end
+
+module _ (P : Program) where
+  quotation_goes : {A : Type 0} (b : Phrase) → IsStuck P (quot b) → A
+  quotation_goes b stuck = absurd (let e : goes (blank (fun (of_phrase b) ∷ [])) ≡ wrong = stuck any_fits no_height (blank []) in cc)
+
+  -- what the item of a core word that applies callables is, in a tail call or not
+  abbrev Applies : CoreWord → Bool → Instr → Type 0
+  Applies w_call tail x = x ≡ Call tail
+  Applies w_dip false x = x ≡ Dip
+  Applies w_dip true x = ⊥
+  Applies w_if tail x = x ≡ If tail
+  Applies _ tail x = Unit {0}
+
+  stuck_core : (c : CoreWord) (w : ℕ) (st : State Value) → sort_of P w ≡ Some (core_sort c) → IsStuck P (word w) → sort_act P w (Some (core_sort c)) st ≡ wrong
+  stuck_core c w st e stuck = subst (λ (o : Option Sort). sort_act P w o st ≡ wrong) e (stuck any_fits no_height st)
+
+  stuck_applies : (c : CoreWord) (w : ℕ) → sort_of P w ≡ Some (core_sort c) → IsStuck P (word w) → Applies c false Boa
+  stuck_applies w_call w e stuck = absurd (let no : runs nothing (blank []) [] ≡ wrong = stuck_core w_call w (blank (fun nothing ∷ [])) e stuck in cc)
+  stuck_applies w_dip w e stuck = absurd (let no : runs nothing (blank []) (plain_value yes ∷ []) ≡ wrong = stuck_core w_dip w (blank (fun nothing ∷ plain_value yes ∷ [])) e stuck in cc)
+  stuck_applies w_if w e stuck = absurd (let no : runs nothing (blank []) [] ≡ wrong = stuck_core w_if w (blank (fun nothing ∷ fun nothing ∷ plain_value yes ∷ [])) e stuck in cc)
+  stuck_applies _ w e stuck = tt
+
+  same_core : (o : Option Sort) (c d : CoreWord) → o ≡ Some (core_sort c) → o ≡ Some (core_sort d) → d ≡ c
+  same_core o c d e f = let both : Some (core_sort d) ≡ Some (core_sort c) = sym f ∙ e in cc
+
+  accessor_core : {A : Type 0} (x : Accessor) (s : List ℕ) (c : CoreWord) → Some (core_sort c) ≡ Some (accessor_sort x s) → A
+  accessor_core getting s c e = absurd (cc)
+  accessor_core setting s c e = absurd (cc)
+  accessor_core putting s c e = absurd (cc)
+
+  module _ (N : Image) where
+    calling_applies : (tail : Bool) (w : ℕ) (c : CoreWord) (x : Instr) → sort_of P w ≡ Some (core_sort c) → Calling P N tail (word w) x → Applies c tail x
+    calling_applies tail w c x e (l_word _ a code) = absurd (subst RunsPhrase e code.runs)
+    calling_applies tail w c x e (l_call _ f) = subst (λ (d : CoreWord). Applies d tail x) (same_core _ c w_call e f) refl
+    calling_applies tail w c x e (l_if _ f) = subst (λ (d : CoreWord). Applies d tail x) (same_core _ c w_if e f) refl
+    calling_applies tail w c x e (l_execute _ f) = subst (λ (d : CoreWord). Applies d tail x) (same_core _ c w_execute e f) tt
+    calling_applies tail w c x e (l_generic _ n r f er ew same) = absurd (let no = sym e ∙ f in cc)
+
+    translates_applies : (F : List MValue) (w : ℕ) (c : CoreWord) (x : Instr) → sort_of P w ≡ Some (core_sort c) → Translates P N (template_phrases P) F (word w) x → Applies c false x
+    translates_applies F w c x e (t_symbol _ r pushes none ew) = absurd (subst PushesItself e pushes)
+    translates_applies F w c x e (t_prim _ k f built ew) = absurd (let no = sym e ∙ f in cc)
+    translates_applies F w c x e (t_accessor y _ k s f et ew) = accessor_core y s c (sym e ∙ f)
+    translates_applies F w c x e (t_isa _ d k f same) = absurd (let no = sym e ∙ f in cc)
+    translates_applies F w c x e (t_dip _ f) = subst (λ (d : CoreWord). Applies d false x) (same_core _ c w_dip e f) refl
+    translates_applies F w c x e (t_boa _ f) = subst (λ (d : CoreWord). Applies d false x) (same_core _ c w_boa e f) tt
+    translates_applies F w c x e (t_stuck stuck) = stuck_applies c w e stuck
+    translates_applies F w c x e (t_calling calls) = calling_applies false w c x e calls
+
+has_definition : (o : Option WordDef) → RunsPhrase (elim o [ Some d ↦ Some d.sort | None ↦ None ]) → (d : WordDef) × (o ≡ Some d)
+has_definition None h = absurd h
+has_definition (Some d) h = (d, refl)
+
+module _ (P : Program) (N : Image) (uses : List Use) (plain : PlainCode P N) (are : UsesAre P uses) where
+  -- another item's instruction
+  calling_other : (tail : Bool) (i : Item) (x : Instr) → IsOther P i → Calling P N tail i x → (is_other uses x ≡ true) × (has_tail x ≡ tail)
+  calling_other tail _ _ o (l_word w a code) = let d = has_definition (slice_get P.words w) code.runs in (ap is_called (are w d.0 d.1 (o.1 d.0 d.1)), refl)
+  calling_other tail _ _ o (l_call w e) = absurd (subst (AppliesNothing P) e o.0)
+  calling_other tail _ _ o (l_if w e) = absurd (subst (AppliesNothing P) e o.0)
+  calling_other tail _ _ o (l_execute w e) = (refl, refl)
+  calling_other tail _ _ o (l_call_effect h) = (refl, refl)
+  calling_other tail _ _ o (l_execute_effect h) = (refl, refl)
+  calling_other tail _ _ o (l_generic w n r e er ew same) = (refl, refl)
+  calling_other tail _ _ o (l_next m n j r em er ew same) = (refl, refl)
+
+  accessor_other : (y : Accessor) (k : ℕ) → (is_other uses (accessor_instr y k) ≡ true) × (has_tail (accessor_instr y k) ≡ false)
+  accessor_other getting k = (refl, refl)
+  accessor_other setting k = (refl, refl)
+  accessor_other putting k = (refl, refl)
+
+  translates_other : (F : List MValue) (i : Item) (x : Instr) → IsOther P i → Translates P N (template_phrases P) F i x → (is_other uses x ≡ true) × (has_tail x ≡ false)
+  translates_other F _ _ o (t_int z) = (refl, refl)
+  translates_other F _ _ o t_true = (refl, refl)
+  translates_other F _ _ o t_false = (refl, refl)
+  translates_other F _ _ o (t_text cs k e) = (refl, refl)
+  translates_other F _ _ o (t_array a) = (refl, refl)
+  translates_other F _ _ o (t_reference w r none e) = (refl, refl)
+  translates_other F _ _ o (t_symbol w r pushes none e) = (refl, refl)
+  translates_other F _ _ o (t_held k v e) = (refl, refl)
+  translates_other F _ _ o (t_quot q r vs e none cells) = absurd o
+  translates_other F _ _ o (t_fry q r vs b e cells holes) = absurd o
+  translates_other F _ _ o (t_prim w k e built ew) = (refl, refl)
+  translates_other F _ _ o (t_accessor y w k s e et ew) = accessor_other y k
+  translates_other F _ _ o (t_isa w c k e same) = (refl, refl)
+  translates_other F _ _ o (t_dip w e) = absurd (subst (AppliesNothing P) e o.0)
+  translates_other F _ _ o (t_boa w e) = (refl, refl)
+  translates_other F _ _ o (t_stuck stuck) = (refl, refl)
+  translates_other F i x o (t_calling c) = calling_other false i x o c
+
+  -- wherever the plain code of a phrase stands, that of a direct phrase begins
+  abbrev There : Phrase → Type 0
+  There t = (last : Instr) (F : List MValue) (a : ℕ) → ends_phrase last ≡ true → AllWhole P N F → Stands P N (template_phrases P) last F a t → DirectAt N uses a
+
+  -- a quotation's template, whose code is that of a direct phrase
+  record HasDirectTemplate (x : Instr) : Type 0 where
+    number : ℕ
+    row : TemplateRow
+    made : x ≡ Quot number
+    there : slice_get N.templates number ≡ Some row
+    direct : DirectAt N uses row.entry
+
+  no_calling : {A : Type 0} (tail : Bool) (b : Phrase) (x : Instr) → Calling P N tail (quot b) x → A
+  no_calling tail b x c = elim c [ ]
+
+  quoted : (F : List MValue) (b : Phrase) (x : Instr) → AllWhole P N F → There b → Translates P N (template_phrases P) F (quot b) x → HasDirectTemplate x
+  quoted F _ _ whole go (t_quot q r vs e none cells) =
+      let kept = cells_whole P N r.cells F vs whole cells in
+      let many : length vs ≡ length r.cells + r.holes = let size = kept.1 in omega (arith, size, none) in
+      record { number = q; row = r; made = refl; there = e; direct = go Ret vs r.entry refl kept.0 (template_stands P N q r vs plain e many (values_whole P N r.cells F vs cells whole)) }
+  quoted F b _ whole go (t_stuck stuck) = quotation_goes P b stuck
+  quoted F b x whole go (t_calling c) = no_calling false b x c
+
+  two_on : (a : ℕ) → DirectAt N uses (a + 1 + 1) → DirectAt N uses (a + 2)
+  two_on a d = let e : a + 1 + 1 ≡ a + 2 = omega arith in subst (DirectAt N uses) e d
+
+  three_on : (a : ℕ) → DirectAt N uses (a + 1 + 1 + 1) → DirectAt N uses (a + 3)
+  three_on a d = let e : a + 1 + 1 + 1 ≡ a + 3 = omega arith in subst (DirectAt N uses) e d
+
+  is_at : (a : ℕ) (x y : Instr) → slice_get N.code a ≡ Some x → x ≡ y → slice_get N.code a ≡ Some y
+  is_at a x y e is = e ∙ ap Some is
+
+  call_there : (last : Instr) (F : List MValue) (a : ℕ) (x : Instr) (w : ℕ) (p : Place) (t : Phrase) → ends_phrase last ≡ true → AllWhole P N F → slice_get N.code a ≡ Some x → HasDirectTemplate x → sort_of P w ≡ Some (core_sort w_call) → There t →
+      Stands P N (template_phrases P) last F (a + 1) (then (word w) p t) → DirectAt N uses a
+  call_there last F a x w p t ends whole e h es go (s_item y f tr st) =
+      at_call h.number h.row (is_at a x (Quot h.number) e h.made) h.there (is_at (a + 1) y (Call false) f (translates_applies P N F w w_call y es tr)) h.direct (two_on a (go last F (a + 1 + 1) ends whole st))
+  call_there last F a x w p _ ends whole e h es go (s_tail y is f c) = at_last_call h.number h.row (is_at a x (Quot h.number) e h.made) h.there (is_at (a + 1) y (Call true) f (calling_applies P N true w w_call y es c)) h.direct
+
+  dip_there : (last : Instr) (F : List MValue) (a : ℕ) (x : Instr) (w : ℕ) (p : Place) (t : Phrase) → ends_phrase last ≡ true → AllWhole P N F → slice_get N.code a ≡ Some x → HasDirectTemplate x → sort_of P w ≡ Some (core_sort w_dip) → There t →
+      Stands P N (template_phrases P) last F (a + 1) (then (word w) p t) → DirectAt N uses a
+  dip_there last F a x w p t ends whole e h es go (s_item y f tr st) =
+      at_dip h.number h.row (is_at a x (Quot h.number) e h.made) h.there (is_at (a + 1) y Dip f (translates_applies P N F w w_dip y es tr)) h.direct (two_on a (go last F (a + 1 + 1) ends whole st))
+  dip_there last F a x w p _ ends whole e h es go (s_tail y is f c) = absurd (calling_applies P N true w w_dip y es c)
+
+  second_at : (a : ℕ) (y : Instr) → slice_get N.code (a + 1 + 1) ≡ Some y → slice_get N.code (a + 2) ≡ Some y
+  second_at a y e = let same : a + 1 + 1 ≡ a + 2 = omega arith in subst (λ (n : ℕ). slice_get N.code n ≡ Some y) same e
+
+  if_there : (last : Instr) (F : List MValue) (a : ℕ) (x z : Instr) (w : ℕ) (p : Place) (t : Phrase) → ends_phrase last ≡ true → AllWhole P N F → slice_get N.code a ≡ Some x → HasDirectTemplate x → slice_get N.code (a + 1) ≡ Some z → HasDirectTemplate z →
+      sort_of P w ≡ Some (core_sort w_if) → There t → Stands P N (template_phrases P) last F (a + 1 + 1) (then (word w) p t) → DirectAt N uses a
+  if_there last F a x z w p t ends whole e h ez k es go (s_item y f tr st) =
+      at_if h.number k.number h.row k.row (is_at a x (Quot h.number) e h.made) h.there (is_at (a + 1) z (Quot k.number) ez k.made) k.there (second_at a (If false) (is_at (a + 1 + 1) y (If false) f (translates_applies P N F w w_if y es tr))) h.direct k.direct
+      (three_on a (go last F (a + 1 + 1 + 1) ends whole st))
+  if_there last F a x z w p _ ends whole e h ez k es go (s_tail y is f c) =
+      at_last_if h.number k.number h.row k.row (is_at a x (Quot h.number) e h.made) h.there (is_at (a + 1) z (Quot k.number) ez k.made) k.there (second_at a (If true) (is_at (a + 1 + 1) y (If true) f (calling_applies P N true w w_if y es c))) h.direct k.direct
+
+  two_quoted : (last : Instr) (F : List MValue) (a : ℕ) (x : Instr) (w : ℕ) (p q : Place) (c t : Phrase) → ends_phrase last ≡ true → AllWhole P N F → slice_get N.code a ≡ Some x → HasDirectTemplate x → sort_of P w ≡ Some (core_sort w_if) → There c → There t →
+      Stands P N (template_phrases P) last F (a + 1) (then (quot c) p (then (word w) q t)) → DirectAt N uses a
+  two_quoted last F a x w p q c t ends whole e h es other go (s_item z f tr st) = if_there last F a x z w q t ends whole e h f (quoted F c z whole other tr) es go st
+
+  abbrev any_value : MValue
+  any_value = m_plain yes
+
+  shaped_there : (s : Shape) (t : Phrase) → Shaped P s t → There t
+  shaped_there _ _ shaped_end last F a ends whole (s_end e) = at_end last e ends
+  shaped_there (one s) _ (shaped_item {i = i} {t = t} o d) last F a ends whole (s_item x e tr st) =
+      let is = translates_other F i x o tr in
+      at_item x e is.0 is.1 (shaped_there s t d last F (a + 1) ends whole st)
+  shaped_there (one s) _ (shaped_item {i = i} o d) last F a ends whole (s_tail x is e c) = let own = calling_other true i x o c in at_last x e own.0 own.1
+  shaped_there (one s) _ (shaped_item {t = t} o d) last F a ends whole (s_bind {y = y} e st) =
+      at_item Bind e refl refl
+      (shaped_there s (put_local y (held (value_view (template_phrases P) any_value)) t) (put_shaped P y (value_view (template_phrases P) any_value) s t d) last (F ++ any_value ∷ []) (a + 1) ends (more_whole P N F (any_value ∷ []) whole (tt, tt)) (st any_value tt))
+  shaped_there (two s u) _ (shaped_call {b = b} {t = t} {q = q} w es body d) last F a ends whole (s_item x e tr st) =
+      call_there last F a x w q t ends whole e (quoted F b x whole (λ l G k z g h. shaped_there s b body l G k z g h) tr) es (λ l G k z g h. shaped_there u t d l G k z g h) st
+  shaped_there (two s u) _ (shaped_dip {b = b} {t = t} {q = q} w es body d) last F a ends whole (s_item x e tr st) =
+      dip_there last F a x w q t ends whole e (quoted F b x whole (λ l G k z g h. shaped_there s b body l G k z g h) tr) es (λ l G k z g h. shaped_there u t d l G k z g h) st
+  shaped_there (three s u v) _ (shaped_if {b = b} {c = c} {t = t} {q = q} {r = r} w es body other d) last F a ends whole (s_item x e tr st) =
+      two_quoted last F a x w q r c t ends whole e (quoted F b x whole (λ l G k z g h. shaped_there s b body l G k z g h) tr) es (λ l G k z g h. shaped_there u c other l G k z g h) (λ l G k z g h. shaped_there v t d l G k z g h) st
+
+  pub direct_there : (t : Phrase) → Direct P t → There t
+  direct_there t d = let shape = has_shape P t d in shaped_there shape.0 t shape.1
+
+-- So an image with direct code for each direct phrase of the plain one keeps them in place.
+pub keeps_direct : (top : ℕ) (N : Image) (uses : List Use) (M : Image) → IsDirectOf N uses M top → KeepsDirect top N uses M
+keeps_direct top N uses M h P is plain are = record {
+  words = λ w b c d.
+      h.words w (subst (λ (n : ℕ). w < n) is c.below) c.row c.there b c.does
+      (λ a r e f. direct_there P N uses plain are (word_phrase P w) d Ret [] a refl tt (plain.coded.words w a (record { below = c.below; runs = c.runs; row = r; there = e; does = f })));
+  top = λ d. h.start (direct_there P N uses plain are (word_phrase P P.top) d Halt [] N.start refl tt plain.phrase);
+  tails = h.tails;
+}

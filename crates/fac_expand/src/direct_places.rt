@@ -1,0 +1,234 @@
+//! Whether the code of a direct phrase begins at a place of plain code.
+ghost use Rattle.std.specs.Prelude.{◌≡◌, ◌+◌, ◌++◌, List, None, Some, false, slice_get, IfOk, OnOk, MatchOption};
+ghost use Rattle.fac_code.specs.declared.image.Image.{Image as Code};
+ghost use Rattle.fac_expand.specs.declared.plan.Use.{Use as Becomes};
+ghost use Rattle.fac_expand.specs.inner.DirectPlaces.{DirectAt, LeadsTo, Passes, entry_in, is_called, is_other, listed, made_quotation, stands_behind, tail_of_if};
+
+use crate::coming::is_tailed;
+use crate::growing::Growing;
+use crate::placing::is_end;
+use crate::plan::Use;
+use fac_base::Memory;
+use fac_code::{Image, Instr};
+use std::alloc::Global;
+
+// What stands behind a quotation.
+#[derive(Clone, Copy)]
+enum Behind {
+    // Neither of these.
+    Nothing,
+    // What applies it, and whether that is the last item.
+    Applied(bool),
+    // Another quotation, of the template with this number.
+    Quotation(u32),
+}
+
+// What begins at a place where items are asked for.
+#[derive(Clone, Copy)]
+enum Group {
+    // No direct phrase.
+    Indirect,
+    // Items behind which a direct phrase goes on at these places.
+    Leads(Option<u32>, Option<u32>, Option<u32>),
+}
+
+// What stands at a place, which is that behind a quotation.
+fn standing_at(plain: &Image, place: usize) -> Behind
+    ensures { result ≡ stands_behind (slice_get plain.now.code place) }
+{
+    match plain.code.get(place) {
+        Some(Instr::Call { tail }) => Behind::Applied(*tail),
+        Some(Instr::Dip) => Behind::Applied(false),
+        Some(Instr::Quot(quotation)) => Behind::Quotation(*quotation),
+        _ => Behind::Nothing,
+    }
+}
+
+// Whether the `if` at a place is the last item, where there is one.
+fn if_at(plain: &Image, place: usize) -> Option<bool>
+    ensures { result ≡ tail_of_if (slice_get plain.now.code place) }
+{
+    match plain.code.get(place) {
+        Some(Instr::If { tail }) => Some(*tail),
+        _ => None,
+    }
+}
+
+// The quotation that an instruction makes.
+fn quotation_of(instr: Instr) -> Option<u32>
+    ensures { MatchOption result (made_quotation instr ≡ None) (λ quotation. instr ≡ Instr.Quot quotation) }
+{
+    match instr {
+        Instr::Quot(quotation) => Some(quotation),
+        _ => None,
+    }
+}
+
+// Where the code of a template begins.
+fn entry_of(plain: &Image, template: u32) -> Option<u32>
+    ensures { result ≡ entry_in (slice_get plain.now.templates template) }
+{
+    match plain.templates.get(template as usize) {
+        Some(row) => Some(row.entry),
+        None => None,
+    }
+}
+
+// The place so many behind one, where the last item isn't passed there.
+fn next_place(place: u32, count: u32, is_last: bool) -> Option<u32>
+    ensures { MatchOption result (Unit {0}) (λ next. (next ≡ place + count) × (is_last ≡ false)) }
+{
+    if is_last {
+        return None;
+    }
+    place.checked_add(count)
+}
+
+// A quotation that is applied where it stands.
+fn applied(plain: &Image, place: u32, quotation: u32, is_last: bool) -> Group
+    requires there { slice_get plain.now.code place ≡ Some (Instr.Quot quotation) }
+    requires behind { stands_behind (slice_get plain.now.code (place + 1)) ≡ Behind.Applied is_last }
+    ensures { (uses : List Becomes) → LeadsTo plain.now uses place result }
+{
+    let entry = entry_of(plain, quotation);
+    let next = next_place(place, 2, is_last);
+    Group::Leads(entry, next, None)
+}
+
+// Two quotations, which are direct before an `if` alone.
+fn branched(plain: &Image, place: u32, first: u32, second: u32) -> Group
+    requires there { slice_get plain.now.code place ≡ Some (Instr.Quot first) }
+    requires behind { stands_behind (slice_get plain.now.code (place + 1)) ≡ Behind.Quotation second }
+    ensures { (uses : List Becomes) → LeadsTo plain.now uses place result }
+{
+    match if_at(plain, place as usize + 2) {
+        Some(is_last) => {
+            let one = entry_of(plain, first);
+            let other = entry_of(plain, second);
+            let next = next_place(place, 3, is_last);
+            Group::Leads(one, other, next)
+        }
+        None => Group::Indirect,
+    }
+}
+
+// A quotation.
+fn quoted(plain: &Image, place: u32, quotation: u32) -> Group
+    requires { slice_get plain.now.code place ≡ Some (Instr.Quot quotation) }
+    ensures { (uses : List Becomes) → LeadsTo plain.now uses place result }
+{
+    match standing_at(plain, place as usize + 1) {
+        Behind::Nothing => Group::Indirect,
+        Behind::Applied(is_last) => applied(plain, place, quotation, is_last),
+        Behind::Quotation(second) => branched(plain, place, quotation, second),
+    }
+}
+
+// Whether a use of a word becomes a call.
+fn is_call(uses: &[Use], word: u32) -> bool
+    ensures { result ≡ is_called (slice_get uses.now word) }
+{
+    match uses.get(word as usize) {
+        Some(Use::Called) => true,
+        _ => false,
+    }
+}
+
+// Whether an instruction is that of an item that is no quotation, applies none and calls no inline word.
+fn is_item(uses: &[Use], instr: Instr) -> bool
+    ensures { result ≡ is_other uses.now instr }
+{
+    match instr {
+        Instr::Halt => false,
+        Instr::Ret => false,
+        Instr::Quot(_) => false,
+        Instr::Fry(_) => false,
+        Instr::Call { .. } => false,
+        Instr::Dip => false,
+        Instr::If { .. } => false,
+        Instr::Callw { word, .. } => is_call(uses, word),
+        _ => true,
+    }
+}
+
+// What is no quotation.
+fn unquoted(uses: &[Use], place: u32, instr: Instr) -> Group
+    requires { made_quotation instr ≡ None }
+    ensures { (N : Code) → slice_get N.code place ≡ Some instr → LeadsTo N uses.now place result }
+{
+    if is_end(instr) {
+        return Group::Leads(None, None, None);
+    }
+    if !is_item(uses, instr) {
+        return Group::Indirect;
+    }
+    let next = next_place(place, 1, is_tailed(instr));
+    Group::Leads(next, None, None)
+}
+
+// What begins at a place.
+fn group_at(plain: &Image, uses: &[Use], place: u32) -> Group
+    ensures { LeadsTo plain.now uses.now place result }
+{
+    match plain.code.get(place as usize) {
+        Some(instr) => match quotation_of(*instr) {
+            Some(quotation) => quoted(plain, place, quotation),
+            None => unquoted(uses, place, *instr),
+        },
+        None => Group::Indirect,
+    }
+}
+
+// A place is to wait, where there is one.
+fn add(waiting: &mut Growing<u32>, place: Option<u32>) -> Result<(), Memory>
+    ensures { OnOk result (waiting.new ≡ waiting.old ++ listed place) }
+{
+    match place {
+        Some(place) => waiting.push(place),
+        None => Ok(()),
+    }
+}
+
+// Passes the items at a place where a direct phrase may begin. Otherwise there is none.
+fn pass(waiting: &mut Growing<u32>, plain: &Image, uses: &[Use], place: u32) -> Result<bool, Memory>
+    ensures { IfOk result (Passes plain.now uses.now place waiting.old waiting.new) }
+{
+    match group_at(plain, uses, place) {
+        Group::Indirect => Ok(false),
+        Group::Leads(first, second, third) => {
+            add(waiting, first)?;
+            add(waiting, second)?;
+            add(waiting, third)?;
+            Ok(true)
+        }
+    }
+}
+
+// The place of this number that waits.
+fn waiting_at(waiting: &Growing<u32>, index: u32) -> Option<u32>
+    ensures { result ≡ slice_get waiting.now index }
+{
+    match waiting.get(index as usize) {
+        Some(place) => Some(*place),
+        None => None,
+    }
+}
+
+/// Whether the code of a direct phrase begins at a place. It is none where the answer is false. Where one place is come to again and again, the answer may be
+/// true of another phrase too. Want of memory is the one error.
+pub fn is_direct(alloc: Global, plain: &Image, uses: &[Use], place: u32) -> Result<bool, Memory>
+    ensures { IfOk result (λ direct. direct ≡ false → DirectAt plain.now uses.now place → ⊥) }
+{
+    let mut waiting = Growing::new(alloc);
+    waiting.push(place)?;
+    for index in 0..plain.code.len() {
+        match waiting_at(&waiting, index) {
+            Some(next) => match pass(&mut waiting, plain, uses, next)? {
+                true => {}
+                false => return Ok(false),
+            },
+            None => return Ok(true),
+        }
+    }
+    Ok(true)
+}
