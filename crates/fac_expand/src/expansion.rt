@@ -94,15 +94,14 @@ fn expanded(
     plain: &Image,
     top: u32,
     uses: &[Use],
-    extent: Extent,
+    expander: &mut Expander,
 ) -> Result<Option<Image>, Memory>
     ensures { IfOk result (λ o. MatchOption o (Unit {0}) (Expands top plain.now)) }
 {
-    let mut expander = make_expander(alloc, plain, extent)?;
     if expander.is_idle() {
         return Ok(None);
     }
-    let (making, start) = made_of(&mut expander, alloc, plain, top, uses)?;
+    let (making, start) = made_of(expander, alloc, plain, top, uses)?;
     match image_of(alloc, plain, top, making, start)? {
         Some(image) => {
             if tests_no_more(plain, &image) {
@@ -119,7 +118,8 @@ fn expanded(
 fn expanded_or_plain(alloc: Global, plain: Image, top: u32, uses: &[Use]) -> Result<Image, Memory>
     ensures { IfOk result (Expands top plain) }
 {
-    match expanded(alloc, &plain, top, uses, Extent::Reached)? {
+    let mut expander = make_expander(alloc, &plain, Extent::Reached)?;
+    match expanded(alloc, &plain, top, uses, &mut expander)? {
         Some(image) => Ok(image),
         None => Ok(plain),
     }
@@ -131,11 +131,12 @@ fn directly_expanded(
     plain: &Image,
     top: u32,
     uses: &[Use],
+    expander: &mut Expander,
 ) -> Result<Option<Image>, Memory>
     ensures expands { IfOk result (λ o. MatchOption o (Unit {0}) (Expands top plain.now)) }
     ensures direct { IfOk result (λ o. MatchOption o (Unit {0}) (KeepsDirect top plain.now uses.now)) }
 {
-    let image = match expanded(alloc, plain, top, uses, Extent::All)? {
+    let image = match expanded(alloc, plain, top, uses, expander)? {
         Some(image) => image,
         None => return Ok(None),
     };
@@ -156,13 +157,19 @@ fn directly_plain(alloc: Global, plain: Image, top: u32, uses: &[Use]) -> Result
     Err(Memory)
 }
 
-// The image with all of its code expanded. No program is known for which neither that image nor the plain one has direct code for each direct phrase; it would
-// be answered as want of memory.
+// The image with all of its code expanded, or at least with the quotations in place that are applied where they stand, so that each direct phrase has direct code. No
+// program is known that doesn't come to the first of these; one that came to none would be answered as want of memory.
 fn wholly_expanded(alloc: Global, plain: Image, top: u32, uses: &[Use]) -> Result<Image, Memory>
     ensures expands { IfOk result (Expands top plain) }
     ensures direct { IfOk result (KeepsDirect top plain uses.now) }
 {
-    match directly_expanded(alloc, &plain, top, uses)? {
+    let mut expander = make_expander(alloc, &plain, Extent::All)?;
+    match directly_expanded(alloc, &plain, top, uses, &mut expander)? {
+        Some(image) => return Ok(image),
+        None => {}
+    }
+    expander.stop();
+    match directly_expanded(alloc, &plain, top, uses, &mut expander)? {
         Some(image) => Ok(image),
         None => directly_plain(alloc, plain, top, uses),
     }
@@ -172,8 +179,7 @@ fn wholly_expanded(alloc: Global, plain: Image, top: u32, uses: &[Use]) -> Resul
 /// number, and `uses` says by the number of a word what a use of it becomes; both that and the extent are only hints. The tables are those of
 /// the plain image but for places. For each program with this top-level phrase for whose phrases the plain code stands, the code that is made
 /// stands too. Where it can't be made so, the image stays as it is. Where all is expanded, each direct phrase has direct code. Want of memory is the one error:
-/// so it is answered too where all is to be expanded and neither the expanded image nor the plain one has direct code for each direct phrase. No program is
-/// known that comes to that.
+/// so it is answered too where all is to be expanded and no image that was made has direct code for each direct phrase. No program is known that comes to that.
 pub fn expand(
     alloc: Global,
     plain: Image,

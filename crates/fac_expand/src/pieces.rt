@@ -161,8 +161,13 @@ impl Expander {
         strict.drafted(&mut self.hints, last, cells, start)
     }
 
-    // Whether what begins at a place is to be expanded.
-    fn is_wanted(&self, start: u32) -> bool {
+    /// From now on no piece is made.
+    pub fn stop(&mut self) {
+        self.left = 0;
+    }
+
+    /// Whether what begins at a place is to be expanded.
+    pub fn is_wanted(&self, start: u32) -> bool {
         match &self.wanted {
             None => true,
             Some(reach) => reach.has(start),

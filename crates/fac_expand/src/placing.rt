@@ -5,9 +5,12 @@ ghost use Rattle.fac_carry.specs.Stands.{ends_phrase};
 ghost use Rattle.fac_expand.specs.inner.PieceCode.{StandsFor};
 ghost use Rattle.fac_expand.specs.inner.Pieces.{to_end};
 
+use crate::direct::direct_code;
+use crate::direct_places::is_direct;
 use crate::growing::Growing;
 use crate::pieces::Expander;
 use crate::plan::Use;
+use crate::stopped::Stopped;
 use fac_base::{List, Memory};
 use fac_code::{Image, Instr, TemplateRow};
 use std::alloc::Global;
@@ -40,6 +43,43 @@ fn copied(alloc: Global, plain: &Image, start: u32) -> Result<Growing<Instr>, Me
     Ok(code)
 }
 
+// Whether code makes no quotation and applies none.
+fn applies_none(code: &[Instr]) -> bool {
+    for instr in code {
+        match instr {
+            Instr::Quot(_) => return false,
+            Instr::Fry(_) => return false,
+            Instr::Call { .. } => return false,
+            Instr::Dip => return false,
+            Instr::If { .. } => return false,
+            _ => {}
+        }
+    }
+    true
+}
+
+// A piece in which quotations that are all applied where they stand are run in place, and else the plain code.
+#[tactic(auto, using(crate::proofs::CopiedCode::copied_by))]
+fn plain_piece(
+    alloc: Global,
+    plain: &Image,
+    last: Instr,
+    cells: u32,
+    start: u32,
+    base: u32,
+) -> Result<Growing<Instr>, Memory>
+    requires { ends_phrase last ≡ true }
+    ensures { IfOk result (StandsFor plain.now last cells start base) }
+{
+    match direct_code(alloc, plain, last, cells, start, base) {
+        Ok(code) => Ok(code),
+        Err(stopped) => match stopped {
+            Stopped::Plain => copied(alloc, plain, start),
+            Stopped::Memory => Err(Memory),
+        },
+    }
+}
+
 /// A piece of code for the plain code at a place, which ends in this instruction and whose frame has so many cells. Want of memory is the one error.
 #[tactic(auto, using(crate::proofs::CopiedCode::copied_by))]
 pub fn piece_of(
@@ -55,9 +95,17 @@ pub fn piece_of(
     requires { ends_phrase last ≡ true }
     ensures { IfOk result (StandsFor plain.now last cells start base) }
 {
+    if !expander.is_wanted(start) {
+        return copied(alloc, plain, start);
+    }
     match expander.piece(alloc, plain, uses, last, cells, start, base)? {
-        Some(code) => Ok(code),
-        None => copied(alloc, plain, start),
+        Some(code) => {
+            if applies_none(code.as_slice()) || !is_direct(alloc, plain, uses, start)? {
+                return Ok(code);
+            }
+            plain_piece(alloc, plain, last, cells, start, base)
+        }
+        None => plain_piece(alloc, plain, last, cells, start, base),
     }
 }
 
