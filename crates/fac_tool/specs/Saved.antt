@@ -16,6 +16,7 @@ use Rattle.fac_code.specs.declared.image.TemplateRow.{TemplateRow}
 use Rattle.fac_spelling.specs.Whole.{Spells}
 use Rattle.fac_bytes.specs.ImageBytes.{image as image_format, parts_of}
 use Rattle.fac_carry.specs.Carries.{Carries}
+use Rattle.fac_carry.specs.Direct.{DirectIsInPlace}
 use Rattle.fac_notes.specs.declared.status.TheConstants.{SUCCESS, FILE_FAULT, NO_MEMORY}
 use Rattle.fac_notes.specs.declared.report.Report.TheVariants as report
 use Rattle.fac_tool.specs.declared.ended.Ended.{Ended}
@@ -28,12 +29,14 @@ abbrev pub HasEffects : Program → Image → Type 0
 HasEffects P M =
     (q : ℕ) (row : TemplateRow) (vs : List Value) → slice_get M.templates q ≡ Some row → length vs ≡ length row.cells + row.holes → row.height ≡ callable_height P (of_phrase (template_phrase P q (map held vs)))
 
--- The bytes are those of an image that carries the program, from no value, at every budget and on every input. They are no more than `exec` loads.
+-- The bytes are those of an image that carries the program, from no value, at every budget and on every input. They are no more than `exec` loads. In its code
+-- whatever a direct phrase applies is done in place, and no call leaves a return entry where `ret` comes next.
 pub record CarriesSaved (P : Program) (bytes : List ℕ) : Type 0 where
   pub image : Image
   pub spelled : Spells image_format bytes (parts_of image)
   pub carries : Carries P (callable_height P) 0 image
   pub effects : HasEffects P image
+  pub direct : DirectIsInPlace P image
   pub short : length bytes ≤ MOST_IMAGE_BYTES
 
 -- the image was saved under this name
