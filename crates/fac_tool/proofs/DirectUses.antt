@@ -14,9 +14,8 @@ use Rattle.fac_locals.specs.declared.closing.Closed.{Closed}
 use Rattle.fac_locals.proofs.Lookups.{word_closed}
 use Rattle.fac_code.specs.declared.image.Image.{Image}
 use Rattle.fac_carry.specs.Direct.{DirectIsInPlace}
-use Rattle.fac_carry.specs.Stands.{PlainCode}
 use Rattle.fac_emit.specs.CarriedPrograms.{StandsForEach}
-use Rattle.fac_expand.specs.Uses.{UsesAre}
+use Rattle.fac_expand.specs.DirectInPlace.{UsesAre, KeepsDirect}
 use Rattle.fac_expand.specs.declared.pieces.Extent.{Extent}
 use Rattle.fac_expand.specs.declared.pieces.Extent.TheVariants.{All as all_code}
 use Rattle.fac_expand.specs.declared.plan.Use.{Use}
@@ -56,8 +55,7 @@ uses_open P C templates us closes uses w d there plain =
 
 pub if_direct :
     (closed : Closed) (plain : Image) (us given : List Use) (extent : Extent) (r : Result Image Memory) → given ≡ us → StandsForEach closed plain → UsesAre closed.program us →
-    (extent ≡ all_code → IfOk r (λ image. (P : Program) → P.top ≡ closed.program.top → PlainCode P plain → UsesAre P given → DirectIsInPlace P image)) → extent ≡ all_code →
-    IfOk r (λ image. (P : Program) → StandsForSafe closed P → DirectIsInPlace P image)
+    (extent ≡ all_code → IfOk r (KeepsDirect closed.program.top plain given)) → extent ≡ all_code → IfOk r (λ image. (P : Program) → StandsForSafe closed P → DirectIsInPlace P image)
 if_direct closed plain us given extent (Ok image) same stand uses direct all =
     let here = subst (UsesAre closed.program) (sym same) uses in
     λ P stands. direct all P (sym stands.closes.top) (stand P stands.closes stands.whole) (uses_open P closed.program closed.templates given stands.closes here)

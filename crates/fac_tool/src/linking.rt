@@ -6,9 +6,7 @@ ghost use Rattle.fac_check.specs.Judged.{StandsForWhole};
 ghost use Rattle.fac_check.specs.TemplateEffects.{AreEffects};
 ghost use Rattle.fac_emit.specs.CarriedPrograms.{AgreesEach, StandsForEach};
 ghost use Rattle.fac_emit.specs.ProgramCode.{IsPlain};
-ghost use Rattle.fac_expand.specs.Uses.{UsesAre};
-ghost use Rattle.fac_expand.specs.declared.pieces.Extent.TheVariants.{All as all_code};
-ghost use Rattle.fac_expand.specs.declared.plan.Use.TheVariants.{Called};
+ghost use Rattle.fac_expand.specs.DirectInPlace.{UsesAre};
 ghost use Rattle.fac_tool.specs.Saved.{HasEffects};
 ghost use Rattle.fac_tool.specs.inner.Stops.{Carried, StandsForSafe};
 ghost use Rattle.fac_tool.specs.inner.ImageSteps.{AreEffectsIfAsked, CarriedWhole, IsLinked, IsShort};
@@ -54,7 +52,7 @@ struct Plain {
 
 // What a use of a word is to become. An inline word has its phrase in place of its calls, and one that calls itself has code of its own.
 fn use_of(word: &WordDef) -> Use
-    ensures { word.now.inline ≡ false → result ≡ Called }
+    ensures { word.now.inline ≡ false → result ≡ Use.Called }
 {
     if !word.inline {
         return Use::Called;
@@ -101,7 +99,7 @@ fn image_with(
     requires effects { AreEffectsIfAsked checked.closed heights.now }
     ensures carried { IfOk result (λ image. (P : Source) → StandsForSafe checked.closed P → Carried P image) }
     ensures rows { IfOk result (λ image. AreEffects checked.closed heights.now → (P : Source) → StandsForSafe checked.closed P → HasEffects P image) }
-    ensures direct { extent ≡ all_code → IfOk result (λ image. (P : Source) → StandsForSafe checked.closed P → DirectIsInPlace P image) }
+    ensures direct { extent ≡ Extent.All → IfOk result (λ image. (P : Source) → StandsForSafe checked.closed P → DirectIsInPlace P image) }
 {
     safe_programs_are_not_stuck();
     let top = checked.closed.program.top;
