@@ -29,15 +29,19 @@ abbrev pub HasEffects : Program → Image → Type 0
 HasEffects P M =
     (q : ℕ) (row : TemplateRow) (vs : List Value) → slice_get M.templates q ≡ Some row → length vs ≡ length row.cells + row.holes → row.height ≡ callable_height P (of_phrase (template_phrase P q (map held vs)))
 
--- The bytes are those of an image that carries the program, from no value, at every budget and on every input. They are no more than `exec` loads. In its code
--- whatever a direct phrase applies is done in place, and no call leaves a return entry where `ret` comes next.
+-- The bytes are those of an image that carries the program, from no value, at every budget and on every input. They are no more than `exec` loads.
 pub record CarriesSaved (P : Program) (bytes : List ℕ) : Type 0 where
   pub image : Image
   pub spelled : Spells image_format bytes (parts_of image)
   pub carries : Carries P (callable_height P) 0 image
   pub effects : HasEffects P image
-  pub direct : DirectIsInPlace P image
   pub short : length bytes ≤ MOST_IMAGE_BYTES
+
+-- What `build` makes of a program: such bytes. In the image's code each direct phrase makes no quotation and applies each in place, and no call leaves a return
+-- entry where `ret` comes next.
+pub record IsBuilt (P : Program) (bytes : List ℕ) : Type 0 where
+  pub carries : CarriesSaved P bytes
+  pub direct : DirectIsInPlace P carries.image
 
 -- the image was saved under this name
 pub record Saved (P : Program) (name : List ℕ) (files : FilesSeen) (ended : Ended) : Type 0 where
@@ -45,7 +49,7 @@ pub record Saved (P : Program) (name : List ℕ) (files : FilesSeen) (ended : En
   pub ticks : ended.ticks ≡ 0
   pub bare : IsBare ended
   pub bytes : List ℕ
-  pub carries : CarriesSaved P bytes
+  pub built : IsBuilt P bytes
   pub held : Told files.held_before files.held_now (Holds name bytes)
   pub asked : Grows files.asked_before files.asked_now (Save name ∷ [])
   pub faults : files.faults_now ≡ files.faults_before
