@@ -5,5 +5,7 @@ returns c =
     let linked = c.in_ok-linked.ensures in
     λ P stands.
     let whole = linked.1 P stands in
-    let carries = record { image = c.in_ok-linked.linked.image; spelled = linked.0.spelled; carries = whole.carried.carries; effects = whole.effects; short = linked.0.short } in
-    record { carries = carries; direct = whole.direct }
+    record {
+      carries = record { image = c.in_ok-linked.linked.image; spelled = linked.0.spelled; carries = whole.carried.carries; effects = whole.effects; short = linked.0.short };
+      direct = whole.direct;
+    }
