@@ -4,7 +4,7 @@ use Rattle.fac_tool.proofs.linking.uses_of.Goals as goal
 pub loop-word-preserved : goal.loop-word-preserved
 loop-word-preserved c =
     let at = c.loop-word in
-    one_use_more c.as_slice-word-items.result.now at.word-index at.uses c.push.new.self c.word-item.result c.use_of.result c.loop-word-test.true c.word-item.is c.use_of.ensures at.invariant c.in_ok-push.ensures.ok
+    one_use_more c.as_slice-word-items.result.now at.word-index at.uses c.push.new.self c.word-item.result c.use_of.result c.loop-word-test.true c.word-item.is c.use_of.ensures c.in_ok-push.ensures.ok at.invariant
 
 pub returns : goal.returns
 returns c =
