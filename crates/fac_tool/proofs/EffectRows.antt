@@ -13,6 +13,7 @@ use Rattle.fac_code.specs.declared.image.Image.{Image}
 use Rattle.fac_code.specs.declared.image.Instr.TheVariants.{Ret}
 use Rattle.fac_code.specs.declared.image.TemplateRow.{TemplateRow}
 use Rattle.fac_store.specs.CallableHeights.{height_there}
+use Rattle.fac_carry.specs.Direct.{DirectIsInPlace}
 use Rattle.fac_emit.specs.ProgramCode.{IsPlain, phrase_code, program_templates, row_at, template_rows}
 use Rattle.fac_expand.specs.SameButPlaces.{template_without_place, SameButPlaces}
 use Rattle.fac_expand.specs.Expands.{Expands}
@@ -77,11 +78,12 @@ pub if_rows_have :
 if_rows_have closed heights plain (Ok image) is_plain expands = λ effects P stands. moved_have P plain image expands.same (rows_have closed heights P plain effects stands is_plain)
 if_rows_have closed heights plain (Err e) is_plain expands = tt
 
--- so an image that is linked with all effects has them
+-- so an image that is linked with all effects has them, beside direct phrases in place
 pub whole_carried :
     (closed : Closed) (heights slice : List (Option Height)) (r : Result Image Memory) → slice ≡ heights → AreEffects closed heights → IfOk r (λ image. (P : Program) → StandsForSafe closed P → Carried P image) →
-    IfOk r (λ image. AreEffects closed slice → (P : Program) → StandsForSafe closed P → HasEffects P image) → IfOk r (λ image. (P : Program) → StandsForSafe closed P → CarriedWhole P image)
-whole_carried closed heights slice (Ok image) same effects carried rows =
+    IfOk r (λ image. AreEffects closed slice → (P : Program) → StandsForSafe closed P → HasEffects P image) → IfOk r (λ image. (P : Program) → StandsForSafe closed P → DirectIsInPlace P image) →
+    IfOk r (λ image. (P : Program) → StandsForSafe closed P → CarriedWhole P image)
+whole_carried closed heights slice (Ok image) same effects carried rows direct =
     let here = subst (AreEffects closed) (sym same) effects in
-    λ P stands. record { carried = carried P stands; effects = rows here P stands }
-whole_carried closed heights slice (Err e) same effects carried rows = tt
+    λ P stands. record { carried = carried P stands; effects = rows here P stands; direct = direct P stands }
+whole_carried closed heights slice (Err e) same effects carried rows direct = tt

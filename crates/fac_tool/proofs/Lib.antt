@@ -12,6 +12,7 @@ pub mod PieceLemmas
 pub mod NoteLemmas
 pub mod ClosedLemmas
 pub mod EffectRows
+pub mod DirectUses
 pub mod ListedLemmas
 pub mod Composing
 pub mod ExecutedLemmas

@@ -16,6 +16,7 @@ use Rattle.fac_code.specs.declared.image.TemplateRow.{TemplateRow}
 use Rattle.fac_spelling.specs.Whole.{Spells}
 use Rattle.fac_bytes.specs.ImageBytes.{image as image_format, parts_of}
 use Rattle.fac_carry.specs.Carries.{Carries}
+use Rattle.fac_carry.specs.Direct.{DirectIsInPlace}
 use Rattle.fac_notes.specs.declared.status.TheConstants.{SUCCESS, FILE_FAULT, NO_MEMORY}
 use Rattle.fac_notes.specs.declared.report.Report.TheVariants as report
 use Rattle.fac_tool.specs.declared.ended.Ended.{Ended}
@@ -36,13 +37,19 @@ pub record CarriesSaved (P : Program) (bytes : List ℕ) : Type 0 where
   pub effects : HasEffects P image
   pub short : length bytes ≤ MOST_IMAGE_BYTES
 
+-- What `build` makes of a program: such bytes. In the image's code each direct phrase makes no quotation and applies each in place, and no call leaves a return
+-- entry where `ret` comes next.
+pub record IsBuilt (P : Program) (bytes : List ℕ) : Type 0 where
+  pub carries : CarriesSaved P bytes
+  pub direct : DirectIsInPlace P carries.image
+
 -- the image was saved under this name
 pub record Saved (P : Program) (name : List ℕ) (files : FilesSeen) (ended : Ended) : Type 0 where
   pub status : ended.status ≡ SUCCESS
   pub ticks : ended.ticks ≡ 0
   pub bare : IsBare ended
   pub bytes : List ℕ
-  pub carries : CarriesSaved P bytes
+  pub built : IsBuilt P bytes
   pub held : Told files.held_before files.held_now (Holds name bytes)
   pub asked : Grows files.asked_before files.asked_now (Save name ∷ [])
   pub faults : files.faults_now ≡ files.faults_before

@@ -1,10 +1,12 @@
 //! Linking: the image of an accepted program, and how long its bytes are.
-ghost use Rattle.std.specs.Prelude.{◌≡◌, ◌≤◌, true, IfOk};
+ghost use Rattle.std.specs.Prelude.{◌≡◌, ◌≤◌, false, true, IfOk};
 ghost use Rattle.fac_lang.specs.declared.program.Program.{Program as Source};
+ghost use Rattle.fac_carry.specs.Direct.{DirectIsInPlace};
 ghost use Rattle.fac_check.specs.Judged.{StandsForWhole};
 ghost use Rattle.fac_check.specs.TemplateEffects.{AreEffects};
 ghost use Rattle.fac_emit.specs.CarriedPrograms.{AgreesEach, StandsForEach};
 ghost use Rattle.fac_emit.specs.ProgramCode.{IsPlain};
+ghost use Rattle.fac_expand.specs.DirectInPlace.{UsesAre};
 ghost use Rattle.fac_tool.specs.Saved.{HasEffects};
 ghost use Rattle.fac_tool.specs.inner.Stops.{Carried, StandsForSafe};
 ghost use Rattle.fac_tool.specs.inner.ImageSteps.{AreEffectsIfAsked, CarriedWhole, IsLinked, IsShort};
@@ -16,7 +18,7 @@ use fac_check::{Checked, effects, safe_programs_are_not_stuck};
 use fac_code::Image;
 use fac_emit::{asks_effects, compile};
 use fac_expand::{Extent, Use, expand};
-use fac_lang::WordDef;
+use fac_lang::{Program, WordDef};
 use fac_locals::Closed;
 use std::alloc::Global;
 
@@ -49,7 +51,9 @@ struct Plain {
 }
 
 // What a use of a word is to become. An inline word has its phrase in place of its calls, and one that calls itself has code of its own.
-fn use_of(word: &WordDef) -> Use {
+fn use_of(word: &WordDef) -> Use
+    ensures { word.now.inline ≡ false → result ≡ Use.Called }
+{
     if !word.inline {
         return Use::Called;
     }
@@ -59,10 +63,12 @@ fn use_of(word: &WordDef) -> Use {
     Use::InPlace
 }
 
-// What uses of words are to become, by the words' numbers.
-fn uses_of(alloc: Global, words: &[WordDef]) -> Result<List<Use>, Memory> {
+// What uses of a program's words are to become, by the words' numbers.
+fn uses_of(alloc: Global, program: &Program) -> Result<List<Use>, Memory>
+    ensures { IfOk result (UsesAre program.now) }
+{
     let mut uses = List::new(alloc);
-    for word in words {
+    for word in program.words.as_slice() {
         uses.push(use_of(word))?;
     }
     Ok(uses)
@@ -74,13 +80,15 @@ fn plain_code(alloc: Global, checked: Checked, heights: &[Option<Height>]) -> Re
     ensures agrees { IfOk result (λ plain. AgreesEach checked.closed heights.now plain.image) }
     ensures stands { IfOk result (λ plain. StandsForEach checked.closed plain.image) }
     ensures plain { IfOk result (λ plain. IsPlain checked.closed heights.now plain.image) }
+    ensures uses { IfOk result (λ plain. UsesAre checked.closed.program plain.uses) }
 {
     let image = compile(alloc, &checked.closed, heights)?;
-    let uses = uses_of(alloc, checked.closed.program.words.as_slice())?;
+    let uses = uses_of(alloc, &checked.closed.program)?;
     Ok(Plain { image, uses })
 }
 
-// The image of an accepted program with these effects of its templates. The program is given back before its code is expanded.
+// The image of an accepted program with these effects of its templates, where all code is expanded with direct phrases in place. The program is given back before
+// its code is expanded.
 fn image_with(
     alloc: Global,
     checked: Checked,
@@ -91,6 +99,7 @@ fn image_with(
     requires effects { AreEffectsIfAsked checked.closed heights.now }
     ensures carried { IfOk result (λ image. (P : Source) → StandsForSafe checked.closed P → Carried P image) }
     ensures rows { IfOk result (λ image. AreEffects checked.closed heights.now → (P : Source) → StandsForSafe checked.closed P → HasEffects P image) }
+    ensures direct { extent ≡ Extent.All → IfOk result (λ image. (P : Source) → StandsForSafe checked.closed P → DirectIsInPlace P image) }
 {
     safe_programs_are_not_stuck();
     let top = checked.closed.program.top;
@@ -99,7 +108,7 @@ fn image_with(
     expand(alloc, image, top, uses.as_slice(), extent)
 }
 
-// The image of an accepted program, with the effects of all of its templates.
+// The image of an accepted program, with the effects of all of its templates, and with its direct phrases in place.
 fn whole_image(alloc: Global, checked: Checked) -> Result<Image, Memory>
     requires { (P : Source) × StandsForSafe checked.closed P }
     ensures { IfOk result (λ image. (P : Source) → StandsForSafe checked.closed P → CarriedWhole P image) }
@@ -117,8 +126,8 @@ fn image_to_run(alloc: Global, checked: Checked) -> Result<Image, Memory>
     image_with(alloc, checked, heights.as_slice(), Extent::Reached)
 }
 
-/// The image of an accepted program, which carries it and has the effects of its callables in its rows, and its bytes. Want of memory is the one error, also where the image would have more
-/// bytes than one may have. What the program took is given back when its image is made.
+/// The image of an accepted program, which carries it, has the effects of its callables in its rows and its direct phrases in place, and its bytes. Want of memory is the one error, also where
+/// the image would have more bytes than one may have. What the program took is given back when its image is made.
 pub fn link(alloc: Global, checked: Checked) -> Result<Linked, Memory>
     requires { (P : Source) × StandsForSafe checked.closed P }
     ensures { IfOk result (λ linked. IsLinked linked × ((P : Source) → StandsForSafe checked.closed P → CarriedWhole P linked.image)) }

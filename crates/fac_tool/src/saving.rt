@@ -1,7 +1,7 @@
 //! The image of an accepted program is linked and saved.
 ghost use Rattle.std.specs.Prelude.{◌≤◌, IfOk};
 ghost use Rattle.fac_lang.specs.declared.program.Program.{Program as Source};
-ghost use Rattle.fac_tool.specs.Saved.{CarriesSaved, Saves};
+ghost use Rattle.fac_tool.specs.Saved.{IsBuilt, Saves};
 ghost use Rattle.fac_tool.specs.SeenObjects.{files_seen};
 ghost use Rattle.fac_tool.specs.inner.Stops.{Carried, StandsForSafe};
 
@@ -17,7 +17,7 @@ use std::alloc::Global;
 // The bytes of the image of an accepted program.
 fn image_bytes(alloc: Global, checked: Checked) -> Result<Bytes, Memory>
     requires { (P : Source) × StandsForSafe checked.closed P }
-    ensures { IfOk result (λ bytes. (P : Source) → StandsForSafe checked.closed P → CarriesSaved P bytes) }
+    ensures { IfOk result (λ bytes. (P : Source) → StandsForSafe checked.closed P → IsBuilt P bytes) }
 {
     let linked = link(alloc, checked)?;
     Ok(linked.bytes)

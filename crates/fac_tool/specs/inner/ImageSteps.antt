@@ -10,6 +10,7 @@ use Rattle.fac_check.specs.TemplateEffects.{AreEffects}
 use Rattle.fac_spelling.specs.Whole.{Spells}
 use Rattle.fac_code.specs.declared.image.Image.{Image}
 use Rattle.fac_bytes.specs.ImageBytes.{image as image_format, parts_of}
+use Rattle.fac_carry.specs.Direct.{DirectIsInPlace}
 use Rattle.fac_emit.specs.Heights.{asks_effects}
 use Rattle.fac_store.specs.ValueTrees.{Trees, trees_of, value_in}
 use Rattle.fac_vm.specs.declared.machine.RunError.{RunError}
@@ -30,10 +31,11 @@ use Rattle.fac_tool.specs.inner.Stops.{Carried, InStore, IsFresh}
 abbrev pub AreEffectsIfAsked : Closed → List (Option Height) → Type 0
 AreEffectsIfAsked closed heights = asks_effects closed ≡ true → AreEffects closed heights
 
--- an image carries a program, and its rows have the effects of the program's callables
+-- an image carries a program, its rows have the effects of the program's callables, and its code has the program's direct phrases in place
 pub record CarriedWhole (P : Program) (M : Image) : Type 0 where
   pub carried : Carried P M
   pub effects : HasEffects P M
+  pub direct : DirectIsInPlace P M
 
 -- an image that has bytes, no more than one may have
 pub record IsShort (M : Image) : Type 0 where

@@ -5,4 +5,7 @@ returns c =
     let linked = c.in_ok-linked.ensures in
     λ P stands.
     let whole = linked.1 P stands in
-    record { image = c.in_ok-linked.linked.image; spelled = linked.0.spelled; carries = whole.carried.carries; effects = whole.effects; short = linked.0.short }
+    record {
+      carries = record { image = c.in_ok-linked.linked.image; spelled = linked.0.spelled; carries = whole.carried.carries; effects = whole.effects; short = linked.0.short };
+      direct = whole.direct;
+    }
