@@ -219,13 +219,13 @@ class Case:
         """What is to be told of one call."""
         before = len(files.asked)
         stream, output, note = Input(self.given, self.reads), Sink(self.room, self.output), Sink(self.room, self.note)
-        answer = answer_of(words, files, stream)
-        asked = files.asked[before:]
-        if answer is None or self.output or len(answer.output.encode()) > self.room:
+        answer = None if self.output else answer_of(words, files, stream)
+        if answer is None or len(answer.output.encode()) > self.room:
+            del files.asked[before:]
             answer, stream = self.answer_of_ticks(words, files, output)
-            del files.asked[before + len(asked) :]
         else:
             output.taken = answer.output.encode()
+        asked = files.asked[before:]
         try:
             note.write(answer.note.encode())
         except WriteFault:
@@ -238,8 +238,10 @@ class Case:
 
     def answer_of_ticks(self, words, files, output):
         """The answer of a call in which a device may fail, found by one more tick again and again, and its input as it is left."""
-        before = ""
+        before, first = "", len(files.asked)
         for ticks in range(MOST_TICKS):
+            # Each of these calls asks for the same files, and they count once.
+            del files.asked[first:]
             stream = Input(self.given, self.reads)
             answer = answer_of(words, files, stream, ticks)
             if answer is None:

@@ -57,7 +57,9 @@ MIB4 = model.MOST_BYTES
 
 # What the note of a file `a` looks like for each status of a source.
 PLACE = r"(?:a|prelude) token [0-9]+: "
-NUMBERED = r"(?:underflow, needs [0-9]+, has [0-9]+|branches, [0-9]+ and [0-9]+|recursive-input, input [0-9]+|rows, input [0-9]+, expected [0-9]+, found [0-9]+|outputs, declared [0-9]+, found [0-9]+)"
+NUMBERED = (
+    "underflow, needs N, has N|branches, N and N|recursive-input, input N|rows, input N, expected N, found N|outputs, declared N, found N"
+).replace("N", "[0-9]+")
 RULES = "not-known|too-deep|too-large|must-return|undeclared-recursion|row-declaration|method-effect|not-a-class"
 KINDS = "unknown|twice|no-vocabulary|not-a-class|not-a-generic|bad-parent|cycle|too-many|undefined"
 FAULTS = "not UTF-8|open string|bad escape|stuck quote"
@@ -439,7 +441,7 @@ def wrong_in(case, told):
 
 
 def model_of(case):
-    """What the model says that is told of a case; None where it would take too long."""
+    """What the model says that is told of a case."""
     try:
         return case.answered()
     except (model.Stuck, RecursionError) as error:

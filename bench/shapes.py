@@ -495,7 +495,8 @@ def main():
             found = [each.result() for each in costs]
             each = memory(allocations, words_given.program, folder, shape, 4 * sizes[shape.name])
             near.append(tell(shape, sizes[shape.name], found, each))
-    print(f"{near.count(False)} of {len(near)} shapes take more than {MOST_RATIO} times as much for four times the source, or more than {MOST_BYTES_A_BYTE} bytes a byte")
+    limits = f"{MOST_RATIO} times as much for four times the source, or more than {MOST_BYTES_A_BYTE} bytes a byte"
+    print(f"{near.count(False)} of {len(near)} shapes take more than {limits}")
     return 0 if all(near) else 1
 
 
