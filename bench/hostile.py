@@ -1,5 +1,5 @@
 #!/usr/bin/env python3
-"""Gives the built factorc sources that are damaged, deep or long, and looks that each ends as it should, in little memory.
+"""Gives the built factorc sources and images that are damaged, deep or long, and looks that each ends as it should, in little memory.
 
     python3 bench/hostile.py [PROGRAM] [--cases CASES] [--mutations N] [--model K] [--seed S] [--jobs J] [--only PART]
 
@@ -12,14 +12,16 @@ are these; with `--only` one of them is done alone.
   source, and its note has the form that belongs to it.
 - `deep`: programs whose run nests values as deep as they can be, and walks or drops them, answer what stands beside them, with a stack of
   one mebibyte.
+- `images`: images of a mebibyte that consist of one thing again and again, and those that claim to have more than there is, are executed and
+  listed as bench/image_model.py says. bench/images.py has those that are damaged.
 - `damaged`: N times, 1,000,000 by default, a source is damaged at random, and checked or run with a small budget. Each ends in one of the
   statuses of a source, with a note of its form; and each K-th, by default every 50th, is compared with bench/model.py. CASES makes these
   calls, some hundred of them in one process; J processes share them, as many as there are processors by default. The same seed S, 1 by
   default, gives the same sources.
 
-Where a source is only checked, it may take 40 bytes of memory for each of its bytes, above 1 MiB; a library that counts what is allocated
-tells that. The script ends with status 1 where anything is otherwise, or a run takes too long or is ended by a signal. Sources that were
-damaged and failed are kept in a folder, which is named.
+Where a source is only checked, it may take 40 bytes of memory for each of its bytes, above 1 MiB, and an image that is executed 10; a library
+that counts what is allocated tells that. The script ends with status 1 where anything is otherwise, or a run takes too long or is ended by a
+signal. Sources that were damaged and failed are kept in a folder, which is named.
 """
 
 import argparse
@@ -35,6 +37,7 @@ from collections import Counter
 
 import cases
 import examples
+import image_model
 import model
 import speed
 from allocations import Allocations
@@ -44,7 +47,7 @@ TOP = os.path.realpath(os.path.join(os.path.dirname(os.path.abspath(__file__)), 
 CASES = os.path.join(TOP, "crates", "fac_cases", "out", "fac_cases")
 
 MOST_SECONDS = 60
-MOST_BYTES_A_BYTE = 40
+MOST_BYTES_A_BYTE, MOST_BYTES_A_BYTE_OF_IMAGE = 40, 10
 BASE = 1 << 20
 MOST_FAILURES = 20
 # The room of the sinks, and the budget, of a damaged source.
@@ -56,6 +59,7 @@ DONE, SYNTAX, NAME, CHECKER = model.DONE, model.SYNTAX, model.NAME, model.CHECKE
 MIB4 = model.MOST_BYTES
 
 # What the note of a file `a` looks like for each status of a source.
+WORD = "[^\t-\r ]+"
 PLACE = r"(?:a|prelude) token [0-9]+: "
 NUMBERED = (
     "underflow, needs N, has N|branches, N and N|recursive-input, input N|rows, input N, expected N, found N|outputs, declared N, found N"
@@ -67,8 +71,8 @@ NOTES = {
     0: r"",
     1: r"error: [a-z-]+ in [^\n]*\n",
     3: rf"syntax: a (?:token [1-9][0-9]*: (?:end of the file|not expected)|byte [0-9]+: (?:{FAULTS}))\n",
-    4: rf"name: {PLACE}(?:(?:{KINDS}) \S+|ambiguous \S+, \S+ and \S+)\n",
-    5: rf"check: \S+, {PLACE}(?:{RULES}|{NUMBERED})\n",
+    4: rf"name: {PLACE}(?:(?:{KINDS}) {WORD}|ambiguous {WORD}, {WORD} and {WORD})\n",
+    5: rf"check: (?:{WORD}|M: {WORD} {WORD}), {PLACE}(?:{RULES}|{NUMBERED})\n",
     6: rf"spent: {TICKS} ticks\n",
     9: r"input fault after [0-9]+ ticks\n",
     10: r"write fault after [0-9]+ ticks\n",
@@ -290,6 +294,36 @@ DEEP = [
 ]
 
 
+# Images
+
+# How many lists an image has, and the number of that of the code.
+LISTS, CODE = 9, 8
+GREATEST_NUMBER = image_model.leb(2**32 - 1)
+
+
+def image_of(place, count, given):
+    """The bytes of an image in which one list has so many elements of these bytes together, and which halts at once."""
+    before, behind = bytes(place), bytes(CODE - place - 1) + b"\1\0" if place < CODE else b""
+    return b"FCI1" + before + image_model.leb(count) + given + behind + b"\0"
+
+
+def images():
+    """What each image shows, with its bytes: lists of many small elements, and lists that claim more than there is."""
+    for place, element, name in (
+        (0, b"\0", "empty texts"),
+        (0, b"\1x", "texts of a character"),
+        (1, b"\0", "empty arrays"),
+        (1, b"\10" + b"\1\0" * 8, "arrays of eight"),
+        (3, b"\0", "empty sets of classes"),
+        (CODE, b"\0", "instructions"),
+    ):
+        count = BASE // len(element)
+        yield name, image_of(place, count, element * count)
+    for place in range(LISTS):
+        for name, behind in (("nothing", b""), ("zeros", bytes(BASE)), ("ones", b"\1" * BASE), ("great numbers", GREATEST_NUMBER * (BASE // 8))):
+            yield f"{name} where list {place} has 4,294,967,295 elements", b"FCI1" + bytes(place) + GREATEST_NUMBER + behind
+
+
 # What is done with them
 
 
@@ -304,20 +338,20 @@ class Checked:
         self.worst = []
         self.base = self.of("nothing", b"").most
 
-    def of(self, about, source):
-        """How a check of a source ends. Too much memory is told."""
+    def of(self, about, given, command="check", most=MOST_BYTES_A_BYTE):
+        """How a command on a file of these bytes ends. It is told where it takes more memory than so many bytes for each of these."""
         with open(os.path.join(self.folder, "a"), "wb") as file:
-            file.write(source)
-        ended = self.allocations.run([self.program, "check", "a"])
+            file.write(given)
+        ended = self.allocations.run([self.program, command, "a"])
         more = max(0, ended.most - BASE)
-        self.worst.append((more / max(1, len(source)), about, len(source), ended.most))
-        if more > MOST_BYTES_A_BYTE * len(source):
-            self.failed.append(f"{about}: {ended.most:,} bytes for a source of {len(source):,}")
+        self.worst.append((more / max(1, len(given)), about, len(given), ended.most))
+        if most is not None and more > most * len(given):
+            self.failed.append(f"{about}: {ended.most:,} bytes of memory for {len(given):,}")
         return ended
 
     def tell(self, name, count):
         """Prints what was done, and what took most memory."""
-        print(f"{name}: {count} sources; a file without a byte takes {self.base:,} bytes of memory", flush=True)
+        print(f"{name}: {count} of them; `check` of a file without a byte takes {self.base:,} bytes of memory", flush=True)
         for each, about, length, most in sorted(self.worst, reverse=True)[:5]:
             print(f"    {about}: {length:,} bytes, {most:,} of memory, {each:.1f} for each above 1 MiB", flush=True)
         self.worst = []
@@ -360,6 +394,22 @@ def check_deep(checked):
         if got != (status, output, note):
             checked.failed.append(f"{about}: {got[0]}, {got[1][:80]!r}, {got[2][:80]!r}")
     print(f"deep: {len(DEEP)} programs", flush=True)
+
+
+def check_images(checked):
+    """Executes and lists images."""
+    count = 0
+    for about, given in images():
+        found = image_model.found_in(given)
+        for command, most, answer in (
+            ("exec", MOST_BYTES_A_BYTE_OF_IMAGE, image_model.answer_of_exec(found, model.BUDGET)),
+            ("list", None, image_model.answer_of_list(found)),
+        ):
+            ended = checked.of(f"{command} of {about}", given, command, most)
+            count += 1
+            if (ended.status, ended.output, ended.note) != (answer.status, answer.output.encode(), answer.note.encode()):
+                checked.failed.append(f"{command} of {about}: status {ended.status}, note {ended.note[:100]!r}, and not {answer.status}, {answer.note!r}")
+    checked.tell("images", count)
 
 
 # Damage
@@ -510,7 +560,7 @@ def arguments():
     parser.add_argument("--model", type=int, default=50)
     parser.add_argument("--seed", type=int, default=1)
     parser.add_argument("--jobs", type=int, default=os.cpu_count())
-    parser.add_argument("--only", choices=["limits", "long", "deep", "damaged"])
+    parser.add_argument("--only", choices=["limits", "long", "deep", "images", "damaged"])
     return parser.parse_args()
 
 
@@ -520,7 +570,7 @@ def main():
     if words.only != "damaged":
         with tempfile.TemporaryDirectory() as folder:
             checked = Checked(speed.built(words.program), folder)
-            for name, part in (("limits", check_limits), ("long", check_long), ("deep", check_deep)):
+            for name, part in (("limits", check_limits), ("long", check_long), ("deep", check_deep), ("images", check_images)):
                 if words.only in (None, name):
                     part(checked)
             failed += checked.failed

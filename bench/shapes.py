@@ -465,7 +465,7 @@ def tell(shape, n, costs, each):
     growth = (long - usual) / (usual - short)
     is_near = ratio <= MOST_RATIO and growth <= MOST_GROWTH and status == middle == last and status >= 0 and status != NO_GRAMMAR
     is_small = each <= MOST_BYTES_A_BYTE
-    note = "" if is_near and is_small else f" * (the source {growth:.2f})"
+    note = ("" if is_near else f" * (the source {growth:.2f})") + ("" if is_small else " * memory")
     print(f"{shape.name:<28}{n:>8}{few:>15,.0f}{many:>15,.0f}{ratio:>8.2f}{each:>8.1f}  status {status}, {middle}, {last}{note}", flush=True)
     return is_near and is_small
 
