@@ -65,7 +65,9 @@ pub fn tell_fronts(alloc: Global, told: &mut Text, bytes: Option<&[u8]>) -> Resu
     match first_taken(alloc, bytes)? {
         None => told.push_str("  each front is refused at its end\n"),
         Some(count) => {
-            let line = format!(in alloc; "  the first {count} bytes aren't refused at their end\n")?;
+            let line = format!(in alloc;
+                "  the first {count} bytes aren't refused at their end\n"
+            )?;
             told.push_str(line.as_str())
         }
     }
