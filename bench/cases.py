@@ -5,13 +5,17 @@
 
 FILE has the cases with their answers, by default crates/fac_cases/stdout. Both are written by hand, the answers by one who thinks of the
 program and the model by one who doesn't, so where the two differ one of them is wrong. Each such case is told with its line; the script
-ends with status 1 then. Cases with an input, an output or a note that fails are left out, and those that tell tokens. What is built is
-built by bench/plain_images.py, and executed by bench/image_model.py.
+ends with status 1 then. What is built is built by bench/plain_images.py, and executed by bench/image_model.py.
+
+The models know nothing of devices that fail. Where an input or an output does, the model is asked with a budget of one tick, of two and so
+on: what comes to the output with one tick more is the next piece that is written, and where the input is asked for what can't be read, the
+ticks are those of the budget. So a fault is compared with what the program does in the ticks that are told. Cases that tell tokens are left out.
 """
 
 import argparse
 import io
 import os
+import subprocess
 import sys
 
 import image_model
@@ -21,9 +25,17 @@ import speed
 
 DEFAULT = os.path.join(os.path.dirname(os.path.abspath(__file__)), "..", "crates", "fac_cases", "stdout")
 
-# The most bytes that the case's output takes, and the most lines that are told of what is left of its input.
+# The most bytes that the case's output takes where it doesn't say otherwise, and the most lines that are told of what is left of its input.
 ROOM = 1_000
 MOST_LINES = 10
+
+# The most bytes that one read of the input gives.
+MOST_READ_BYTES = 65_536
+
+INPUT_FAULT, WRITE_FAULT = 9, 10
+
+# The ticks of a run in which a device fails are few.
+MOST_TICKS = 1_000
 
 ESCAPES = str.maketrans({"\n": "\\n", "\r": "\\r", "\t": "\\t", "\\": "\\\\"})
 
@@ -52,9 +64,76 @@ class Files:
         return True
 
 
+class InputFault(Exception):
+    """A read of the input failed."""
+
+
+class Input:
+    """An input of these bytes, of which the reads with these numbers fail. No line is lost by that."""
+
+    def __init__(self, given, fails):
+        self.coming = io.BytesIO(given)
+        self.fails = fails
+        self.reads = 0
+        self.held = b""
+
+    def readline(self, most):
+        """The next line with its newline, or so many of its bytes; nothing at the end."""
+        while b"\n" not in self.held[:most] and len(self.held) < most:
+            self.reads += 1
+            if self.reads in self.fails:
+                raise InputFault
+            read = self.coming.read(MOST_READ_BYTES)
+            if not read:
+                break
+            self.held += read
+        end = self.held.find(b"\n", 0, most) + 1 or most
+        line, self.held = self.held[:end], self.held[end:]
+        return line
+
+    def left(self):
+        """The lines that are told of what is left, as bytes: some of them, each with a newline, up to one that can't be read."""
+        lines = b""
+        for _ in range(MOST_LINES):
+            try:
+                line = self.readline(model.MOST_LINE_BYTES + 1)
+            except InputFault:
+                break
+            if not line:
+                break
+            lines += line.removesuffix(b"\n") + b"\n"
+        return lines
+
+
+class WriteFault(Exception):
+    """A write failed."""
+
+
+class Sink:
+    """A sink of so many bytes, of which the writes with these numbers fail when they have taken so many bytes."""
+
+    def __init__(self, room, fails):
+        self.room = room
+        self.fails = fails
+        self.writes = 0
+        self.taken = b""
+
+    def write(self, piece):
+        """Takes a piece."""
+        if not piece:
+            return
+        self.writes += 1
+        if len(piece) > self.room - len(self.taken):
+            raise WriteFault
+        if self.writes in self.fails:
+            self.taken += piece[: self.fails[self.writes]]
+            raise WriteFault
+        self.taken += piece
+
+
 class Case:
-    """A case: the words of the command line, those of the calls behind it, the files by their names, the input, and what is told of it. The
-    line is where it ends."""
+    """A case: the words of the command line, those of the calls behind it, the files by their names, the input, what fails, and what is told
+    of it."""
 
     def __init__(self):
         self.words = ["run", "a"]
@@ -63,6 +142,11 @@ class Case:
         self.file = "a"
         self.sources = {"a": b""}
         self.fails = []
+        self.reads = []
+        self.output = {}
+        self.note = {}
+        self.room = ROOM
+        self.fronts = None
         self.left_out = False
         self.told = []
 
@@ -95,8 +179,27 @@ class Case:
             self.sources[self.file] = b""
         elif name == b"loads":
             self.fails = [int(number) for number in text.split()]
+        elif name == b"reads":
+            self.reads = [int(number) for number in text.split()]
+        elif name in (b"output", b"note"):
+            number, count = text.split()
+            (self.output if name == b"output" else self.note)[int(number)] = int(count)
+        elif name == b"room":
+            self.room = int(text)
+        elif name == b"fronts":
+            self.fronts = text.decode()
         elif name != b"about":
             self.left_out = True
+
+    def lines(self):
+        """The lines of this case, with the empty one behind them. Its files are handed over byte for byte, `a` as the first one."""
+        told = [] if self.room == ROOM else [b"@room %d" % self.room]
+        for number, words in enumerate([self.words, *self.others]):
+            told.append(b"@then " * (number > 0) + b"@words " * (number == 0) + b" ".join(word.encode() or b"''" for word in words))
+        told += [b"@codes " + numbers_of(self.given)] if self.given else []
+        for name, given in self.sources.items():
+            told += ([] if name == "a" else [b"@file " + name.encode()]) + ([b"@bytes " + numbers_of(given)] if given else [])
+        return b"\n".join(told) + b"\n\n"
 
     def answered(self):
         """What the model says that is to be told; None where the case is left out."""
@@ -105,31 +208,97 @@ class Case:
         files = Files(self.sources, self.fails)
         told = []
         for words in [self.words, *self.others]:
-            one = self.answered_call(words, files)
-            if one is None:
-                return None
-            told += one
+            told += self.answered_call(words, files)
+        if self.fronts is not None:
+            given = files.held[self.fronts]
+            taken = [size for size in range(len(given)) if place_of_fault(given[:size]) != size]
+            told.append(f"  the first {taken[0]} bytes aren't refused at their end" if taken else "  each front is refused at its end")
         return told
 
     def answered_call(self, words, files):
-        """What is to be told of one call; None where its output is too long."""
+        """What is to be told of one call."""
         before = len(files.asked)
-        stream = io.BytesIO(self.given)
-        if words[:1] == ["build"]:
-            answer = answer_of_build(words, files)
-        elif words[:1] in (["exec"], ["list"]):
-            answer = image_model.answer(words, files, stream)
+        stream, output, note = Input(self.given, self.reads), Sink(self.room, self.output), Sink(self.room, self.note)
+        answer = None if self.output else answer_of(words, files, stream)
+        if answer is None or len(answer.output.encode()) > self.room:
+            del files.asked[before:]
+            answer, stream = self.answer_of_ticks(words, files, output)
         else:
-            answer = model.answer(words, files, given=stream)
-        if len(answer.output.encode()) > ROOM:
-            return None
-        loads = "".join(f", {asked}" for asked in files.asked[before:])
-        refused = ", refused" if answer.status not in (model.DONE, model.USAGE) else ""
+            output.taken = answer.output.encode()
+        asked = files.asked[before:]
+        try:
+            note.write(answer.note.encode())
+        except WriteFault:
+            answer = model.Answer(WRITE_FAULT, "write fault", ticks=answer.ticks)
+        loads = "".join(f", {one}" for one in asked)
+        refused = ", refused" if answer.status not in (model.DONE, model.USAGE, INPUT_FAULT, WRITE_FAULT) else ""
         leaves = "" if answer.stack is None else "".join([", leaves", *[" " + text for text in answer.stack]])
         told = [f"  status {answer.status}, {answer.ticks} ticks{loads}{refused}{leaves}"]
-        told += [f"  writes {answer.output.translate(ESCAPES)}"] if answer.output else []
-        told += [f"  notes {answer.note.translate(ESCAPES)}"] if answer.note else []
-        return told + told_left(stream.read())
+        return told + told_bytes("writes", output.taken) + told_bytes("notes", note.taken) + told_bytes("left", stream.left())
+
+    def answer_of_ticks(self, words, files, output):
+        """The answer of a call in which a device may fail, found by one more tick again and again, and its input as it is left."""
+        before, first = "", len(files.asked)
+        for ticks in range(MOST_TICKS):
+            # Each of these calls asks for the same files, and they count once.
+            del files.asked[first:]
+            stream = Input(self.given, self.reads)
+            answer = answer_of(words, files, stream, ticks)
+            if answer is None:
+                return fault("input", ticks), stream
+            try:
+                # What `run --stack` writes of the stack is a write of its own.
+                for piece in pieces_of(answer, words, before):
+                    output.write(piece.encode())
+            except WriteFault:
+                return fault("write", answer.ticks), stream
+            if answer.status != model.SPENT or answer.note != f"spent: {ticks} ticks\n" or ticks == steps_of(words):
+                return answer, stream
+            before = answer.output
+        raise ValueError(f"{words} takes more than {MOST_TICKS} ticks, and a device fails")
+
+
+def numbers_of(given):
+    """The numbers of bytes, as a line has them."""
+    return b" ".join(b"%d" % byte for byte in given)
+
+
+def place_of_fault(given):
+    """Where these bytes stop to be those of an image; None where they are those of one."""
+    found = image_model.found_in(given)
+    return found.place if type(found) is image_model.BadImage else None
+
+
+def answer_of(words, files, stream, ticks=None):
+    """The model's answer to a call, with at most so many ticks; None where a read of the input fails."""
+    try:
+        if words[:1] == ["build"]:
+            return answer_of_build(words, files)
+        if words[:1] not in (["exec"], ["list"]):
+            return model.answer(words, files, model.MOST_BUDGET if ticks is None else ticks, stream)
+        if words[:1] == ["exec"] and ticks is not None:
+            words = ["exec", "--steps", str(ticks), words[-1]]
+        return image_model.answer(words, files, stream)
+    except InputFault:
+        return None
+
+
+def steps_of(words):
+    """The budget that a command line names, or that of every other one."""
+    return int(words[2]) if words[1:2] == ["--steps"] else model.BUDGET
+
+
+def pieces_of(answer, words, before):
+    """The pieces that a call wrote behind what it wrote in a tick less."""
+    more = answer.output[len(before) :]
+    stack = "".join(text + "\n" for text in answer.stack) if words[1:2] == ["--stack"] and answer.stack else ""
+    return [more.removesuffix(stack), stack]
+
+
+def fault(device, ticks):
+    """The answer where a device failed in the last of so many ticks."""
+    status = INPUT_FAULT if device == "input" else WRITE_FAULT
+    return model.Answer(status, f"{device} fault", f"{device} fault after {ticks} ticks\n", ticks=ticks)
 
 
 def answer_of_build(words, files):
@@ -149,14 +318,25 @@ def words_of(text):
     return ["" if word == "''" else word for word in text.decode().split(" ")]
 
 
-def told_left(rest):
-    """What is told of the rest of an input: its lines, each with a newline."""
-    lines = rest.removesuffix(b"\n").split(b"\n") if rest else []
-    left = b"".join(line + b"\n" for line in lines[:MOST_LINES])
+def told_bytes(what, given):
+    """The line that tells of bytes, where there are any."""
     try:
-        return [f"  left {left.decode().translate(ESCAPES)}"] if left else []
+        return [f"  {what} {given.decode().translate(ESCAPES)}"] if given else []
     except UnicodeDecodeError:
-        return ["  left no text"]
+        return [f"  {what} no text"]
+
+
+def told_by(program, made):
+    """What the built program of crates/fac_cases tells of each of these cases, and its status. It tells of fewer where it doesn't come to the
+    end."""
+    ended = subprocess.run([program], input=b"".join(case.lines() for case in made), capture_output=True, check=False)
+    told = [[]]
+    for line in ended.stdout.split(b"\n"):
+        if line.startswith(b"  "):
+            told[-1].append(line.decode(errors="replace"))
+        elif not line:
+            told.append([])
+    return told[: len(made)], ended.returncode
 
 
 def cases_of(lines):

@@ -1,7 +1,7 @@
 #!/usr/bin/env python3
 """Compares the built factorc with the model of images in bench/image_model.py: `build`, `exec` and `list`, and on images that were damaged.
 
-    python3 bench/images.py [PROGRAM] [--self] [--mutations N] [--seed S] [--jobs J]
+    python3 bench/images.py [PROGRAM] [--cases CASES] [--self] [--mutations N] [--seed S] [--jobs J]
 
 PROGRAM is the built program, by default crates/factorc/out/factorc. With `--self` the models play the program: bench/model.py runs, and
 bench/plain_images.py builds what bench/image_model.py executes. So the models are compared with each other where there is no program.
@@ -20,6 +20,10 @@ Status, output and note have to be the model's. The last two are done by J proce
 that tell of memory aren't compared, and an image that makes the model's machine hold too much is left out; both are counted. The script ends
 with status 1 where an answer differs, or a run takes too long or is ended by a signal. Each such image is kept in a folder, which is
 named.
+
+CASES is the built program of crates/fac_cases. Where it is told, it makes the calls on damaged images, some hundred in a process, in a tenth
+of the time. Then also what is left of the input and what is left on the stack is compared, the bytes of more images are changed to every
+value, and N is 1,000,000 by default.
 """
 
 import argparse
@@ -34,6 +38,7 @@ import sys
 import tempfile
 from collections import Counter
 
+import cases
 import image_model
 import model
 import plain_images
@@ -48,8 +53,10 @@ MOST_TICKS = 2_000
 # The most ticks that the model follows of an image that was built.
 MOST_BUILT_TICKS = 20_000
 MOST_FAILURES = 20
-# A short image has at most so many bytes, and a small one so many.
-SHORT, SMALL = 150, 2_000
+# A short image has at most so many bytes, where each is damaged by a process of its own, or where many are by one; and a small one so many.
+SHORT, SHORT_IN_CASES, SMALL = 150, 700, 2_000
+# The room of a sink that is made for a damaged image.
+ROOM = 300_000
 # So many of the images with which damage begins are written here; more of it is theirs, since they are small.
 BY_HERE = 3
 MOST_BUILT_BYTES = 20_000
@@ -435,6 +442,40 @@ def mutation(seed, number, images):
 # Comparisons
 
 
+def case_of(given):
+    """The case that executes and lists an image of these bytes."""
+    case = cases.Case()
+    case.words, case.others = ["exec", "--steps", str(MOST_TICKS), "i"], [["list", "i"]]
+    case.room, case.given = ROOM, GIVEN
+    case.sources = {"i": given}
+    return case
+
+
+def differences_in_cases(program, images, tally):
+    """What the program of cases tells of images otherwise than the model, each with its image."""
+    made = [case_of(given) for given in images]
+    told, status = cases.told_by(program, made)
+    if status != 0 or len(told) < len(made):
+        alone = [(case, *cases.told_by(program, [case])) for case in made]
+        found = [(case.sources["i"], f"it ends with {status}, told {told}") for case, told, status in alone if status != 0]
+        return found or [(images[0], f"{len(images)} images from this one on end with {status}, and none of them alone")]
+    failed = []
+    for case, lines in zip(made, told):
+        try:
+            wanted = case.answered()
+        except (image_model.Large, MemoryError, ValueError):
+            tally["left out"] += 1
+            continue
+        ends = [line for line in lines if line.startswith("  status")]
+        if any(line.startswith(f"  status {MEMORY},") for line in ends):
+            tally["memory"] += 1
+            continue
+        tally.update(line.split(",")[0].strip() for line in ends)
+        if lines != wanted:
+            failed.append((case.sources["i"], f"told {lines} and not {wanted}"))
+    return failed
+
+
 def differences(program, given, tally):
     """What a program does otherwise than the model with an image of these bytes."""
     program.write({"i": given})
@@ -458,16 +499,18 @@ def differences(program, given, tally):
 PROGRAM = None
 
 
-def begin(path):
+def begin(path, in_cases):
     """Begins a worker."""
     global PROGRAM
-    PROGRAM = Played() if path is None else Built(path)
+    PROGRAM = in_cases or (Played() if path is None else Built(path))
     resource.setrlimit(resource.RLIMIT_AS, (MOST_MEMORY, MOST_MEMORY))
 
 
 def work(images):
     """Compares the answers to some images; gives the tally and what failed, each with its image."""
     tally, failed = Counter(), []
+    if type(PROGRAM) is str:
+        return tally, differences_in_cases(PROGRAM, images, tally)
     for given in images:
         failed += [(given, line) for line in differences(PROGRAM, given, tally)]
     return tally, failed
@@ -638,12 +681,13 @@ def differences_built(program, files, given, bytes_of):
             yield f"its first {size} bytes: {shortened(got)}"
 
 
-def each_byte(given):
-    """The fronts of an image, and the image with each byte changed: of a short one to every other value, of another one to some."""
+def each_byte(given, most):
+    """The fronts of an image, and the image with each byte changed: of one with at most so many bytes to every other value, of another one to
+    some."""
     yield from (given[:size] for size in range(len(given)))
     for place, byte in enumerate(given):
         some = {0, byte - 1, byte + 1, byte ^ 128, 255} | ({1, 2, 8, 127, 128, byte ^ 64} if len(given) <= SMALL else set())
-        for value in range(256) if len(given) <= SHORT else sorted(some):
+        for value in range(256) if len(given) <= most else sorted(some):
             if 0 <= value < 256 and value != byte:
                 yield given[:place] + bytes([value]) + given[place + 1 :]
 
@@ -664,8 +708,9 @@ def arguments():
     """The words of the command line."""
     parser = argparse.ArgumentParser(description="Compares the built factorc with the model of images.")
     parser.add_argument("program", nargs="?", default=speed.DEFAULT, metavar="PROGRAM")
+    parser.add_argument("--cases", type=speed.built)
     parser.add_argument("--self", action="store_true", dest="itself")
-    parser.add_argument("--mutations", type=int, default=100_000)
+    parser.add_argument("--mutations", type=int)
     parser.add_argument("--seed", type=int, default=1)
     parser.add_argument("--jobs", type=int, default=os.cpu_count())
     return parser.parse_args()
@@ -683,13 +728,16 @@ def main():
     if path is not None:
         compare_commands(program, report)
     images = [HALT, short, whole] + compare_built(program, report)
-    small = images[:BY_HERE] + sorted(images[BY_HERE:], key=len)[:1]
-    with multiprocessing.Pool(words.jobs, begin, (path,)) as pool:
+    most = SHORT_IN_CASES if words.cases else SHORT
+    built = sorted(images[BY_HERE:], key=len)
+    small = images[:BY_HERE] + ([one for one in built if len(one) <= most] if words.cases else built[:1])
+    with multiprocessing.Pool(words.jobs, begin, (path, words.cases)) as pool:
         if len(report.failed) <= MOST_FAILURES:
-            changed_bytes = chunks((given for one in small for given in each_byte(one)), 200)
+            changed_bytes = chunks((given for one in small for given in each_byte(one, most)), 200)
             report.gather("each byte", pool.imap_unordered(work, changed_bytes))
         if len(report.failed) <= MOST_FAILURES:
-            tasks = ((words.seed, numbers, images) for numbers in chunks(range(words.mutations), 200))
+            count = words.mutations or (1_000_000 if words.cases else 100_000)
+            tasks = ((words.seed, numbers, images) for numbers in chunks(range(count), 200))
             report.gather("mutations", pool.imap_unordered(mutations, tasks))
         pool.terminate()
     return speed.finish(report.failed)

@@ -33,6 +33,7 @@ ANYWHERE = {
     "crates/fac_*cases/std*": "cases",
     "bench/*kinds.py": "cases made at random",
     "bench/examples.py": "worked examples",
+    "bench/hostile.py": "hostile sources and images",
     "bench/images.py": "images of cases",
     "bench/speed.py": "sources to measure",
     "bench/shapes.py": "sources to measure",

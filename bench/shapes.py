@@ -1,15 +1,16 @@
 #!/usr/bin/env python3
-"""Checks that no shape of source makes `factorc check` take more than near linear time.
+"""Checks that no shape of source makes `factorc check` take more than near linear time, or much memory.
 
-    python3 bench/shapes.py [--program PROGRAM] [--times] [--list] [NAME ..]
+    python3 bench/shapes.py [--program PROGRAM] [--times] [--jobs J] [--list] [NAME ..]
 
 PROGRAM is the built program, by default crates/factorc/out/factorc. A shape is a function from n to a source, with a name and a line of what it stresses;
 add one to SHAPES. For each of these names, by default for all, the script runs `PROGRAM check` on the sources of n / 4, n and 4n, counts the instructions
 of each by valgrind, and prints the ratio of what the last takes more than the middle one to what that takes more than the first: 4 where the shape is linear,
 and 16 where it is quadratic. It ends with status 1 where a ratio is more than 4.6, where a run ends by a signal or with another status than the others,
 where the bytes of the sources have such a ratio of more than 4.3, or where a file isn't of the grammar (status 3), so that nothing is checked.
-Whether the source is accepted doesn't matter otherwise. With `--times` it takes the user time, for sources eight times as large; such times are worth something on an
-idle machine alone. `--list` lists the shapes.
+Whether the source is accepted doesn't matter otherwise. The longest source may take 40 bytes of memory for each of its bytes, above 1 MiB; what
+it takes stands behind the ratio, as a library tells that counts what is allocated. With `--times` the script takes the user time, for sources eight times as large;
+such times are worth something on an idle machine alone. `--list` lists the shapes.
 """
 
 import argparse
@@ -22,6 +23,8 @@ import subprocess
 import sys
 import tempfile
 
+from allocations import Allocations
+
 MOST_RATIO = 4.6
 # The same of the bytes of the sources: they may grow by longer numbers.
 MOST_GROWTH = 4.3
@@ -29,6 +32,9 @@ MOST_GROWTH = 4.3
 NO_GRAMMAR = 3
 # How many times as large the sources are whose user time is taken.
 LARGER = 8
+# The bytes of memory that a byte of source may take, above these.
+MOST_BYTES_A_BYTE = 40
+BASE = 1 << 20
 # So long a run may take, in seconds. A quadratic shape is ended by it.
 MOST_SECONDS = 300
 
@@ -178,6 +184,37 @@ def slots(n):
     return lines(n, f"TUPLE: c{{k}} {names} ;")
 
 
+def own_slots(n):
+    return "".join(f"TUPLE: c{k} " + " ".join(f"s{k:04}-{slot}" for slot in range(60)) + " ;\n" for k in range(n))
+
+
+def heirs(n):
+    names = " ".join(f"s{k}" for k in range(60))
+    return f"TUPLE: p {names} ;\n" + lines(n, "TUPLE: c{k} < p ;")
+
+
+def makers(n):
+    names = " ".join(f"s{k}" for k in range(60))
+    return f"TUPLE: c {names} ;\n" + lines(n, "C: <c{k}> c")
+
+
+def unions_of_unions(n):
+    return "SINGLETON: s\nUNION: u0 s ;\n" + "".join(f"UNION: u{k + 1} u{k} ;\n" for k in range(n))
+
+
+def one_member(n):
+    return "SINGLETON: s\nUNION: u " + "s " * (10 * n) + ";\n"
+
+
+def next_methods(n):
+    methods = "".join(f"M: c{k} g call-next-method ;\n" for k in range(1, n))
+    return parents(n) + "USE: kernel\nGENERIC: g ( x -- )\nM: c0 g drop ;\n" + methods
+
+
+def predicates(n):
+    return lines(n, "SINGLETON: s{k}\n: w{k} ( x -- ? ) s{k}? ;")
+
+
 def methods(n):
     return lines(n, "SINGLETON: s{k}") + "GENERIC: g ( x -- )\nUSE: kernel\n" + lines(n, "M: s{k} g drop ;")
 
@@ -197,6 +234,85 @@ def locals_in_scope(n):
 
 def row_variables(n):
     return "USE: kernel\n" + lines(n, ": w{k} ( ..a q: ( ..a -- ..b ) -- ..b ) call ; inline\n: x{k} ( -- x ) [ 1 ] w{k} ;")
+
+
+def long_row_names(n):
+    row = "..r" + "x" * (50 * n)
+    return f"USE: kernel\n: w ( {row} q: ( {row} -- {row} ) -- {row} ) call ; inline\n" + word("u", "[ ] w " * n)
+
+
+def many_inputs(n):
+    names = " ".join(f"a{k}" for k in range(60))
+    return "USE: kernel\n" + lines(n, f": w{{k}} ( {names} -- * ) throw ;")
+
+
+def used_in_one_form(n):
+    return "USING: " + "kernel math " * (10 * n) + ";\n"
+
+
+def brought_in_one_form(n):
+    names = " ".join(f"w{k}" for k in range(n))
+    return "IN: a\n" + lines(n, ": w{k} ( -- ) ;") + f"IN: b\nFROM: a => {names} ;\n" + lines(n, ": x{k} ( -- ) w{k} ;")
+
+
+def main_words(n):
+    return word("w", "") + "MAIN: w\n" * (10 * n)
+
+
+def recursive_words(n):
+    return "USE: kernel\n" + lines(n, ": w{k} ( ? -- ) [ f w{k} ] [ ] if ; inline recursive")
+
+
+def in_a_circle(n):
+    return lines(n, "DEFER: w{k}") + "".join(f": w{k} ( -- ) w{(k + 1) % n} ;\n" for k in range(n))
+
+
+def fries(n):
+    return lines(n, ": w{k} ( x -- q ) '[ _ '[ _ ] ] ;")
+
+
+def holes(n):
+    return "USE: kernel\n" + lines(n, ": w{k} ( -- ) " + "1 " * 60 + "'[ " + "_ " * 60 + "] drop ;")
+
+
+def bound_locals(n):
+    return "USE: kernel\n" + lines(n, ":: w{k} ( a -- q ) [ [ [ [ a ] ] ] ] ;")
+
+
+def wrapped_words(n):
+    return "USE: kernel\n" + word("w", "\\ dup drop " * (10 * n))
+
+
+def tested_calls(n):
+    return "USE: kernel\n" + word("w", "[ ] call( -- ) " * (10 * n))
+
+
+def words_in_arrays(n):
+    return "USE: kernel\n{ " + "dup drop " * (5 * n) + "} drop\n"
+
+
+def quotations_in_arrays(n):
+    return "USE: kernel\n{ " + "[ 1 ] " * (10 * n) + "} drop\n"
+
+
+def empty_arrays(n):
+    return "USE: kernel\n{ " + "{ } " * (10 * n) + "} drop\n"
+
+
+def empty_quotations(n):
+    return "USE: kernel\n" + "[ ] drop " * (10 * n) + "\n"
+
+
+def compositions(n):
+    return "USE: kernel\n[ ] " + "[ ] compose " * (10 * n) + "drop\n"
+
+
+def branches(n):
+    return "USE: kernel\n" + "t [ 1 ] [ 2 ] if drop " * (5 * n) + "\n"
+
+
+def branches_over_values(n):
+    return "USE: kernel\n" + "1 " * n + "t [ ] [ ] if " * n + "\n"
 
 
 def comments(n):
@@ -259,11 +375,37 @@ SHAPES = [
     Shape("parents", "a chain of parents, up to the limit of classes", 250, parents),
     Shape("members", "a union of many singletons, up to the limit of classes", 250, members),
     Shape("slots", "classes with many slots", 60, slots),
+    Shape("own-slots", "classes with many slots of their own names", 60, own_slots),
+    Shape("heirs", "classes that have many slots by their parent, up to the limit of classes", 250, heirs),
+    Shape("makers", "many makers of a class with many slots", 250, makers),
+    Shape("unions-of-unions", "a chain of unions, up to the limit of classes", 250, unions_of_unions),
+    Shape("one-member", "a union that names one member many times", 500, one_member),
+    Shape("next-methods", "methods that go on with the next, along a chain of parents", 125, next_methods),
+    Shape("predicates", "many classes with predicates that are named, up to the limit", 250, predicates),
     Shape("methods", "a generic word with many methods, up to the limit of classes", 250, methods),
     Shape("generics", "a class with many methods", 300, generics),
     Shape("levels", "quotations as deep as they may be", 30, levels),
     Shape("locals", "words with as many locals as there may be", 30, locals_in_scope),
     Shape("row-variables", "effects with row variables", 150, row_variables),
+    Shape("long-row-names", "a row variable of many characters, used many times", 200, long_row_names),
+    Shape("many-inputs", "words with many inputs", 60, many_inputs),
+    Shape("used-in-one-form", "many vocabularies in one form", 300, used_in_one_form),
+    Shape("brought-in-one-form", "many names that one form brings", 300, brought_in_one_form),
+    Shape("main-words", "many main words", 300, main_words),
+    Shape("recursive-words", "many recursive inline words", 300, recursive_words),
+    Shape("in-a-circle", "many words that call one another in a circle", 500, in_a_circle),
+    Shape("fries", "fries in fries", 300, fries),
+    Shape("holes", "fries with as many holes as there may be", 60, holes),
+    Shape("bound-locals", "quotations in quotations that keep a local", 300, bound_locals),
+    Shape("wrapped-words", "many words behind a backslash", 300, wrapped_words),
+    Shape("tested-calls", "many calls that are tested", 300, tested_calls),
+    Shape("words-in-arrays", "an array of many words", 500, words_in_arrays),
+    Shape("quotations-in-arrays", "an array of many quotations", 500, quotations_in_arrays),
+    Shape("empty-arrays", "an array of many empty arrays", 500, empty_arrays),
+    Shape("empty-quotations", "many empty quotations", 500, empty_quotations),
+    Shape("compositions", "many known callables that are composed", 300, compositions),
+    Shape("branches", "many branches", 300, branches),
+    Shape("branches-over-values", "many branches on many values", 500, branches_over_values),
     Shape("comments", "many comments", 500, comments),
     Shape("one-comment", "a long comment", 500, one_comment),
     Shape("strings", "many strings", 500, strings),
@@ -305,8 +447,15 @@ def measure(cost, program, folder, shape, n):
     return cost(program, path)
 
 
-def tell(shape, n, costs):
-    """Prints the line of a shape, and gives whether it is near linear."""
+def memory(allocations, program, folder, shape, n):
+    """How many bytes of memory each byte of the source takes, above the base."""
+    path = os.path.join(folder, f"{shape.name}-{n}")
+    most = allocations.run([program, "check", path]).most
+    return max(0, most - BASE) / os.path.getsize(path)
+
+
+def tell(shape, n, costs, each):
+    """Prints the line of a shape, which takes so many bytes of memory a byte, and gives whether it is near linear and takes little."""
     if None in costs:
         print(f"{shape.name:<28}{n:>8}{'':>30}    ended, or over {MOST_SECONDS} s", flush=True)
         return False
@@ -315,9 +464,10 @@ def tell(shape, n, costs):
     short, usual, long = (len(shape.make(size)) for size in (n // 4, n, 4 * n))
     growth = (long - usual) / (usual - short)
     is_near = ratio <= MOST_RATIO and growth <= MOST_GROWTH and status == middle == last and status >= 0 and status != NO_GRAMMAR
-    note = "" if is_near else f" * (the source {growth:.2f})"
-    print(f"{shape.name:<28}{n:>8}{few:>15,.0f}{many:>15,.0f}{ratio:>8.2f}  status {status}, {middle}, {last}{note}", flush=True)
-    return is_near
+    is_small = each <= MOST_BYTES_A_BYTE
+    note = ("" if is_near else f" * (the source {growth:.2f})") + ("" if is_small else " * memory")
+    print(f"{shape.name:<28}{n:>8}{few:>15,.0f}{many:>15,.0f}{ratio:>8.2f}{each:>8.1f}  status {status}, {middle}, {last}{note}", flush=True)
+    return is_near and is_small
 
 
 def main():
@@ -325,21 +475,28 @@ def main():
     parser.add_argument("--program", default=DEFAULT)
     parser.add_argument("--times", action="store_true")
     parser.add_argument("--list", action="store_true")
+    parser.add_argument("--jobs", type=int, default=2)
     parser.add_argument("names", nargs="*")
     words_given = parser.parse_args()
     if words_given.list:
         print("\n".join(f"{shape.name:<28}{shape.stresses}" for shape in SHAPES))
         return 0
     chosen = [shape for shape in SHAPES if not words_given.names or shape.name in words_given.names]
-    cost, larger, jobs = (milliseconds, LARGER, 1) if words_given.times else (instructions, 1, 2)
+    cost, larger, jobs = (milliseconds, LARGER, 1) if words_given.times else (instructions, 1, words_given.jobs)
     with tempfile.TemporaryDirectory() as folder, concurrent.futures.ThreadPoolExecutor(jobs) as pool:
         sizes = {shape.name: shape.n * larger for shape in chosen}
         started = [
             (shape, [pool.submit(measure, cost, words_given.program, folder, shape, n) for n in (size // 4, size, 4 * size)])
             for shape, size in ((shape, sizes[shape.name]) for shape in chosen)
         ]
-        near = [tell(shape, sizes[shape.name], [each.result() for each in costs]) for shape, costs in started]
-    print(f"{near.count(False)} of {len(near)} shapes take more than {MOST_RATIO} times as much for four times the source")
+        allocations = Allocations(folder, MOST_SECONDS)
+        near = []
+        for shape, costs in started:
+            found = [each.result() for each in costs]
+            each = memory(allocations, words_given.program, folder, shape, 4 * sizes[shape.name])
+            near.append(tell(shape, sizes[shape.name], found, each))
+    limits = f"{MOST_RATIO} times as much for four times the source, or more than {MOST_BYTES_A_BYTE} bytes a byte"
+    print(f"{near.count(False)} of {len(near)} shapes take more than {limits}")
     return 0 if all(near) else 1
 
 

@@ -1,4 +1,5 @@
 //! Tests of the real files and streams.
+use fac_base::Memory;
 use fac_io::{Files, LoadFault, RealFiles, RealSink, RealSource, SaveFault, Sink, Source};
 use std::alloc::Global;
 use std::io::{ErrorKind, Read, Write};
@@ -57,6 +58,45 @@ fn real_files(rt: HostRuntime) -> Result<(), Fail> {
     let bytes = vec![in alloc; 7u8; 10000]?;
     let mut files = RealFiles::new(&rt);
     assert!(rt; keeps_all(alloc, &mut files, name.as_str(), bytes.as_slice()));
+    fs::remove_file(&rt, name.as_str())?;
+    Ok(())
+}
+
+// So many bytes, which differ from one block of 4,096 to the next.
+fn bytes_of(alloc: Global, count: usize) -> Result<Vec<u8>, Memory> {
+    let mut bytes = Vec::new(alloc);
+    for place in 0..count {
+        bytes.push((place % 251) as u8)?;
+    }
+    Ok(bytes)
+}
+
+// What becomes of so many bytes, where so many may be loaded.
+fn size_kept<F: Files>(
+    alloc: Global,
+    files: &mut F,
+    name: &str,
+    count: usize,
+    limit: u64,
+) -> Result<&'static str, Memory> {
+    let bytes = bytes_of(alloc, count)?;
+    Ok(kept(alloc, files, name, bytes.as_slice(), limit))
+}
+
+#[test]
+fn real_files_of_all_sizes(rt: HostRuntime) -> Result<(), Fail> {
+    let alloc = rt.alloc();
+    let name = format!(in alloc; "/tmp/fac_io_sizes_{}", process::id(rt.process()))?;
+    let mut files = RealFiles::new(&rt);
+    for size in [1_000_000usize, 4_097, 4_096, 77, 1, 0].as_slice() {
+        let told = size_kept(alloc, &mut files, name.as_str(), *size, *size as u64)?;
+        assert_eq!(rt; told, "kept");
+    }
+    for size in [1usize, 77, 4_096, 4_097, 1_000_000].as_slice() {
+        let limit = (*size as u64).saturating_sub(1);
+        let told = size_kept(alloc, &mut files, name.as_str(), *size, limit)?;
+        assert_eq!(rt; told, "too long");
+    }
     fs::remove_file(&rt, name.as_str())?;
     Ok(())
 }
