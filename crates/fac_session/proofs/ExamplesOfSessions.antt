@@ -1,8 +1,10 @@
 -- Small sessions, computed. The prelude has no forms here.
-use Rattle.std.specs.Prelude.{ℕ, pos, List, [], ◌∷◌, ◌++◌, Option, Some, None, codes, concat, map}
-use Rattle.std.specs.List.{find}
+use Rattle.std.specs.Prelude.{ℕ, pos, List, [], ◌∷◌, ◌++◌, Some, None, codes, map}
+use Rattle.std.specs.List.{concat, find}
+use Rattle.std.specs.Fmt.{digits}
 use Rattle.std.specs.Option.{option_map_or}
-use Rattle.std.specs.Str.{bytes_eq}
+use Rattle.std.specs.Str.{bytes_eq, chars, is_utf8}
+use lib.Utf8.{encode}
 use Rattle.std.proofs.Common.{◌≡◌, refl}
 use Rattle.fac_base.specs.declared.place.Place.{Place}
 use Rattle.fac_base.specs.Signatures.{signature, value, no_inputs, leaves}
@@ -14,7 +16,6 @@ use Rattle.fac_source.specs.declared.token.TokKind.TheVariants.{Str}
 use Rattle.fac_source.specs.declared.tree.Bracket.TheVariants.{Quotation, Array}
 use Rattle.fac_source.specs.declared.tree.Element.{Element}
 use Rattle.fac_source.specs.declared.tree.Element.TheVariants as element
-use Rattle.fac_source.specs.declared.tree.Form.{Form}
 use Rattle.fac_source.specs.declared.tree.Form.TheVariants.{Row, Items}
 use Rattle.fac_source.specs.declared.tree.FormKind.TheVariants.{Define, Symbol, Use}
 use Rattle.fac_source.specs.declared.tree.Literal.TheVariants.{Integer, Text}
@@ -26,7 +27,6 @@ use Rattle.fac_lines.specs.LineReads.{line_within}
 use Rattle.fac_vocab.specs.Scopes.{found}
 use Rattle.fac_names.specs.KnownWords.{known_classes, known_words}
 use Rattle.fac_parse.specs.declared.reader.Why.TheVariants.{End}
-use Rattle.fac_notes.specs.declared.report.Report.{Report}
 use Rattle.fac_notes.specs.declared.report.Report.TheVariants as report
 use Rattle.fac_notes.specs.Sources.{Source, no_tree, tree}
 use Rattle.fac_session.specs.Heard.{Heard, listened, notes_of}
@@ -85,11 +85,11 @@ abbrev first_heard : Heard
 first_heard = hears first_texts (codes "1 2 +" ∷ codes "0 /i" ∷ codes "dup *" ∷ codes ": s ( x -- y ) dup * ;" ∷ codes "[ 1" ∷ codes "2 ] call + +" ∷ codes "foo" ∷ [])
 
 first_is : first_heard ≡ record { status = 0; ticks = 13; refusal = None; output = codes "--- Data stack:\n3\n--- Data stack:\n9\n--- Data stack:\n12\n"; told = report.Error ZeroDivisor (record { vocab = codes "math"; name = codes "/i" }) None ∷ report.Name (record { place = at 1; kind = Unknown; name = codes "foo" }) ∷ [] }
-unfolding first_texts known_words known_classes built_primitive_words found prim_numbered prim_fn operation_does line_within
+unfolding first_texts known_words known_classes built_primitive_words found prim_numbered prim_fn operation_does line_within digits
 first_is = refl
 
 first_notes : notes_of first_heard ≡ codes "error: zero-divisor in math:/i\nname: listener token 1: unknown foo\n"
-unfolding first_texts known_words known_classes built_primitive_words found prim_numbered prim_fn operation_does line_within
+unfolding first_texts known_words known_classes built_primitive_words found prim_numbered prim_fn operation_does line_within digits
 first_notes = refl
 
 -- A vocabulary that isn't there, a phrase that writes and fails, and one that runs and leaves nothing.
@@ -105,17 +105,17 @@ abbrev second_heard : Heard
 second_heard = hears second_texts (codes "USE: nowhere" ∷ codes "\"a\" print \"b\" throw" ∷ codes "1 [ drop ] call" ∷ [])
 
 second_is : second_heard ≡ record { status = 0; ticks = 8; refusal = None; output = codes "a\n"; told = report.Name (record { place = at 2; kind = NoVocab; name = codes "nowhere" }) ∷ report.Error Thrown (record { vocab = codes "kernel"; name = codes "throw" }) (Some (codes "\"b\"")) ∷ [] }
-unfolding second_texts known_words known_classes built_primitive_words found prim_numbered prim_fn operation_does line_within
+unfolding second_texts known_words known_classes built_primitive_words found prim_numbered prim_fn operation_does line_within digits
 second_is = refl
 
 second_notes : notes_of second_heard ≡ codes "name: listener token 2: no-vocabulary nowhere\nerror: thrown in kernel:throw: \"b\"\n"
-unfolding second_texts known_words known_classes built_primitive_words found prim_numbered prim_fn operation_does line_within
+unfolding second_texts known_words known_classes built_primitive_words found prim_numbered prim_fn operation_does line_within digits
 second_notes = refl
 
 -- A text that waits at the end.
 
 waiting_at_end : hears first_texts (codes "[ 1" ∷ []) ≡ record { status = 3; ticks = 0; refusal = Some (report.Syntax 1 3 End); output = []; told = [] }
-unfolding first_texts known_words known_classes built_primitive_words found prim_numbered prim_fn operation_does line_within
+unfolding first_texts known_words known_classes built_primitive_words found prim_numbered prim_fn operation_does line_within digits
 waiting_at_end = refl
 
 -- SYMBOL: s, and in the next line s, which is found there
@@ -123,7 +123,7 @@ symbol_texts : List (List ℕ × Source)
 symbol_texts = (codes "SYMBOL: s", tree (Row Symbol (at 1) (part.Name (spelled (codes "s") 2) ∷ []) ∷ [])) ∷ (codes "s", items (named (codes "s") 1 ∷ [])) ∷ []
 
 symbol_is_found : (hears symbol_texts (codes "SYMBOL: s" ∷ codes "s" ∷ [])).output ≡ codes "--- Data stack:\ns\n"
-unfolding symbol_texts known_words known_classes built_primitive_words found prim_numbered prim_fn operation_does line_within
+unfolding symbol_texts known_words known_classes built_primitive_words found prim_numbered prim_fn operation_does line_within digits
 symbol_is_found = refl
 
 -- readln, which takes the line behind it
@@ -131,7 +131,7 @@ taking_texts : List (List ℕ × Source)
 taking_texts = (codes "readln", items (named (codes "readln") 1 ∷ [])) ∷ []
 
 next_line_is_taken : hears taking_texts (codes "readln" ∷ codes "foo" ∷ []) ≡ record { status = 0; ticks = 1; refusal = None; output = codes "--- Data stack:\n\"foo\"\n"; told = [] }
-unfolding taking_texts known_words known_classes built_primitive_words found prim_numbered prim_fn operation_does line_within
+unfolding taking_texts known_words known_classes built_primitive_words found prim_numbered prim_fn operation_does line_within digits is_utf8 chars encode
 next_line_is_taken = refl
 
 -- { 7 } in one line, and then 8 0 pick set-nth, which changes it, and 1 throw, behind which the change stands
@@ -143,7 +143,7 @@ changing_texts =
     ∷ []
 
 change_stays : (hears changing_texts (codes "{ 7 }" ∷ codes "dup 8 0 rot set-nth 1 throw" ∷ codes "dup drop" ∷ [])).output ≡ codes "--- Data stack:\n{ 7 }\n--- Data stack:\n{ 8 }\n"
-unfolding changing_texts known_words known_classes built_primitive_words found prim_numbered prim_fn operation_does line_within
+unfolding changing_texts known_words known_classes built_primitive_words found prim_numbered prim_fn operation_does line_within digits
 change_stays = refl
 
 -- on an empty stack + is refused, and behind 1 2 it isn't
@@ -151,5 +151,5 @@ starting_texts : List (List ℕ × Source)
 starting_texts = (codes "+", items (named (codes "+") 1 ∷ [])) ∷ (codes "1 2", items (number 1 1 ∷ number 2 2 ∷ [])) ∷ []
 
 starts_from_the_stack : notes_of (hears starting_texts (codes "+" ∷ codes "1 2" ∷ codes "+" ∷ [])) ≡ codes "check: top-level, listener token 1: underflow, needs 2, has 0\n"
-unfolding starting_texts known_words known_classes built_primitive_words found prim_numbered prim_fn operation_does line_within
+unfolding starting_texts known_words known_classes built_primitive_words found prim_numbered prim_fn operation_does line_within digits
 starts_from_the_stack = refl

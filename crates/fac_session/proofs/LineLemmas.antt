@@ -1,5 +1,5 @@
 -- What lines keep.
-use Rattle.std.proofs.Common.{◌≡◌, ℕ, List, [], ◌∷◌, refl}
+use Rattle.std.proofs.Common.{ℕ, List, length, refl}
 use Rattle.fac_base.specs.declared.limits.TheConstants.{TICKS}
 use Rattle.fac_lang.specs.Phrases.{Phrase, end, then}
 use Rattle.fac_lang.specs.Eval.{Result as Run, Done, Failed, Spent, Stuck}
@@ -28,4 +28,4 @@ text_keeps s text input (refuses r) = record { session = refl; output = refl; le
 text_keeps s text input (goes_on k) = phrase_keeps s text input k _
 
 pub lines_keep : LinesKeepWhatStands
-lines_keep source s bytes input = text_keeps s (behind_waiting s.waiting bytes) input _
+lines_keep source s bytes input = text_keeps s (behind_waiting s.waiting bytes) input (meant s.known (length s.stack) (source (behind_waiting s.waiting bytes)))

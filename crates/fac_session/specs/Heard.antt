@@ -2,15 +2,15 @@
 use Rattle.std.specs.Prelude.{ℕ, zero, suc, ◌+◌, ◌-◌, ◌^◌, min, List, [], ◌∷◌, ◌++◌, length, map, Option, Some, None, Result, Ok, Err, codes}
 use Rattle.std.specs.List.{concat}
 use Rattle.fac_base.specs.declared.limits.TheConstants.{MOST_LINE_BYTES}
-use Rattle.fac_lines.specs.LineReads.{LineRead, NoLine, Line, LineTooLong, line_of}
+use Rattle.fac_lines.specs.LineReads.{NoLine, Line, LineTooLong, line_of}
 use Rattle.fac_notes.specs.declared.report.Report.{Report}
 use Rattle.fac_notes.specs.declared.report.Report.TheVariants as report
 use Rattle.fac_notes.specs.declared.status.TheConstants.{SUCCESS, SYNTAX_REFUSED}
 use Rattle.fac_notes.specs.Notes.{line_of as note_of}
-use Rattle.fac_notes.specs.Sources.{Source, no_tokens, no_tree, tree}
+use Rattle.fac_notes.specs.Sources.{Source, no_tree}
 use Rattle.fac_notes.specs.Statuses.{status_of}
 use Rattle.fac_session.specs.Sessions.{Session, session_of}
-use Rattle.fac_session.specs.SessionLines.{Said, more, defined, ran, refused, failed, spent, Behind, line}
+use Rattle.fac_session.specs.SessionLines.{Said, ran, refused, failed, spent, Behind, line}
 
 -- a status with the ticks and the refusal with which the session ends, what is written, and the reports that are told before the end
 pub record Heard : Type 0 where

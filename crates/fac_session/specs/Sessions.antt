@@ -1,7 +1,7 @@
 -- A session: what stands between two lines, and what a text comes to behind it.
-use Rattle.std.specs.Prelude.{ℕ, List, [], ◌∷◌, length, map, Option, Some, None, Result, Ok, Err, true, false}
+use Rattle.std.specs.Prelude.{ℕ, List, [], ◌∷◌, map, Option, Some, None, Result, Ok, Err, true, false}
 use Rattle.fac_lang.specs.Phrases.{Value}
-use Rattle.fac_lang.specs.World.{Object, World}
+use Rattle.fac_lang.specs.World.{Object}
 use Rattle.fac_lang.specs.Meaning.{with_arrays}
 use Rattle.fac_source.specs.declared.tree.Form.{Form}
 use Rattle.fac_source.specs.declared.refusal.NameFault.{NameFault}
