@@ -14,7 +14,7 @@ the language is compared with a model of that part. By default it is what model.
 wanted.
 
 Some cases are run with a small budget too. A program that takes more ticks than the model is given is run with that budget, or is
-left out and counted where commands have no budget. Answers that tell of sinks that fail, or of memory, aren't compared.
+left out and counted where commands have no budget, as `listen`. Answers that tell of sinks that fail, or of memory, aren't compared.
 
 The script prints how many cases of each kind were compared, and which answers and which statuses were met how often. It ends with
 status 1 where an example or a case is answered otherwise than the model does, or where a run takes too long or is ended by a signal.
@@ -40,9 +40,10 @@ from input_kinds import INPUT_KINDS
 from kinds import KINDS, Case, happens, run_of
 from local_kinds import LOCAL_KINDS
 from loop_kinds import LOOP_KINDS
+from session_kinds import SESSION_KINDS
 from store_kinds import STORE_KINDS
 
-ALL_KINDS = KINDS + CLASS_KINDS + LOCAL_KINDS + CALL_KINDS + INPUT_KINDS + STORE_KINDS + LOOP_KINDS
+ALL_KINDS = KINDS + CLASS_KINDS + LOCAL_KINDS + CALL_KINDS + INPUT_KINDS + STORE_KINDS + LOOP_KINDS + SESSION_KINDS
 
 # The most ticks that the model takes for a program.
 MOST_TICKS = 200_000
@@ -147,7 +148,7 @@ class Comparison:
         command = model.read_words(case.words)
         budgets = "--steps" in model.BUILT
         if answer.status == model.SPENT and command.budget > MOST_TICKS:
-            if not budgets:
+            if not budgets or command.name == "listen":
                 tally.left_out += 1
                 return
             case = with_budget(case, command, MOST_TICKS)

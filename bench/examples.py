@@ -1783,6 +1783,72 @@ EXAMPLES_OF_INPUT = [
     (": w ( -- ) readln ; w", b"", 5, 0, "", "check: scratchpad:w, a token 13: outputs, declared 0, found 1\n"),
 ]
 
+# The lines of a session, and the status, the ticks, the output and the notes.
+STACK = "--- Data stack:\n"
+EXAMPLES_OF_SESSIONS = [
+    (
+        ["1 2 +", "0 /i", "dup *", ": s ( x -- y ) dup * ;", "[ 1", "2 ] call + +", "foo"], 0, 13,
+        f"{STACK}3\n{STACK}9\n{STACK}12\n", "error: zero-divisor in math:/i\nname: listener token 1: unknown foo\n",
+    ),
+    (
+        ["USE: nowhere", '"a" print "b" throw', "1 [ drop ] call"], 0, 8, "a\n",
+        'name: listener token 2: no-vocabulary nowhere\nerror: thrown in kernel:throw: "b"\n',
+    ),
+    ([], 0, 0, "", ""),
+    (["", " ", "! 1", "2 ! 3"], 0, 1, f"{STACK}2\n", ""),
+    # texts over several lines
+    (["[ 1"], 3, 0, "", "syntax: listener token 3: end of the file\n"),
+    ([": w ( -- x )", "", "3", "! 4", ";", "w"], 0, 2, f"{STACK}3\n", ""),
+    (["[ 1", '"', "2"], 0, 1, f"{STACK}2\n", "syntax: listener byte 4: open string\n"),
+    (["[ foo", "foo ] 1"], 0, 0, "", "name: listener token 2: unknown foo\n"),
+    (["[ 1", "}"], 0, 0, "", "syntax: listener token 3: not expected\n"),
+    # what is refused leaves all as it was
+    ([": k ( -- x ) 9 ; foo", "k"], 0, 0, "", "name: listener token 9: unknown foo\nname: listener token 1: unknown k\n"),
+    (
+        [": w ( -- ) 1 ;", ": w ( -- x ) 1 ;", "w"], 0, 2, f"{STACK}1\n",
+        "check: scratchpad:w, listener token 2: outputs, declared 0, found 1\n",
+    ),
+    (["IN: a : k ( -- x ) 9 ; +", "IN: b", "USE: a"], 0, 0, "", (
+        "check: top-level, listener token 11: underflow, needs 2, has 0\nname: listener token 2: no-vocabulary a\n"
+    )),
+    (["DEFER: b", "b"], 0, 0, "", "name: listener token 2: undefined b\nname: listener token 1: unknown b\n"),
+    # and what fails leaves its definitions, and what became of objects
+    ([": k ( -- x ) 9 ; 1 0 0 /i", "k"], 0, 6, f"{STACK}9\n", "error: zero-divisor in math:/i\n"),
+    (["CONSTANT: c { 0 }", "7 0 c set-nth 0 0 /i", "c first ."], 0, 15, "7\n", "error: zero-divisor in math:/i\n"),
+    (["{ 0 }", "dup 7 0 rot set-nth 5 throw", "dup drop"], 0, 10, f"{STACK}{{ 0 }}\n{STACK}{{ 7 }}\n", "error: thrown in kernel:throw: 5\n"),
+    # the check starts from the stack that stands
+    (
+        ["+", "1 2", "+", "+"], 0, 3, f"{STACK}1\n2\n{STACK}3\n",
+        "check: top-level, listener token 1: underflow, needs 2, has 0\ncheck: top-level, listener token 1: underflow, needs 2, has 1\n",
+    ),
+    (
+        ["[ 1 + ] [ 2 * ]", "compose", "5 swap call", "5 swap call( x -- y )"], 0, 11,
+        f"{STACK}[ ... ]\n[ ... ]\n{STACK}[ ... ]\n{STACK}12\n", "check: top-level, listener token 3: not-known\n",
+    ),
+    # lines that a phrase takes, and the end of the input
+    (["readln", "foo", "print"], 0, 2, f'{STACK}"foo"\nfoo\n', ""),
+    (["readln"], 0, 1, f"{STACK}f\n", ""),
+    (["readln readln 0 0 /i", "1 2", "3", "4"], 0, 6, f"{STACK}4\n", "error: zero-divisor in math:/i\n"),
+    # scopes go on
+    (["IN: a : k ( -- x ) 1 ;", "IN: b", "k", "USE: a k"], 0, 2, f"{STACK}1\n", "name: listener token 1: unknown k\n"),
+    ([": s ( -- ) ;", ": s ( -- ) ;", "IN: again : s ( -- x ) 1 ;", "s"], 0, 2, f"{STACK}1\n", "name: listener token 2: twice s\n"),
+    (["<PRIVATE", ": h ( -- x ) 1 ;", "h", "PRIVATE> IN: a", "h"], 0, 2, f"{STACK}1\n", "name: listener token 1: unknown h\n"),
+    (["QUALIFIED-WITH: math m", "1 2 m:+"], 0, 3, f"{STACK}3\n", ""),
+    ([": m ( -- ) 1 drop ; MAIN: m", "m"], 0, 3, "", ""),
+    # old words call new methods
+    (
+        [
+            "TUPLE: p x ;", "GENERIC: g ( a -- b )", "M: p g drop 1 ;", "3 p boa g", "M: object g drop 2 ;", "5 g", ": w ( -- x ) 7 g ;",
+            "M: integer g ;", "w", "M: p g ;", "w",
+        ],
+        0, 16, f"{STACK}1\n{STACK}1\n2\n{STACK}1\n2\n7\n{STACK}1\n2\n7\n7\n", "name: listener token 3: twice g\n",
+    ),
+    (
+        ["GENERIC: g ( a -- b )", "M: tuple g drop 1 ;", "TUPLE: q ;", "q new g", "SINGLETON: s", "M: word g drop 2 ;", "s g", "M: s g drop 3 ;", "s g"],
+        0, 13, f"{STACK}1\n{STACK}1\n2\n{STACK}1\n2\n3\n", "",
+    ),
+]
+
 
 def all_examples():
     """Every example: words, files by their names, the input, and the status, ticks, output and note that are wanted. Of few the ticks
@@ -1815,6 +1881,8 @@ def all_examples():
         yield words.split(" ") if words else [], {name: text.encode() for name, text in files.items()}, b"", wanted
     for text, given, *wanted in EXAMPLES_OF_INPUT:
         yield ["run", "a"], {"a": f"{H} {text}".encode()}, given, wanted
+    for lines, *wanted in EXAMPLES_OF_SESSIONS:
+        yield ["listen"], {}, "\n".join(lines).encode(), wanted
 
 
 def wrong_examples():

@@ -2,3 +2,5 @@ pub mod Statuses
 pub mod WordNames
 pub mod NoteRows
 pub mod Notes
+pub mod Sources
+pub mod Told

@@ -24,7 +24,8 @@ use Rattle.fac_notes.specs.declared.report.Report.{Report}
 use Rattle.fac_notes.specs.declared.report.Report.TheVariants as report
 use Rattle.fac_notes.specs.WordNames.{defined_or, defined_as, name_in, image_word_name}
 use Rattle.fac_tool.specs.declared.ended.Ended.{Ended}
-use Rattle.fac_tool.specs.Answer.{Answer, meaning, of_run, run_answer, shown, error_report}
+use Rattle.fac_notes.specs.Told.{shown, error_report}
+use Rattle.fac_tool.specs.Answer.{Answer, meaning, of_run, run_answer}
 use Rattle.fac_tool.specs.SeenObjects.{SinkSeen, InputSeen}
 use Rattle.fac_tool.specs.Ends.{Ending, Told, Usage, FileFault, InputFault, WriteFault, TooLong, NoMemory, ending_of, Matches, EndsBy, EndsAs, runs, StopsWithin}
 use Rattle.fac_tool.specs.Executed.{fresh_held, image_shown, of_end, ExecutesWithin, ExecutesBy, Executes}

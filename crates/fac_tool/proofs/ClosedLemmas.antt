@@ -31,7 +31,7 @@ use Rattle.fac_emit.specs.CarriedPrograms.{AgreesEach, StandsForEach}
 use Rattle.fac_expand.specs.Expands.{Expands}
 use Rattle.fac_expand.proofs.ExpandedTables.{agrees_too}
 use Rattle.fac_notes.specs.WordNames.{bare_word, method_name, name_as, name_or}
-use Rattle.fac_tool.specs.Refusals.{refusal_of}
+use Rattle.fac_notes.specs.Told.{refusal_of}
 use Rattle.fac_tool.specs.inner.ImageSteps.{AreEffectsIfAsked}
 use Rattle.fac_tool.specs.inner.Stops.{SameNames, Carried, StandsFor, StandsForSafe}
 

@@ -23,7 +23,7 @@ use Rattle.fac_store.specs.declared.value.Value.{Value as MachineValue}
 use Rattle.fac_vm.specs.SeenMachine.{MachineSeen, stack_in}
 use Rattle.fac_carry.specs.MachineView.{template_phrases, value_view, values_view, world_view}
 use Rattle.fac_carry.specs.PrintedForms.{PrintedFormsAreEqual}
-use Rattle.fac_tool.specs.Answer.{shown, shown_text}
+use Rattle.fac_notes.specs.Told.{shown, shown_text}
 use Rattle.fac_tool.specs.inner.Stops.{machine_text, IsTextOf, AreTextsOf, AreStackTexts}
 
 -- a printed form as it is told

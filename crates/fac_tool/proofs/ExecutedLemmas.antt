@@ -25,7 +25,7 @@ use Rattle.fac_notes.specs.declared.report.Report.TheVariants as report
 use Rattle.fac_notes.specs.WordNames.{image_word_name}
 use Rattle.fac_tool.specs.declared.ended.Ended.{Ended}
 use Rattle.fac_tool.specs.SeenObjects.{SinkSeen, InputSeen, OnInput}
-use Rattle.fac_tool.specs.Answer.{shown_text}
+use Rattle.fac_notes.specs.Told.{shown_text}
 use Rattle.fac_tool.specs.Executed.{fresh_held, image_shown, ExecutesWithin}
 use Rattle.fac_tool.specs.inner.StepEnds.{bare, reported}
 use Rattle.fac_tool.specs.inner.Stops.{IsFresh, AreStackTexts, IsTextOf}

@@ -12,7 +12,8 @@ use Rattle.fac_lang.specs.Eval.{Result as Run, Done, Failed, Spent, Stuck}
 use Rattle.fac_lines.specs.Channels.{ChannelsTold, CountsStand, IsUnread as AreUnread}
 use Rattle.fac_locals.specs.declared.closing.Closed.{Closed}
 use Rattle.fac_tool.specs.declared.ended.Ended.{Ended}
-use Rattle.fac_tool.specs.Answer.{Answer, meaning, of_run, run_answer, stack_answer, shown, stack_lines, lines_if, with_lines}
+use Rattle.fac_notes.specs.Told.{shown, stack_lines}
+use Rattle.fac_tool.specs.Answer.{Answer, meaning, of_run, run_answer, stack_answer, lines_if, with_lines}
 use Rattle.fac_tool.specs.SeenObjects.{SinkSeen, InputSeen, OnInput, input_seen, output_seen}
 use Rattle.fac_tool.specs.Answers.{NotePart}
 use Rattle.fac_tool.specs.Ends.{Ending, Told, Usage, FileFault, InputFault, WriteFault, TooLong, NoMemory, ending_of, EndsBy, EndsAs, Matches, runs, runs_and_lists, StopsWithin, RunPieces, FaultBehindRun, EndsOn}

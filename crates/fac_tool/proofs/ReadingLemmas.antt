@@ -18,7 +18,8 @@ use Rattle.fac_notes.specs.declared.report.ByteFault.{ByteFault}
 use Rattle.fac_notes.specs.declared.report.ByteFault.TheVariants as byte
 use Rattle.fac_notes.specs.declared.report.Report.TheVariants as report
 use Rattle.fac_tool.specs.declared.ended.Ended.{Ended}
-use Rattle.fac_tool.specs.Answer.{Source, no_tokens, no_tree, tree, Sources, together, come_to, answer_on, is_definition, definitions_in}
+use Rattle.fac_notes.specs.Sources.{Source, no_tokens, no_tree, tree}
+use Rattle.fac_tool.specs.Answer.{Sources, together, come_to, answer_on, is_definition, definitions_in}
 use Rattle.fac_tool.specs.Sources.{token_fault, IsReadAs, AreReadAs, EverySource}
 use Rattle.fac_tool.specs.inner.StepEnds.{bare, reported, fault_ending, tree_ending, EndsEarly, EndsFile, ReadSoFar, EndsRead}
 use Rattle.fac_tool.specs.inner.FormsTaken.{LastGrows, FileAdds, TakesSome, FileTaken, TakesFile, TextsTaken}

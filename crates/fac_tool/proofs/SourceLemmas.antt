@@ -20,7 +20,8 @@ use Rattle.fac_check.specs.Promises.{IsSafe, AcceptedAreSafe}
 use Rattle.fac_prelude.specs.PreludeText.{prelude_text}
 use Rattle.fac_notes.specs.declared.report.ByteFault.{ByteFault}
 use Rattle.fac_notes.specs.declared.report.ByteFault.TheVariants as byte
-use Rattle.fac_tool.specs.Answer.{Source, no_tokens, no_tree, tree, Sources, no_tokens_in, no_tree_in, trees, together, come_to, if_accepted, accepted_of, accepted}
+use Rattle.fac_notes.specs.Sources.{Source, no_tokens, no_tree, tree}
+use Rattle.fac_tool.specs.Answer.{Sources, no_tokens_in, no_tree_in, trees, together, come_to, if_accepted, accepted_of, accepted}
 use Rattle.fac_tool.specs.Sources.{token_fault, IsParsedAs, IsReadAs, AreReadAs, AreReadWithPrelude}
 use Rattle.fac_tool.specs.inner.StepEnds.{AreTrees}
 

@@ -1,18 +1,14 @@
 -- What a command answers, as a function of what its files come to and of its input.
-use Rattle.std.specs.Prelude.{ℕ, ◌+◌, ◌-◌, Bool, true, false, List, [], ◌∷◌, ◌++◌, drop, length, map, reverse, None, Some, codes, decimal, nat_le, Result, Ok, Err, if◌then◌else◌}
-use Rattle.std.specs.List.{concat, count_by, sum_by}
+use Rattle.std.specs.Prelude.{ℕ, ◌+◌, ◌-◌, Bool, true, false, List, [], ◌∷◌, ◌++◌, drop, map, reverse, None, Some, codes, decimal, Result, Ok, Err}
+use Rattle.std.specs.List.{count_by, sum_by}
 use Rattle.std.specs.declared.option.Option.{Option}
-use Rattle.std.specs.Option.{option_map}
-use Rattle.fac_base.specs.declared.limits.TheConstants.{MOST_SOURCE_BYTES, MOST_SHOWN_BYTES}
+use Rattle.fac_base.specs.declared.limits.TheConstants.{MOST_SOURCE_BYTES}
 use Rattle.fac_lang.specs.declared.program.Program.{Program}
 use Rattle.fac_source.specs.declared.tree.Form.{Form}
 use Rattle.fac_source.specs.declared.tree.Form.TheVariants as form
 use Rattle.fac_source.specs.FormRows.{gives_phrase}
-use Rattle.fac_lang.specs.Phrases.{Value}
-use Rattle.fac_lang.specs.World.{World, Error}
-use Rattle.fac_lang.specs.Printed.{printed}
 use Rattle.fac_lang.specs.Eval.{Result as Run, Done, Failed, Spent, Stuck}
-use Rattle.fac_lang.specs.Meaning.{meaning_values, names, run, start, word_phrase}
+use Rattle.fac_lang.specs.Meaning.{run, start, word_phrase}
 use Rattle.fac_parse.specs.declared.reader.Why.{Why}
 use Rattle.fac_source.specs.declared.refusal.NameFault.{NameFault}
 use Rattle.fac_names.specs.Resolution.{resolved}
@@ -25,18 +21,13 @@ use Rattle.fac_notes.specs.declared.report.ByteFault.{ByteFault}
 use Rattle.fac_notes.specs.declared.report.Report.{Report}
 use Rattle.fac_notes.specs.declared.report.Report.TheVariants as report
 use Rattle.fac_notes.specs.Statuses.{status_of}
-use Rattle.fac_notes.specs.WordNames.{defined_as, word_name, name_text}
-use Rattle.fac_tool.specs.Refusals.{refusal_of}
+use Rattle.fac_notes.specs.WordNames.{word_name, name_text}
+use Rattle.fac_notes.specs.Sources.{Source, no_tokens, no_tree, tree}
+use Rattle.fac_notes.specs.Told.{shown, error_report, stack_lines, refusal_of}
 
 -- the most bytes of the files of a command together; those of the prelude don't count
 abbrev pub limit : ℕ
 limit = MOST_SOURCE_BYTES
-
--- what a file comes to: a fault of its tokens at a byte, a refusal at a token, or the forms of its tree
-pub data Source : Type 0 where
-  no_tokens : ℕ → ByteFault → Source
-  no_tree : ℕ → Why → Source
-  tree : List Form → Source
 
 -- what the prelude and the files of a command come to: a fault of the tokens of the file with a number, at a byte; a refusal of that file, at a
 -- token; or the forms of each file
@@ -73,17 +64,6 @@ refused why input = record { status = status_of why; ticks = 0; stack = None; re
 abbrev pub meaning : Program → List ℕ → ℕ → Run
 meaning P input n = run P fits (callable_height P) n (word_phrase P P.top) (start P input)
 
--- a printed form, or three dots where it has more than 1,000 bytes
-abbrev pub shown_text : List ℕ → List ℕ
-shown_text text = (if nat_le (length text) MOST_SHOWN_BYTES then text else codes "...")
-
-abbrev pub shown : Program → World Value → Value → List ℕ
-shown P w v = shown_text (printed meaning_values (names P) w v)
-
--- No run error is that of a method, so a word has the name here under which it is defined.
-abbrev pub error_report : Program → World Value → Error Value → Report
-error_report P w e = report.Error e.name (defined_as P e.word) (option_map (shown P w) e.value)
-
 -- the answer of a run with this budget; an accepted program is never stuck
 abbrev pub of_run : Program → ℕ → Run → Answer
 of_run P budget (Done st more) = record { status = SUCCESS; ticks = budget - more; stack = Some (map (shown P st.world) (reverse st.stack)); refusal = None; output = st.world.output; left = st.world.input }
@@ -94,10 +74,6 @@ of_run P budget Stuck = record { status = BAD_IMAGE; ticks = 0; stack = None; re
 -- the answer of a program's run on this input with this budget
 abbrev pub run_answer : Program → List ℕ → ℕ → Answer
 run_answer P input budget = of_run P budget (meaning P input budget)
-
--- texts as lines, one behind the other
-abbrev pub stack_lines : List (List ℕ) → List ℕ
-stack_lines texts = concat (map (λ text. text ++ codes "\n") texts)
 
 -- those of the stack that an answer has
 abbrev pub lines_if : Option (List (List ℕ)) → List ℕ

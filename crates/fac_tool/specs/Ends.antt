@@ -11,7 +11,8 @@ use Rattle.fac_lang.specs.Eval.{Result as Run, Done, Failed, Spent, Stuck}
 use Rattle.fac_vm.specs.Runs.{GrowsBeyond}
 use Rattle.fac_notes.specs.declared.status.TheConstants.{NO_COMMAND, FILE_FAULT, INPUT_FAULT, WRITE_FAULT, TOO_LONG, NO_MEMORY}
 use Rattle.fac_tool.specs.declared.ended.Ended.{Ended}
-use Rattle.fac_tool.specs.Answer.{Answer, meaning, shown, stack_lines, lines_if}
+use Rattle.fac_notes.specs.Told.{shown, stack_lines}
+use Rattle.fac_tool.specs.Answer.{Answer, meaning, lines_if}
 use Rattle.fac_tool.specs.SeenObjects.{SinkSeen, InputSeen, IsUnread}
 
 -- the kinds of statuses: an answer of the definition, or one that the outside or want of memory brings

@@ -19,7 +19,8 @@ use Rattle.fac_notes.specs.declared.status.TheConstants.{SUCCESS, RUN_ERROR, BUD
 use Rattle.fac_notes.specs.declared.report.Report.TheVariants as report
 use Rattle.fac_notes.specs.WordNames.{image_word_name}
 use Rattle.fac_tool.specs.declared.ended.Ended.{Ended}
-use Rattle.fac_tool.specs.Answer.{Answer, shown_text}
+use Rattle.fac_notes.specs.Told.{shown_text}
+use Rattle.fac_tool.specs.Answer.{Answer}
 use Rattle.fac_tool.specs.SeenObjects.{SinkSeen, InputSeen, OnInput, IsUnread}
 use Rattle.fac_tool.specs.Ends.{Ending, Told, WriteFault, InputFault, NoMemory, ending_of, IsBare, Matches, idle, EndsOn}
 

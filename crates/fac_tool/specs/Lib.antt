@@ -1,5 +1,4 @@
 pub mod SeenObjects
-pub mod Refusals
 pub mod Answer
 pub mod Sources
 pub mod ToldNotes

@@ -17,7 +17,8 @@ use Rattle.fac_notes.specs.declared.status.TheConstants.{NO_MEMORY}
 use Rattle.fac_command.specs.Command.{Command}
 use Rattle.fac_command.specs.Command as command
 use Rattle.fac_tool.specs.declared.ended.Ended.{Ended}
-use Rattle.fac_tool.specs.Answer.{Source, Sources, Answer, OnAccepted, answer_on, checked_answer, run_answer, stack_answer, come_to, limit, accepted}
+use Rattle.fac_notes.specs.Sources.{Source}
+use Rattle.fac_tool.specs.Answer.{Sources, Answer, OnAccepted, answer_on, checked_answer, run_answer, stack_answer, come_to, limit, accepted}
 use Rattle.fac_tool.specs.Sources.{AreReadWithPrelude}
 use Rattle.fac_tool.specs.SeenObjects.{SinkSeen, FilesSeen, InputSeen, OnInput, IsUnread}
 use Rattle.fac_tool.specs.Ends.{EndsOn, Work, idle, runs, runs_and_lists, work_of}

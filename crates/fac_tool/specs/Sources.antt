@@ -8,7 +8,7 @@ use Rattle.fac_parse.specs.Trees.{Reads, Misses}
 use Rattle.fac_prelude.specs.PreludeText.{prelude_text}
 use Rattle.fac_notes.specs.declared.report.ByteFault.{ByteFault}
 use Rattle.fac_notes.specs.declared.report.ByteFault.TheVariants as byte
-use Rattle.fac_tool.specs.Answer.{Source, no_tokens, no_tree, tree}
+use Rattle.fac_notes.specs.Sources.{Source, no_tokens, no_tree, tree}
 
 abbrev pub token_fault : ℕ → ByteFault → TokenFault
 token_fault at byte.NotUtf8 = token.NotUtf8 at

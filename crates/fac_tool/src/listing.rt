@@ -1,7 +1,7 @@
 //! The lines of a stack, which are written behind a run that is done.
 ghost use Rattle.std.specs.Prelude.{◌≡◌, ◌<◌, ◌++◌, codes, length, string_bytes, IfOk, OnErr, OnOk};
 ghost use Rattle.fac_lines.specs.Channels.{CountsStand, IsUnread, TakesPiece};
-ghost use Rattle.fac_tool.specs.Answer.{stack_lines};
+ghost use Rattle.fac_notes.specs.Told.{stack_lines};
 ghost use Rattle.fac_tool.specs.SeenObjects.{output_seen};
 ghost use Rattle.fac_tool.specs.Answers.{TellsBy};
 ghost use Rattle.fac_tool.specs.inner.ListedStacks.{ListsStack};

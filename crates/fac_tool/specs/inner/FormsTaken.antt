@@ -14,7 +14,8 @@ use Rattle.fac_names.specs.TakenForms.{HasTaken}
 use Rattle.fac_names.specs.Resolution.{resolved}
 use Rattle.fac_tool.specs.declared.ended.Ended.{Ended}
 use Rattle.fac_tool.specs.declared.accepting.NamedProgram.{NamedProgram}
-use Rattle.fac_tool.specs.Answer.{tree, is_definition, own_definitions}
+use Rattle.fac_notes.specs.Sources.{tree}
+use Rattle.fac_tool.specs.Answer.{is_definition, own_definitions}
 use Rattle.fac_tool.specs.Sources.{IsReadAs}
 use Rattle.fac_tool.specs.inner.StepEnds.{EndsFile, EndsRead, AreTrees}
 

@@ -3,7 +3,7 @@ use Rattle.std.specs.Prelude.{◌≡◌, ◌⊎◌, List, ℕ, None, Some}
 use Rattle.std.specs.declared.option.Option.{Option}
 use Rattle.fac_notes.specs.declared.status.TheConstants.{NO_MEMORY}
 use Rattle.fac_tool.specs.declared.ended.Ended.{Ended}
-use Rattle.fac_tool.specs.Answer.{stack_lines}
+use Rattle.fac_notes.specs.Told.{stack_lines}
 use Rattle.fac_tool.specs.SeenObjects.{SinkSeen}
 use Rattle.fac_tool.specs.Answers.{TellsBy}
 use Rattle.fac_tool.specs.inner.StepEnds.{bare, still}

@@ -17,7 +17,8 @@ use Rattle.fac_tool.specs.declared.ended.Ended.{Ended}
 use Rattle.fac_tool.specs.declared.accepting.Accepted.{Accepted}
 use Rattle.fac_lines.specs.Channels.{ChannelsTold}
 use Rattle.fac_locals.specs.declared.closing.Closed.{Closed}
-use Rattle.fac_tool.specs.Answer.{Answer, OnAccepted, Source, trees, together, come_to, answer_on, limit, own_definitions, run_answer}
+use Rattle.fac_notes.specs.Sources.{Source}
+use Rattle.fac_tool.specs.Answer.{Answer, OnAccepted, trees, together, come_to, answer_on, limit, own_definitions, run_answer}
 use Rattle.fac_tool.specs.Sources.{IsReadAs, AreReadWithPrelude}
 use Rattle.fac_io.specs.declared.files.Asked.TheVariants.{Load}
 use Rattle.fac_io.specs.Faults.{Rose}

@@ -18,7 +18,8 @@ use Rattle.fac_machine.specs.Machine.{Machine, starting, first_world}
 use Rattle.fac_vm.specs.SeenMachine.{MachineSeen, stack_in}
 use Rattle.fac_carry.specs.Carries.{Carries}
 use Rattle.fac_notes.specs.WordNames.{word_name}
-use Rattle.fac_tool.specs.Answer.{meaning, shown_text}
+use Rattle.fac_notes.specs.Told.{shown_text}
+use Rattle.fac_tool.specs.Answer.{meaning}
 
 -- the program for which a closed one stands
 pub record StandsFor (closed : Closed) (P : Program) : Type 0 where

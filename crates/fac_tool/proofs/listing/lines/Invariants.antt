@@ -1,6 +1,6 @@
 use Rattle.std.proofs.Common.{◌≡◌, ◌++◌, drop}
 use Rattle.std.specs.Prelude.{string_bytes}
-use Rattle.fac_tool.specs.Answer.{stack_lines}
+use Rattle.fac_notes.specs.Told.{stack_lines}
 use Rattle.fac_tool.proofs.listing.lines.Given as goal
 
 abbrev pub invariant-loop-text : goal.invariant-loop-text

@@ -1,0 +1,4 @@
+pub mod Sessions
+pub mod SessionLines
+pub mod Heard
+pub mod Laws
