@@ -1,10 +1,11 @@
 #!/usr/bin/env python3
-"""Measures how much memory programs take that make values all the time and drop them, and tests that it follows what is alive.
+"""Measures how much memory programs take that make values all the time and drop them, and tests that it follows what is alive; and how much images
+with many texts take, which stand once.
 
     python3 bench/memory.py [--small] [PROGRAM]
 
 PROGRAM is the built program, by default crates/factorc/out/factorc. Each row runs a program and tells the greatest memory that the process
-had, by /proc, beside the most that it may have. With `--small` each row has a tenth of the turns. The script ends with status 1 where a
+had, by /proc, beside the most that it may have. The images are made by `build` and run by `exec`. With `--small` each row has a tenth of the turns. The script ends with status 1 where a
 program answers wrongly or takes more than it may.
 """
 import os
@@ -74,6 +75,22 @@ def rows():
     yield "a chain of callables that is called and dropped", f"0 {turns(1_000_000)} [ [ 1 + ] [ 2 + ] compose [ 3 + ] compose call ] times .", b"", f"{turns(1_000_000) * 6}\n", 10 * MIB
 
 
+def strings(count, size):
+    """A program with so many strings of so many characters, no two of them alike, in words of a thousand; then it turns for a while."""
+    parts = [f'"{number:07}{"x" * (size - 7)}" drop' for number in range(count)]
+    words = [parts[first : first + 1000] for first in range(0, count, 1000)]
+    defined = "\n".join(f": w{number} ( -- ) {' '.join(word)} ;" for number, word in enumerate(words))
+    return f"{defined}\n{' '.join(f'w{number}' for number in range(len(words)))} 5,000,000 [ ] times {count} ."
+
+
+def images():
+    """The same of images, none of which reads."""
+    # (in bytes: a text in the image 32, of 40 characters 48 more, and two instructions with what was loaded of them 96)
+    many, few = turns(270_000), turns(87_000)
+    yield "texts of 7 characters in an image", strings(many, 7), f"{many}\n", 5 * MIB + 140 * many
+    yield "texts of 40 characters in an image", strings(few, 40), f"{few}\n", 5 * MIB + 190 * few
+
+
 def peak_of(child):
     """The greatest memory of a process so far, in bytes, or 0 where it has ended."""
     try:
@@ -84,13 +101,16 @@ def peak_of(child):
     return int(found[1]) << 10 if found else 0
 
 
-def run(folder, text, given):
-    """Runs a program, and gives its status, its output and its greatest memory."""
-    source, lines, written = folder / "a.factor", folder / "input", folder / "output"
+def run(folder, text, given, is_image):
+    """Runs a program or its image, and gives its status, its output and its greatest memory."""
+    source, image, lines, written = folder / "a.factor", folder / "image", folder / "input", folder / "output"
     source.write_text(USING + text + "\n", encoding="utf-8")
     lines.write_bytes(given)
+    if is_image:
+        subprocess.run([PROGRAM, "build", str(source), "-o", str(image)], check=True)
+    command = ["exec", "--steps", "1000000000000", str(image)] if is_image else ["run", "--steps", "1000000000000", str(source)]
     with open(lines, "rb") as stdin, open(written, "wb") as stdout:
-        child = subprocess.Popen([PROGRAM, "run", "--steps", "1000000000000", str(source)], stdin=stdin, stdout=stdout)
+        child = subprocess.Popen([PROGRAM, *command], stdin=stdin, stdout=stdout)
         peak = 0
         while child.poll() is None:
             peak = max(peak, peak_of(child))
@@ -102,9 +122,11 @@ def main():
     failed = 0
     with tempfile.TemporaryDirectory() as name:
         folder = pathlib.Path(name)
-        for shows, text, given, wanted, most in rows():
+        programs = [(shows, text, given, wanted, most, False) for shows, text, given, wanted, most in rows()]
+        programs += [(shows, text, b"", wanted, most, True) for shows, text, wanted, most in images()]
+        for shows, text, given, wanted, most, is_image in programs:
             began = os.times()
-            status, output, peak = run(folder, text, given)
+            status, output, peak = run(folder, text, given, is_image)
             ended = os.times()
             seconds = ended.children_user - began.children_user
             right = status == 0 and output == wanted

@@ -121,7 +121,7 @@ fn count_first(alloc: Global, image: &Image, count: &mut u64) -> Result<(), Memo
     requires { first_tables.Fits (first_of (tables_of image.now)) }
     ensures { OnOk result (count.new ≡ count.old + length (first_tables.spell (first_of (tables_of image.now)))) }
 {
-    count_list(alloc, &image.texts, count)?;
+    count_list(alloc, image.texts.list(), count)?;
     count_list(alloc, &image.arrays, count)?;
     count_list(alloc, &image.kinds, count)?;
     count_list(alloc, &image.sets, count)

@@ -10,6 +10,7 @@ use crate::part::{list_has_spelling, read_list, write_list};
 use fac_base::{Bytes, List, Memory, Text};
 use fac_code::{Elem, GenericRow, Image, KindRow, Tables, TemplateRow, WordRow};
 use fac_spelling::{ReadFault, read_ascending_by, write_ascending_by};
+use fac_texts::SharedTexts;
 use std::alloc::Global;
 
 type FirstTables = (
@@ -50,6 +51,7 @@ pub fn read_tables(alloc: Global, bytes: &[u8]) -> Result<(Tables, &[u8]), ReadF
 {
     let ((texts, (arrays, (kinds, sets))), rest) = read_first(alloc, bytes)?;
     let ((templates, (words, (generics, pairs))), rest) = read_last(alloc, rest)?;
+    let texts = SharedTexts::new(alloc, texts)?;
     Ok((
         Tables {
             texts,
@@ -71,7 +73,7 @@ fn write_first(image: &Image, out: &mut Bytes) -> Result<(), Memory>
     requires { first_tables.Fits (first_of (tables_of image.now)) }
     ensures { OnOk result (out.new ≡ out.old ++ first_tables.spell (first_of (tables_of image.now))) }
 {
-    write_list(&image.texts, out)?;
+    write_list(image.texts.list(), out)?;
     write_list(&image.arrays, out)?;
     write_list(&image.kinds, out)?;
     write_list(&image.sets, out)
@@ -103,7 +105,7 @@ pub fn write_tables(image: &Image, out: &mut Bytes) -> Result<(), Memory>
 fn first_have_spelling(image: &Image) -> bool
     ensures { MatchBool result (first_tables.Fits (first_of (tables_of image.now))) (first_tables.Fits (first_of (tables_of image.now)) → ⊥) }
 {
-    if !list_has_spelling(&image.texts) {
+    if !list_has_spelling(image.texts.list()) {
         return false;
     }
     if !list_has_spelling(&image.arrays) {

@@ -3,8 +3,9 @@ ghost use Rattle.std.specs.Prelude.{◌≡◌, true};
 ghost use Rattle.fac_code.specs.Code.{has_built_code};
 ghost use Rattle.fac_code.specs.References.{refers as all_refer};
 
-use fac_base::{Height, List, Text};
+use fac_base::{Height, List};
 use fac_lang::CoreWord;
+use fac_texts::SharedTexts;
 
 /// An instruction.
 #[derive(Clone, Copy, Debug, PartialEq, Eq)]
@@ -228,7 +229,7 @@ pub enum Elem {
 #[derive(Drop)]
 pub struct Tables {
     /// The texts that instructions and rows name by their numbers. One text may stand several times.
-    pub texts: List<Text>,
+    pub texts: SharedTexts,
     /// The literal arrays, by their numbers. A machine makes them in this order, before its first run.
     pub arrays: List<List<Elem>>,
     /// One row for each kind, from kind 8 on.
@@ -251,7 +252,7 @@ pub struct Tables {
 #[derive(Drop)]
 pub struct Image {
     /// The texts that instructions and rows name by their numbers. One text may stand several times.
-    pub texts: List<Text>,
+    pub texts: SharedTexts,
     /// The literal arrays, by their numbers. A machine makes them in this order, before its first run.
     pub arrays: List<List<Elem>>,
     /// One row for each kind, from kind 8 on.

@@ -25,6 +25,7 @@ use fac_code::{Action, Elem, GenericRow, Image, Instr, KindRow, TemplateRow, Wor
 use fac_generic::{methods_are_lawful, tables as method_tables};
 use fac_lang::{CoreWord, Sort, WordDef};
 use fac_locals::Closed;
+use fac_texts::SharedTexts;
 use std::alloc::Global;
 
 // What a core word does. No run does `cond`.
@@ -179,7 +180,7 @@ fn parts_of(emission: &Emission<'_>, heights: &[Option<Height>]) -> Result<Parts
 // The other tables of an image.
 #[derive(Drop)]
 struct OtherTables {
-    texts: List<Text>,
+    texts: SharedTexts,
     arrays: List<List<Elem>>,
     kinds: List<KindRow>,
     sets: List<List<u32>>,

@@ -12,6 +12,7 @@ use fac_base::{List, Memory, Text};
 use fac_classes::Classes;
 use fac_lang::{Program, Template};
 use fac_locals::Closed;
+use fac_texts::SharedTexts;
 use std::alloc::Global;
 use std::marker::Model;
 
@@ -107,9 +108,9 @@ impl<'a> Emission<'a> {
     }
 
     /// A list of the texts.
-    pub fn texts(&self) -> Result<List<Text>, Memory>
+    pub fn texts(&self) -> Result<SharedTexts, Memory>
         ensures { IfOk result (λ texts. texts ≡ program_texts self.now) }
     {
-        self.texts.list(self.alloc)
+        SharedTexts::new(self.alloc, self.texts.list(self.alloc)?)
     }
 }

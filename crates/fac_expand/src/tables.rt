@@ -4,14 +4,15 @@ ghost use Rattle.fac_expand.specs.inner.Makings.{AreKept, AreTogether, AreMoved}
 
 use crate::copying::{copied_arrays, copied_kinds};
 use crate::moving::{moved_generics, moved_words};
-use fac_base::{Duplicate, List, Memory, Text};
+use fac_base::{Duplicate, List, Memory};
 use fac_code::{Elem, GenericRow, Image, KindRow, Tables, TemplateRow, WordRow};
+use fac_texts::SharedTexts;
 use std::alloc::Global;
 
 // The tables that have no places.
 #[derive(Drop)]
 struct Kept {
-    texts: List<Text>,
+    texts: SharedTexts,
     arrays: List<List<Elem>>,
     kinds: List<KindRow>,
     sets: List<List<u32>>,
@@ -22,7 +23,7 @@ struct Kept {
 fn kept_tables(alloc: Global, plain: &Image) -> Result<Kept, Memory>
     ensures { IfOk result (AreKept plain.now) }
 {
-    let texts = plain.texts.copy(alloc)?;
+    let texts = plain.texts.share()?;
     let arrays = copied_arrays(alloc, &plain.arrays)?;
     let kinds = copied_kinds(alloc, &plain.kinds)?;
     let sets = plain.sets.copy(alloc)?;

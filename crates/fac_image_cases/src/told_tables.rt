@@ -2,6 +2,7 @@
 use crate::told_rows::{Generic, Kind, Rows};
 use fac_base::{Duplicate, Height, List, Memory, Text};
 use fac_code::{Elem, GenericRow, KindRow, Tables, TemplateRow, WordRow};
+use fac_texts::SharedTexts;
 use std::alloc::Global;
 
 // Literal arrays of these elements.
@@ -124,7 +125,7 @@ fn texts(alloc: Global, texts: &List<Text>, names: &List<Text>) -> Result<List<T
 pub fn tables(alloc: Global, rows: &Rows) -> Result<Tables, Memory> {
     let first = rows.texts.len();
     Ok(Tables {
-        texts: texts(alloc, &rows.texts, &rows.names)?,
+        texts: SharedTexts::new(alloc, texts(alloc, &rows.texts, &rows.names)?)?,
         arrays: arrays(alloc, rows.arrays.as_slice())?,
         kinds: kinds(alloc, rows.kinds.as_slice(), first)?,
         sets: sets(alloc, rows.sets.as_slice())?,
