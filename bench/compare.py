@@ -41,8 +41,9 @@ from kinds import KINDS, Case, happens, run_of
 from local_kinds import LOCAL_KINDS
 from loop_kinds import LOOP_KINDS
 from store_kinds import STORE_KINDS
+from wide_kinds import WIDE_KINDS
 
-ALL_KINDS = KINDS + CLASS_KINDS + LOCAL_KINDS + CALL_KINDS + INPUT_KINDS + STORE_KINDS + LOOP_KINDS
+ALL_KINDS = KINDS + CLASS_KINDS + LOCAL_KINDS + CALL_KINDS + INPUT_KINDS + STORE_KINDS + LOOP_KINDS + WIDE_KINDS
 
 # The most ticks that the model takes for a program.
 MOST_TICKS = 200_000
