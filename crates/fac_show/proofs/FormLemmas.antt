@@ -9,7 +9,7 @@ use Rattle.fac_store.specs.MachineValues.{MValue, m_seen, machine_values}
 use Rattle.fac_store.specs.ValueTrees.{Trees, StoreSeen, trees_of, objects_of, object_in, value_in, values_in}
 use Rattle.fac_store.specs.StoredObjects.{array_values, kind_stored}
 use Rattle.fac_store.specs.declared.value.Value.{Value}
-use Rattle.fac_store.specs.declared.value.Value.TheVariants.{Int, True, False, Text, Iota, Word, Array, Tuple, Callable}
+use Rattle.fac_store.specs.declared.value.Value.TheVariants.{Int, True, False, Text, Iota, Word, Array, Tuple, Callable, Wide, WideIota}
 use Rattle.fac_show.specs.inner.StoredForms.{head_of, tail_of, object_by, flat_form, object_form, stored_form, object_of}
 
 -- what an object begins and ends with, by what is known of it
@@ -63,6 +63,8 @@ form_of_flat s N f g (Word a) h = refl
 form_of_flat s N f g (Array k) h = h k
 form_of_flat s N f g (Tuple k) h = h k
 form_of_flat s N f g (Callable k) h = refl
+form_of_flat s N f g (Wide k low) h = refl
+form_of_flat s N f g (WideIota k low) h = refl
 
 pub form_is : (s : StoreSeen) (N : Names) (w : World MValue) (l : ℕ) (v : Value) → w.objects ≡ objects_of s → stored_form s N l v ≡ shown machine_values N l w (value_in (trees_of s) v)
 form_is s N w zero v e = form_of_flat s N (object_form s N zero) (λ a. codes "...") v (λ a. refl)

@@ -181,11 +181,17 @@ fn add_value(
     ensures { Adds printing.entry.limit (string_bytes line.old) (stored_form printing.entry.store.now (image_names printing.entry.image.now) levels value) (string_bytes line.new) result }
 {
     match value {
-        Value::Int(number) => add_integer(line, printing.limit, number),
+        Value::Int(number) => add_integer(line, printing.limit, i128::from(number)),
+        Value::Wide(high, low) => {
+            add_integer(line, printing.limit, printing.store.wide(high, low))
+        }
         Value::True => add(line, printing.limit, "t"),
         Value::False => add(line, printing.limit, "f"),
         Value::Text(number) => add_quoted(line, printing.limit, printing.store.text(number)),
-        Value::Iota(number) => add_iota(line, printing.limit, number),
+        Value::Iota(number) => add_iota(line, printing.limit, i128::from(number)),
+        Value::WideIota(high, low) => {
+            add_iota(line, printing.limit, printing.store.wide(high, low))
+        }
         Value::Word(word) => add(line, printing.limit, printing.image.word_name(word)),
         Value::Array(number) => add_object(line, printing, number, levels),
         Value::Tuple(number) => add_object(line, printing, number, levels),

@@ -5,6 +5,7 @@
 //! - `real_forms`: real files and streams move the bytes that they are given, also where the system moves few at a time or fails.
 //! - `lines`: a source in memory is cut into lines, also at the most bytes of a line and behind a read that fails.
 //! - `marks`: the checker's marks that no program of today makes.
+//! - `sizes`: a value of the machine takes 16 bytes.
 //!
 //! Integers, the machine, and the tool with all that it stands on are tested by programs: `fac_number_cases`, `fac_image_cases` and
 //! `fac_cases`. So no library that others stand on has tests of its own, and each is proved once.
@@ -18,5 +19,7 @@ mod marks;
 mod memory_forms;
 #[cfg(test)]
 mod real_forms;
+#[cfg(test)]
+mod sizes;
 #[cfg(test)]
 mod values;

@@ -3,10 +3,10 @@ use Rattle.std.specs.Prelude.{ℕ, zero, suc, List, [], ◌++◌, map, Option, S
 use Rattle.std.specs.Fmt.{signed_decimal, decimal}
 use Rattle.fac_lang.specs.World.{Object, array, tuple}
 use Rattle.fac_lang.specs.Printed.{Names, escaped_all, spaced}
-use Rattle.fac_store.specs.ValueTrees.{StoreSeen, trees_of, text_at, iota_count}
+use Rattle.fac_store.specs.ValueTrees.{StoreSeen, trees_of, text_at, iota_count, wide_at}
 use Rattle.fac_store.specs.StoredObjects.{object_values}
 use Rattle.fac_store.specs.declared.value.Value.{Value}
-use Rattle.fac_store.specs.declared.value.Value.TheVariants.{Int, True, False, Text, Iota, Word, Array, Tuple, Callable}
+use Rattle.fac_store.specs.declared.value.Value.TheVariants.{Int, True, False, Text, Iota, Word, Array, Tuple, Callable, Wide, WideIota}
 
 -- what an object begins with: a tuple with its class's name
 abbrev pub head_of : Names → Option (Object Value) → List ℕ
@@ -34,6 +34,8 @@ flat_form s N object (Word a) = N.word_name a
 flat_form s N object (Array k) = object k
 flat_form s N object (Tuple k) = object k
 flat_form s N object (Callable k) = codes "[ ... ]"
+flat_form s N object (Wide k low) = signed_decimal (wide_at (trees_of s) k low)
+flat_form s N object (WideIota k low) = codes "<iota " ++ decimal (iota_count (wide_at (trees_of s) k low)) ++ codes ">"
 
 -- the object of a number with so many levels; below them it is three dots
 abbrev pub object_form : StoreSeen → Names → ℕ → ℕ → List ℕ
