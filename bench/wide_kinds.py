@@ -4,7 +4,7 @@ kept by arrays, tuples, callables and locals. With `bench/budgets.py --eager` th
 import model
 from kinds import FILE, Case, happens
 
-HEAD = "USING: accessors arrays combinators fry io kernel locals math math.bitwise math.parser prettyprint sequences ; TUPLE: box held ;"
+HEAD = "USING: accessors arrays combinators fry io kernel locals math math.parser prettyprint sequences ; TUPLE: box held ;"
 
 # The powers at which integers change how they stand.
 POWERS = [31, 32, 62, 63, 64, 65, 95, 96, 126, 127]
@@ -22,7 +22,7 @@ KEEPS = [
     "'[ _ ] call( -- x )",
     "'[ _ 1 - ] call( -- x )",
     "number>string string>number",
-    "1array dup 0 7 swap pick set-nth first",
+    "dup 1array 2dup 0 swap set-nth nip first",
     "<iota> length",
     "[ 1 ] dip nip",
     "dup 2array second",
