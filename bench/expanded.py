@@ -44,6 +44,10 @@ WORDS = [
     (":: w ( a b -- c ) a b > [ a ] [ b ] if ; 5 6 w .", APPLY, {"branch", "local"}),
     (": w ( x -- y ) { { [ dup 1 < ] [ drop 0 ] } { [ dup 2 < ] [ drop 10 ] } [ drop 20 ] } cond ; 1 w .", APPLY, {"branch"}),
     (": w ( -- q n ) [ 1 ] 5 ; w . drop", {"call", "dip", "if"}, {"quot"}),
+    # longer than what one word may have of code in which values are followed
+    (": w ( x -- y ) " + "dup 0 < [ 1 + ] [ 1 - ] if " * 20_000 + "; 5 w .", APPLY, {"branch", "jump"}),
+    (":: w ( x -- y ) x " + "dup x < [ 1 + :> a a x + ] [ [ 1 - ] call ] if " * 12_000 + "; 5 w .", APPLY, {"branch", "jump", "bind", "unbind"}),
+    (": w ( x y -- z ) " + "[ dup 0 < [ 1 + ] [ 1 - ] if ] dip " * 12_000 + "+ ; 5 6 w .", APPLY, {"branch", "jump", "hold", "back"}),
 ]
 
 TURNED = ": turned ( ..a n q: ( ..a -- ..a ) -- ..a ) over 0 > [ dup 2dip [ 1 - ] dip turned ] [ 2drop ] if ; inline recursive "
@@ -151,7 +155,7 @@ def late_calls(image):
 
 def tell(source, code, wrong):
     """Tells of a word whether its code is as it is to be, and whether it isn't."""
-    print("WRONG" if wrong else "as it is to be", len(code), "instructions:", source, *sorted(map(str, wrong)))
+    print("WRONG" if wrong else "as it is to be", len(code), "instructions:", source[:150], *sorted(map(str, wrong)))
     return bool(wrong)
 
 
