@@ -237,6 +237,13 @@ impl Case {
             }
             "repeat" => push_times(&mut self.input, text),
             "codes" => push_bytes(&mut self.input, text),
+            _ => self.set_rest(alloc, name, text),
+        }
+    }
+
+    // Takes what a line with this name says of what fails, and of what is told.
+    fn set_rest(&mut self, alloc: Global, name: &str, text: &str) -> Result<bool, Memory> {
+        match name {
             "reads" => push_numbers(&mut self.reads, text),
             "loads" => push_numbers(&mut self.loads, text),
             "fronts" => {
