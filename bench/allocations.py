@@ -1,23 +1,24 @@
-"""Runs a program under a library that counts what it allocates, and that refuses some of it."""
+"""Runs a program under a library that counts its allocations and refuses some of them, and that tells how much memory it had."""
 
 import dataclasses
 import os
 import struct
 import subprocess
 
-# What stands in the place of the C library's calls. It tells the number of allocations, and the most bytes that were held at a time, in the
-# file that the first name tells, as they come; so it tells them also where the program is ended by a signal.
+# What stands in the place of the C library's calls. It tells the number of allocations in the file that the first name tells, as they come, so also
+# where the program is ended by a signal; and at the program's end the greatest memory that the process had. Room of a list that was never
+# used is no memory, so that isn't told by the sizes of allocations.
 LIBRARY = r"""
 #include <errno.h>
 #include <fcntl.h>
-#include <malloc.h>
 #include <stdlib.h>
+#include <string.h>
 #include <sys/mman.h>
+#include <unistd.h>
 
 extern void *__libc_malloc(size_t), *__libc_calloc(size_t, size_t), *__libc_realloc(void *, size_t);
-extern void __libc_free(void *);
 
-struct told { long calls, held, most; };
+struct told { long calls, kibibytes; };
 static struct told own, *told = &own;
 static long first, last;
 
@@ -31,49 +32,40 @@ __attribute__((constructor)) static void begin(void) {
         told = page;
 }
 
+__attribute__((destructor)) static void end(void) {
+    static char text[4096];
+    int file = open("/proc/self/status", O_RDONLY);
+    long size = file < 0 ? 0 : read(file, text, sizeof text - 1);
+    const char *found = size > 0 ? strstr(text, "VmHWM:") : 0;
+    told->kibibytes = found ? atol(found + 6) : 0;
+}
+
 static int is_refused(void) {
     told->calls++;
+    errno = ENOMEM;
     return first <= told->calls && told->calls <= last;
 }
 
-static void *kept(void *given, long before) {
-    told->held += given ? (long)malloc_usable_size(given) - before : 0;
-    if (told->held > told->most)
-        told->most = told->held;
-    return given;
-}
-
-static void *refused(void) {
-    errno = ENOMEM;
-    return 0;
-}
-
 void *malloc(size_t size) {
-    return is_refused() ? refused() : kept(__libc_malloc(size), 0);
+    return is_refused() ? 0 : __libc_malloc(size);
 }
 
 void *calloc(size_t count, size_t size) {
-    return is_refused() ? refused() : kept(__libc_calloc(count, size), 0);
+    return is_refused() ? 0 : __libc_calloc(count, size);
 }
 
 void *realloc(void *given, size_t size) {
-    long before = given ? (long)malloc_usable_size(given) : 0;
-    return is_refused() ? refused() : kept(__libc_realloc(given, size), before);
-}
-
-void free(void *given) {
-    told->held -= given ? (long)malloc_usable_size(given) : 0;
-    __libc_free(given);
+    return is_refused() ? 0 : __libc_realloc(given, size);
 }
 """
 
-TOLD = struct.Struct("lll")
+TOLD = struct.Struct("ll")
 
 
 @dataclasses.dataclass
 class Ran:
     """How a program ended: its status, which is negative for a signal and None where it took too long, its output and its note, how often it
-    allocated, and the most bytes that it held at a time."""
+    allocated, and the most bytes of memory that the process had, where it ended by itself."""
 
     status: int | None
     output: bytes
@@ -106,5 +98,5 @@ class Allocations:
         except subprocess.TimeoutExpired:
             status, output, note = None, b"", b""
         with open(self.told, "rb") as file:
-            calls, _, most = TOLD.unpack(file.read())
-        return Ran(status, output, note, calls, most)
+            calls, kibibytes = TOLD.unpack(file.read())
+        return Ran(status, output, note, calls, kibibytes << 10)

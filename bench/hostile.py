@@ -19,8 +19,8 @@ are these; with `--only` one of them is done alone.
   calls, some hundred of them in one process; J processes share them, as many as there are processors by default. The same seed S, 1 by
   default, gives the same sources.
 
-Where a source is only checked, it may take 40 bytes of memory for each of its bytes, above 1 MiB, and an image that is executed 10; a library
-that counts what is allocated tells that. The script ends with status 1 where anything is otherwise, or a run takes too long or is ended by a
+Where a source is only checked, it may take 40 bytes of memory for each of its bytes, above 1 MiB and what an empty one takes, and an image that
+is executed 10. The script ends with status 1 where anything is otherwise, or a run takes too long or is ended by a
 signal. Sources that were damaged and failed are kept in a folder, which is named.
 """
 
@@ -51,7 +51,7 @@ MOST_BYTES_A_BYTE, MOST_BYTES_A_BYTE_OF_IMAGE = 40, 10
 BASE = 1 << 20
 MOST_FAILURES = 20
 # The room of the sinks, and the budget, of a damaged source.
-ROOM, TICKS = 100_000, 500
+ROOM, TICKS = cases.ROOM, 500
 BATCH = 200
 LITTLE_STACK = ["/bin/sh", "-c", 'ulimit -s 1024; exec "$@"', "sh"]
 
@@ -335,15 +335,16 @@ class Checked:
         self.folder = folder
         self.allocations = Allocations(folder, MOST_SECONDS)
         self.failed = []
-        self.worst = []
-        self.base = self.of("nothing", b"").most
+        self.worst, self.base = [], 0
+        self.base = self.of("nothing", b"", most=None).most
+        self.worst.clear()
 
     def of(self, about, given, command="check", most=MOST_BYTES_A_BYTE):
         """How a command on a file of these bytes ends. It is told where it takes more memory than so many bytes for each of these."""
         with open(os.path.join(self.folder, "a"), "wb") as file:
             file.write(given)
         ended = self.allocations.run([self.program, command, "a"])
-        more = max(0, ended.most - BASE)
+        more = max(0, ended.most - self.base - BASE)
         self.worst.append((more / max(1, len(given)), about, len(given), ended.most))
         if most is not None and more > most * len(given):
             self.failed.append(f"{about}: {ended.most:,} bytes of memory for {len(given):,}")
@@ -353,7 +354,7 @@ class Checked:
         """Prints what was done, and what took most memory."""
         print(f"{name}: {count} of them; `check` of a file without a byte takes {self.base:,} bytes of memory", flush=True)
         for each, about, length, most in sorted(self.worst, reverse=True)[:5]:
-            print(f"    {about}: {length:,} bytes, {most:,} of memory, {each:.1f} for each above 1 MiB", flush=True)
+            print(f"    {about}: {length:,} bytes, {most:,} of memory, {each:.1f} for each", flush=True)
         self.worst = []
 
 

@@ -8,8 +8,8 @@ add one to SHAPES. For each of these names, by default for all, the script runs 
 of each by valgrind, and prints the ratio of what the last takes more than the middle one to what that takes more than the first: 4 where the shape is linear,
 and 16 where it is quadratic. It ends with status 1 where a ratio is more than 4.6, where a run ends by a signal or with another status than the others,
 where the bytes of the sources have such a ratio of more than 4.3, or where a file isn't of the grammar (status 3), so that nothing is checked.
-Whether the source is accepted doesn't matter otherwise. The longest source may take 40 bytes of memory for each of its bytes, above 1 MiB; what
-it takes stands behind the ratio, as a library tells that counts what is allocated. With `--times` the script takes the user time, for sources eight times as large;
+Whether the source is accepted doesn't matter otherwise. The longest source may take 40 bytes of memory for each of its bytes, above 1 MiB and
+what an empty one takes; that stands behind the ratio. With `--times` the script takes the user time, for sources eight times as large;
 such times are worth something on an idle machine alone. `--list` lists the shapes.
 """
 
@@ -448,10 +448,10 @@ def measure(cost, program, folder, shape, n):
 
 
 def memory(allocations, program, folder, shape, n):
-    """How many bytes of memory each byte of the source takes, above the base."""
+    """How many bytes of memory each byte of the source takes, above the base and what an empty one takes."""
     path = os.path.join(folder, f"{shape.name}-{n}")
-    most = allocations.run([program, "check", path]).most
-    return max(0, most - BASE) / os.path.getsize(path)
+    most, least = (allocations.run([program, "check", it]).most for it in (path, "/dev/null"))
+    return max(0, most - least - BASE) / os.path.getsize(path)
 
 
 def tell(shape, n, costs, each):
