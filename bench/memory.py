@@ -26,7 +26,7 @@ USING = "USING: kernel math prettyprint sequences strings math.parser arrays com
 MIB = 1 << 20
 
 # The bytes that an element of an array takes, and what a text and an object take beside theirs.
-VALUE = 32
+VALUE = 16
 TEXT = 64
 OBJECT = 16
 
