@@ -10,7 +10,8 @@ use Rattle.fac_parse.specs.declared.reader.Why.TheVariants as why
 use Rattle.fac_vocab.specs.Scopes.{begun, using_all}
 use Rattle.fac_names.specs.FromFlat.{form_of}
 use Rattle.fac_names.specs.Resolution.{first_reading}
-use Rattle.fac_names.specs.Resolved.{Known, going_on, read_files}
+use Rattle.fac_names.specs.Resolved.{going_on, read_files}
+use Rattle.fac_names.specs.declared.known.Known.{Known}
 use Rattle.fac_check.specs.Verdicts.{verdict}
 use Rattle.fac_check.specs.declared.refusal.Broken.{Broken}
 use Rattle.fac_notes.specs.declared.report.Report.{Report}
