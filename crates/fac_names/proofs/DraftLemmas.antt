@@ -1,9 +1,12 @@
 -- Words so far.
-use Rattle.std.proofs.Common.{◌≡◌, ◌<◌, ◌≤◌, ℕ, zero, suc, List, [], ◌∷◌, ◌++◌, length, set, get_or, slice_get, Some, Result, Ok, Err, Bool, true, false, refl, ap, sym, ◌∙◌, subst, arith}
-use Rattle.std.specs.Prelude.{IfOk}
+use Rattle.std.proofs.Common.{◌≡◌, ◌<◌, ◌≤◌, ℕ, zero, suc, List, [], ◌∷◌, ◌++◌, length, set, get_or, slice_get, Some, Result, Ok, Err, Bool, true, false, ◌&&◌, refl, ap, sym, ◌∙◌, subst, arith}
+use Rattle.std.specs.Prelude.{IfOk, nat_lt}
 use Rattle.fac_base.specs.declared.memory.Memory.{Memory}
 use Rattle.fac_endings.specs.declared.draft.Draft.{Draft}
-use Rattle.fac_names.specs.Forms.{changed, counted, is_counted, one_more_if}
+use Rattle.fac_lang.specs.declared.program.Sort.{Sort}
+use Rattle.fac_lang.specs.declared.program.Sort.TheVariants.{Prim as prim, Core as core, Body as body, Past as past, Itself as itself, Class as class, Isa as isa, Getter as getter, Setter as setter, Putter as putter, Generic as generic, Method as method}
+use Rattle.fac_names.specs.Forms.{changed, counted, is_class_sort, is_counted, one_more_if}
+use Rattle.fac_names.specs.Resolved.{as_earlier, past_sort}
 use Rattle.fac_names.specs.inner.Counts.{Recounts}
 
 -- A word that is changed.
@@ -81,3 +84,24 @@ recounted_ok f ds n d classes after before (Err Memory) at count is was h = tt
 
 pub uncounted : (f : Draft → Draft) (ds : List Draft) (n : ℕ) (classes : ℕ) → length ds ≤ n → classes ≡ counted ds → classes ≡ counted (changed f n ds)
 uncounted f ds n classes h count = count ∙ ap counted (unchanged f ds n h)
+
+-- An earlier top-level phrase is no class.
+
+past_class : (s : Sort) → is_class_sort (past_sort s) ≡ is_class_sort s
+past_class (prim k) = refl
+past_class (core c) = refl
+past_class (body t) = refl
+past_class (past t) = refl
+past_class itself = refl
+past_class (class c) = refl
+past_class (isa c) = refl
+past_class (getter s) = refl
+past_class (setter s) = refl
+past_class (putter s) = refl
+past_class generic = refl
+past_class (method c g t) = refl
+
+pub earlier_count : (n : ℕ) (ds : List Draft) → counted (changed as_earlier n ds) ≡ counted ds
+earlier_count n [] = refl
+earlier_count zero (d ∷ ds) = ap (λ (b : Bool). one_more_if (nat_lt 0 d.word.place.file && b) (counted ds)) (past_class d.word.sort)
+earlier_count (suc n) (d ∷ ds) = ap (one_more_if (is_counted d.word)) (earlier_count n ds)

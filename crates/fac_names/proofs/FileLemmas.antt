@@ -83,7 +83,7 @@ pub take_one : (r : Reading) (f : Flat) (forms : List Flat) → IsWellFormed (f 
 take_one r f forms h = ap (fold (λ q form. take form q) r) (read_one f forms h.1)
 
 -- one behind the other
-forms_taken : (forms : List Flat) (r : Reading) → IsWellFormed forms → take_all r (map form_of forms) ≡ fold take_flat r forms
+pub forms_taken : (forms : List Flat) (r : Reading) → IsWellFormed forms → take_all r (map form_of forms) ≡ fold take_flat r forms
 forms_taken [] r h = refl
 forms_taken (f ∷ forms) r h = take_one r f forms h ∙ forms_taken forms (take_flat r f) h.2
 

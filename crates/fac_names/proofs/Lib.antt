@@ -33,3 +33,4 @@ pub mod ExamplesOfClasses
 pub mod ExamplesOfLocals
 pub mod ExamplesOfCalls
 pub mod SignLemmas
+pub mod TextLemmas

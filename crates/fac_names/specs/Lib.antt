@@ -5,6 +5,7 @@ pub mod FromFlat
 pub mod KnownWords
 pub mod Resolution
 pub mod TakenForms
+pub mod TakenTexts
 pub mod Signs
 pub mod Laws
 pub mod inner

@@ -1,5 +1,5 @@
 -- What files come to: the program, or the first refusal.
-use Rattle.std.specs.Prelude.{List, [], map, fold, Option, Some, None, Result, Ok, Err, Bool, if◌then◌else◌}
+use Rattle.std.specs.Prelude.{List, [], ◌∷◌, map, fold, Option, Some, None, Result, Ok, Err, Bool, true, if◌then◌else◌}
 use Rattle.fac_lang.specs.RunningLaws.{append}
 use Rattle.fac_lang.specs.Phrases.{Phrase, end}
 use Rattle.fac_lang.specs.declared.program.Program.{Program}
@@ -7,12 +7,15 @@ use Rattle.fac_lang.specs.declared.program.Sort.{Sort}
 use Rattle.fac_lang.specs.declared.program.Sort.TheVariants.{Body as body, Past as past}
 use Rattle.fac_lang.specs.declared.program.WordDef.{WordDef}
 use Rattle.fac_source.specs.declared.refusal.NameFault.{NameFault}
-use Rattle.fac_vocab.specs.Scopes.{Scope}
 use Rattle.fac_items.specs.Written.{Form}
 use Rattle.fac_endings.specs.declared.draft.Draft.{Draft}
 use Rattle.fac_endings.specs.declared.draft.Late.TheVariants.{Settled as settled}
 use Rattle.fac_endings.specs.Endings.{first_fault as first_of, program_of as program_in}
+use Rattle.fac_source.specs.declared.tree.Form.{Form as Flat}
+use Rattle.fac_names.specs.FromFlat.{form_of}
 use Rattle.fac_names.specs.Forms.{Reading, changed, take_file}
+-- Programs with the scope in which a session goes on.
+pub use Rattle.fac_names.specs.declared.known.Known.{Known}
 
 -- the first refusal of a program
 abbrev pub first_fault : Reading → Option NameFault
@@ -25,11 +28,6 @@ top_phrase keep r = (if keep then r.top else append r.top r.main)
 abbrev pub program_of : Bool → Reading → Program
 program_of keep r = program_in r.words r.old_classes r.classes r.arrays (top_phrase keep r)
 
--- Programs with the scope in which a session goes on.
-pub record Known : Type 0 where
-  pub scope : Scope
-  pub program : Program
-
 -- an earlier top-level phrase is kept as a word that no name finds
 abbrev pub past_sort : Sort → Sort
 past_sort (body t) = past t
@@ -38,8 +36,11 @@ past_sort s = s
 abbrev pub as_past : WordDef → Draft
 as_past d = record { word = record d { sort = past_sort d.sort }; late = settled }
 
+abbrev pub as_earlier : Draft → Draft
+as_earlier d = as_past d.word
+
 abbrev pub drafts_of : Program → List Draft
-drafts_of P = changed (λ (d : Draft). as_past d.word) P.top (map (λ (d : WordDef). record { word = d; late = settled }) P.words)
+drafts_of P = changed as_earlier P.top (map (λ (d : WordDef). record { word = d; late = settled }) P.words)
 
 abbrev pub beginning : Known → Reading
 beginning k = record { scope = k.scope; words = drafts_of k.program; old_classes = k.program.classes; classes = []; arrays = k.program.arrays; top = end; main = end; first = None }
@@ -51,3 +52,8 @@ answer keep r None = Ok (record { scope = r.scope; program = program_of keep r }
 -- what the files come to behind a reading; `keep` where they go on in its scope
 abbrev pub read_files : Reading → List (List Form) → Bool → Result Known NameFault
 read_files r files keep = let q = fold (take_file keep) r files in answer keep q (first_fault q)
+
+-- What a text of these forms comes to behind what is known. It goes on in the scope of the texts before, whose top-level phrases are earlier ones, and the word of
+-- its `MAIN:` isn't run.
+abbrev pub going_on : Known → List Flat → Result Known NameFault
+going_on k forms = read_files (beginning k) (map form_of forms ∷ []) true

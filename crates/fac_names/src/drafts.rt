@@ -1,6 +1,7 @@
 //! Words as far as they are told.
 ghost use Rattle.std.specs.Prelude.{◌≡◌, ◌++◌, ◌∷◌, [], length, IfOk, OnOk};
 ghost use Rattle.fac_names.specs.Forms.{at_place, changed, counted, draft_of, is_class_sort, is_counted, one_more_if, with_told};
+ghost use Rattle.fac_names.specs.Resolved.{as_earlier, past_sort};
 ghost use Rattle.fac_names.specs.inner.Counts.{Recounts};
 
 use fac_base::{Effect, Memory, Name, Place};
@@ -8,6 +9,7 @@ use fac_endings::{Draft, Late, no_effect};
 use fac_lang::{Sort, WordDef};
 use std::alloc::Global;
 use std::marker::Model;
+use std::mem;
 
 /// Words, by their numbers.
 #[derive(Drop)]
@@ -190,6 +192,45 @@ fn tell_at(list: &mut Vec<Draft>, number: u32, told: WordFacts)
     }
 }
 
+// What a word is that was a top-level phrase.
+fn retired(sort: Sort) -> Sort
+    ensures { result ≡ past_sort sort }
+{
+    match sort {
+        Sort::Prim(number) => Sort::Prim(number),
+        Sort::Core(core) => Sort::Core(core),
+        Sort::Body(phrase) => Sort::Past(phrase),
+        Sort::Past(phrase) => Sort::Past(phrase),
+        Sort::Itself => Sort::Itself,
+        Sort::Class(class) => Sort::Class(class),
+        Sort::Isa(class) => Sort::Isa(class),
+        Sort::Getter(slot) => Sort::Getter(slot),
+        Sort::Setter(slot) => Sort::Setter(slot),
+        Sort::Putter(slot) => Sort::Putter(slot),
+        Sort::Generic => Sort::Generic,
+        Sort::Method {
+            class,
+            generic,
+            body,
+        } => Sort::Method {
+            class,
+            generic,
+            body,
+        },
+    }
+}
+
+// Makes the word of a number an earlier top-level phrase.
+fn retire_at(list: &mut Vec<Draft>, number: u32)
+    ensures { list.new.items ≡ changed as_earlier number list.old.items }
+{
+    if let Some(draft) = list.get_mut(number as usize) {
+        let sort = mem::replace(&mut draft.word.sort, Sort::Itself);
+        draft.word.sort = retired(sort);
+        draft.late = Late::Settled;
+    }
+}
+
 impl Drafts {
     /// No words.
     pub fn new(alloc: Global) -> Drafts
@@ -254,6 +295,14 @@ impl Drafts {
         tell_at(&mut self.list, number, told);
         self.classes = classes;
         Ok(())
+    }
+
+    /// Makes the word of a number, which was a top-level phrase, an earlier one.
+    #[tactic(auto, using(crate::proofs::DraftLemmas::earlier_count))]
+    pub fn retire(&mut self, number: u32)
+        ensures { self.new ≡ changed as_earlier number self.old }
+    {
+        retire_at(&mut self.list, number);
     }
 
     /// The words as a `Vec`, with no copy.

@@ -8,15 +8,19 @@ mod drafts;
 mod files;
 mod forms;
 mod inputs;
+mod known;
 mod known_words;
 mod laws;
 mod naming;
 mod parts;
 mod resolver;
 mod so_far;
+mod text_resolver;
 
 pub use fac_source::{NameFault, NameKind, ResolveFault};
+pub use known::Known;
 pub use laws::{
     forms_keep_numbers, known_words_stay, phrases_are_written_as_items, resolved_programs_are_whole,
 };
 pub use resolver::Resolver;
+pub use text_resolver::TextResolver;

@@ -1,10 +1,13 @@
 //! Forms to a program.
-ghost use Rattle.std.specs.Prelude.{◌≡◌, ◌++◌, ◌∷◌, [], map, IfOk, List as Items, OnOk};
+ghost use Rattle.std.specs.Prelude.{◌≡◌, ◌++◌, ◌∷◌, [], false, map, IfOk, List as Items, OnOk};
 ghost use Rattle.fac_lang.specs.Whole.{IsWhole};
 ghost use Rattle.fac_source.specs.declared.tree.Form.{Form};
 ghost use Rattle.fac_parse.specs.Trees.{AreForms, AreWellFormed};
+ghost use Rattle.fac_names.specs.FromFlat.{form_of};
 ghost use Rattle.fac_names.specs.Resolution.{Resolves, first_reading, settled_draft};
+ghost use Rattle.fac_names.specs.Resolved.{read_files};
 ghost use Rattle.fac_names.specs.TakenForms.{HasTaken};
+ghost use Rattle.fac_names.specs.TakenTexts.{Knows};
 ghost use Rattle.fac_names.specs.inner.Ended.{EndsReading};
 ghost use Rattle.fac_names.specs.inner.State.{reading_of};
 
@@ -12,8 +15,10 @@ use crate::bodies::add_items;
 use crate::drafts::Drafts;
 use crate::files::take_forms;
 use crate::forms::begin_file;
+use crate::known::Known;
 use crate::known_words::{first_classes, first_words};
 use crate::so_far::SoFar;
+use crate::text_resolver::end_files;
 use fac_base::{List, Memory};
 use fac_endings::{Draft, Gathered, Late, ended};
 use fac_lang::{Item, Program, WordDef};
@@ -31,8 +36,8 @@ fn add_known(drafts: &mut Drafts, word: WordDef) -> Result<(), Memory>
     })
 }
 
-// The words that are known, as they are told.
-fn known_drafts(alloc: Global, words: Vec<WordDef>) -> Result<Drafts, Memory>
+/// The words that are known, as they are told.
+pub fn known_drafts(alloc: Global, words: Vec<WordDef>) -> Result<Drafts, Memory>
     ensures { IfOk result (λ drafts. drafts ≡ map settled_draft words.items) }
 {
     let mut drafts = Drafts::new(alloc);
@@ -149,5 +154,13 @@ impl Resolver {
     {
         let Resolver { so_far } = self;
         end(alloc, so_far)
+    }
+
+    /// The program of all files as `end` has it, with the scope behind the last one, for a session to go on from.
+    pub fn known(self, alloc: Global) -> Result<Known, ResolveFault>
+        ensures { (files : Items (Items Form)) → AreWellFormed files → HasTaken files self → Knows (read_files first_reading (map (map form_of) files) false) result }
+    {
+        let Resolver { so_far } = self;
+        end_files(alloc, so_far)
     }
 }

@@ -3,7 +3,7 @@ use Rattle.std.proofs.Common.{ℕ, List, length, refl}
 use Rattle.fac_base.specs.declared.limits.TheConstants.{TICKS}
 use Rattle.fac_lang.specs.Phrases.{Phrase, end, then}
 use Rattle.fac_lang.specs.Eval.{Result as Run, Done, Failed, Spent, Stuck}
-use Rattle.fac_names.specs.Resolved.{Known}
+use Rattle.fac_names.specs.declared.known.Known.{Known}
 use Rattle.fac_session.specs.Sessions.{Session, Meant, waits, refuses, goes_on, meant}
 use Rattle.fac_session.specs.SessionLines.{Behind, behind_waiting, of_run, of_phrase, on_meant, line_run}
 use Rattle.fac_session.specs.Laws.{StandsBehind, LinesKeepWhatStands}

@@ -8,7 +8,7 @@ use Rattle.fac_lang.specs.World.{World}
 use Rattle.fac_lang.specs.Eval.{Result as Run, Done, Failed, Spent, Stuck}
 use Rattle.fac_lang.specs.Meaning.{run, with_arrays, word_phrase}
 use Rattle.fac_parse.specs.declared.reader.Why.TheVariants as why
-use Rattle.fac_names.specs.Resolved.{Known}
+use Rattle.fac_names.specs.declared.known.Known.{Known}
 use Rattle.fac_check.specs.CallableEffects.{callable_height}
 use Rattle.fac_notes.specs.declared.report.Report.{Report}
 use Rattle.fac_notes.specs.declared.report.Report.TheVariants as report

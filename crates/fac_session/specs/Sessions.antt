@@ -1,5 +1,5 @@
 -- A session: what stands between two lines, and what a text comes to behind it.
-use Rattle.std.specs.Prelude.{ℕ, List, [], ◌∷◌, map, Option, Some, None, Result, Ok, Err, true, false}
+use Rattle.std.specs.Prelude.{ℕ, List, [], ◌∷◌, map, Option, Some, None, Result, Ok, Err, false}
 use Rattle.fac_lang.specs.Phrases.{Value}
 use Rattle.fac_lang.specs.World.{Object}
 use Rattle.fac_lang.specs.Meaning.{with_arrays}
@@ -10,7 +10,8 @@ use Rattle.fac_parse.specs.declared.reader.Why.TheVariants as why
 use Rattle.fac_vocab.specs.Scopes.{begun, using_all}
 use Rattle.fac_names.specs.FromFlat.{form_of}
 use Rattle.fac_names.specs.Resolution.{first_reading}
-use Rattle.fac_names.specs.Resolved.{Known, beginning, read_files}
+use Rattle.fac_names.specs.Resolved.{going_on, read_files}
+use Rattle.fac_names.specs.declared.known.Known.{Known}
 use Rattle.fac_check.specs.Verdicts.{verdict}
 use Rattle.fac_check.specs.declared.refusal.Broken.{Broken}
 use Rattle.fac_notes.specs.declared.report.Report.{Report}
@@ -50,10 +51,6 @@ on_names count (Ok k) = on_verdict k (verdict k.program count)
 abbrev pub on_no_tree : ℕ → Why → Meant
 on_no_tree at why.End = waits at
 on_no_tree at why.Other = refuses (report.Syntax 1 at why.Other)
-
--- Forms behind what is known. Their names are read in the scope of the texts before, whose top-level phrases are earlier ones, and the word of a `MAIN:` isn't run.
-abbrev pub going_on : Known → List Form → Result Known NameFault
-going_on k forms = read_files (beginning k) (map form_of forms ∷ []) true
 
 -- a text behind what is known, on a stack of so many values, by what its bytes come to
 abbrev pub meant : Known → ℕ → Source → Meant

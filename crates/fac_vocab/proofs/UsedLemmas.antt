@@ -1,5 +1,5 @@
 -- What the used vocabularies hold under a name.
-use Rattle.std.proofs.Common.{◌≡◌, ℕ, ◌+◌, Bool, true, false, cond, not, ◌||◌, ◌&&◌, List, [], ◌∷◌, ◌++◌, length, take, Option, Some, None, refl, sym, ap, ◌∙◌, subst, arith, length-append, true≢false}
+use Rattle.std.proofs.Common.{◌≡◌, ℕ, zero, suc, ◌+◌, Bool, true, false, cond, not, ◌||◌, ◌&&◌, List, [], ◌∷◌, ◌++◌, length, take, Option, Some, None, refl, sym, ap, ◌∙◌, subst, arith, length-append, true≢false}
 use Rattle.std.specs.Prelude.{slice_get, Result, Ok, Err, OnOk, OnErr}
 use Rattle.std.specs.List.{list_any, find}
 use Rattle.std.specs.Str.{bytes_eq}
@@ -228,3 +228,21 @@ differ_with vs w h = one (list_any (bytes_eq w) vs) refl
 pub differ_kept : {E : Type 0} (r : Result Unit E) (old new : List (List ℕ)) (t : List ℕ) → no_two bytes_eq old ≡ true → OnOk r (new ≡ with_vocab old t) → OnErr r (new ≡ old) → no_two bytes_eq new ≡ true
 differ_kept (Ok done) old new t h ok err = ap (no_two bytes_eq) ok ∙ differ_with old t h
 differ_kept (Err e) old new t h ok err = ap (no_two bytes_eq) err ∙ h
+
+-- the first few of them
+
+any_taken : (v : List ℕ) (n : ℕ) (vs : List (List ℕ)) → list_any (bytes_eq v) vs ≡ false → list_any (bytes_eq v) (take n vs) ≡ false
+any_taken v zero [] h = refl
+any_taken v (suc n) [] h = refl
+any_taken v zero (x ∷ vs) h = refl
+any_taken v (suc n) (x ∷ vs) h =
+    let other = or_false (bytes_eq v x) (list_any (bytes_eq v) vs) h in
+    ap (λ (b : Bool). b || list_any (bytes_eq v) (take n vs)) other.0 ∙ any_taken v n vs other.1
+
+pub differ_taken : (n : ℕ) (vs : List (List ℕ)) → no_two bytes_eq vs ≡ true → no_two bytes_eq (take n vs) ≡ true
+differ_taken zero [] h = refl
+differ_taken (suc n) [] h = refl
+differ_taken zero (v ∷ vs) h = refl
+differ_taken (suc n) (v ∷ vs) h =
+    let both = both_true (not (list_any (bytes_eq v) vs)) (no_two bytes_eq vs) h in
+    ap (λ (b : Bool). not b && no_two bytes_eq (take n vs)) (any_taken v n vs (not_false (list_any (bytes_eq v) vs) both.0)) ∙ differ_taken n vs both.1

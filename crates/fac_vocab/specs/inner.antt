@@ -6,3 +6,4 @@ pub mod Roots
 pub mod Late
 pub mod Leasts
 pub mod BroughtForms
+pub mod PublicVocabs

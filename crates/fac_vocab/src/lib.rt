@@ -12,6 +12,7 @@ mod least;
 mod leasts;
 mod named_vocabs;
 mod pairs;
+mod public_vocabs;
 mod scope;
 mod search;
 mod standing;

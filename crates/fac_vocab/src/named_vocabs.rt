@@ -104,6 +104,13 @@ impl NamedVocabs {
         }
     }
 
+    /// The texts, in their order.
+    pub fn texts(&self) -> &TextSet
+        ensures { result.now ≡ self.now }
+    {
+        &self.texts
+    }
+
     /// Whether a text is one of these, and then any number of times `.private`.
     pub fn has_stem_of(&self, text: &str) -> bool
         ensures { result ≡ list_any (λ stem. is_companion_of stem text.now) self.now }

@@ -1,6 +1,6 @@
 //! Scopes: what a file's names find.
 ghost use Rattle.std.specs.Prelude.{◌≡◌, ◌++◌, ◌∷◌, [], codes, false, true, IfOk, OnOk, OnErr};
-ghost use Rattle.fac_vocab.specs.Scopes.{or_else, word_held, companion, latest, found, exists as vocab_exists, home as home_of, first_scope, entries_from, begun, entered, with_private, named, prefixed};
+ghost use Rattle.fac_vocab.specs.Scopes.{or_else, word_held, companion, latest, found, exists as vocab_exists, home as home_of, first_scope, entries_from, begun, entered, using_all, with_private, named, prefixed};
 ghost use Rattle.fac_vocab.specs.inner.Rows.{numbers_named};
 ghost use Rattle.fac_vocab.specs.inner.Leasts.{LeastWhere};
 ghost use Rattle.fac_vocab.specs.ScopeCalls.{names_differ, Finds, names_between, Stands, Defines, Defers, Uses, Qualifies, BringsOne};
@@ -10,6 +10,7 @@ use crate::brought::Brought;
 use crate::brought_names::BroughtNames;
 use crate::leasts::{Leasts, add_entry, use_text};
 use crate::named_vocabs::NamedVocabs;
+use crate::public_vocabs::use_each;
 use crate::standing::{found_of, names_of};
 use crate::table::Table;
 use crate::text_set::TextSet;
@@ -309,6 +310,28 @@ impl Scope {
         }
         use_text(alloc, &self.table, &mut self.used, &mut self.leasts, vocab)?;
         Ok(())
+    }
+
+    /// Uses all vocabularies that were named, but for those whose names end in `.private`, with the names that they get later.
+    pub fn use_all(&mut self, alloc: Global) -> Result<(), Memory>
+        ensures ok { OnOk result (self.new ≡ using_all self.old) }
+        ensures err { OnErr result (self.new ≡ self.old) }
+    {
+        let count = self.used.len();
+        match use_each(
+            alloc,
+            &self.table,
+            &mut self.used,
+            &mut self.leasts,
+            self.vocabs.texts().as_slice(),
+        ) {
+            Ok(()) => Ok(()),
+            Err(Memory) => {
+                self.leasts.is_kept = false;
+                self.used.truncate(count);
+                Err(Memory)
+            }
+        }
     }
 
     /// Brings the names of a vocabulary behind a prefix and a colon, with those that it gets later.

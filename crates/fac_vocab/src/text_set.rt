@@ -1,5 +1,5 @@
 //! Sets of texts.
-ghost use Rattle.std.specs.Prelude.{◌≡◌, [], map, string_bytes, true, OnOk, OnErr};
+ghost use Rattle.std.specs.Prelude.{◌≡◌, [], length, map, string_bytes, take, true, OnOk, OnErr};
 ghost use Rattle.std.specs.List.{list_any};
 ghost use Rattle.std.specs.Str.{bytes_eq};
 ghost use Rattle.fac_lang.specs.Whole.{no_two};
@@ -35,6 +35,27 @@ fn is_among(texts: &IndexSet<String>, text: &str) -> bool
     texts.contains(text)
 }
 
+// The texts of a set.
+fn texts_of(texts: &IndexSet<String>) -> &[String]
+    ensures { map string_bytes result.now ≡ map string_bytes texts.now.keys }
+{
+    texts.as_slice()
+}
+
+// Leaves the first few texts of a set.
+fn leave(texts: &mut IndexSet<String>, count: usize)
+    ensures { map string_bytes texts.new.keys ≡ take count (map string_bytes texts.old.keys) }
+{
+    texts.truncate(count);
+}
+
+// How many texts a set has.
+fn count_of(texts: &IndexSet<String>) -> usize
+    ensures { result ≡ length (map string_bytes texts.now.keys) }
+{
+    texts.len()
+}
+
 // Adds a text that may be there.
 fn insert(texts: &mut IndexSet<String>, text: String) -> Result<(), Memory>
     ensures ok { OnOk result (map string_bytes texts.new.keys ≡ with_vocab (map string_bytes texts.old.keys) (string_bytes text)) }
@@ -58,6 +79,27 @@ impl TextSet {
         ensures { no_two bytes_eq self.now ≡ true }
     {
         let _texts = &self.texts;
+    }
+
+    /// The texts, in their order.
+    pub fn as_slice(&self) -> &[String]
+        ensures { map string_bytes result.now ≡ self.now }
+    {
+        texts_of(&self.texts)
+    }
+
+    /// How many there are.
+    pub fn len(&self) -> usize
+        ensures { result ≡ length self.now }
+    {
+        count_of(&self.texts)
+    }
+
+    /// Leaves the first few.
+    pub fn truncate(&mut self, count: usize)
+        ensures { self.new ≡ take count self.old }
+    {
+        leave(&mut self.texts, count);
     }
 
     /// Whether a text is there.
