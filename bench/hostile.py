@@ -51,7 +51,7 @@ MOST_BYTES_A_BYTE, MOST_BYTES_A_BYTE_OF_IMAGE = 40, 10
 BASE = 1 << 20
 MOST_FAILURES = 20
 # The room of the sinks, and the budget, of a damaged source.
-ROOM, TICKS = cases.ROOM, 500
+ROOM, TICKS = 100_000, 500
 BATCH = 200
 LITTLE_STACK = ["/bin/sh", "-c", 'ulimit -s 1024; exec "$@"', "sh"]
 

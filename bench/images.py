@@ -56,7 +56,7 @@ MOST_FAILURES = 20
 # A short image has at most so many bytes, where each is damaged by a process of its own, or where many are by one; and a small one so many.
 SHORT, SHORT_IN_CASES, SMALL = 150, 700, 2_000
 # The room of a sink that is made for a damaged image.
-ROOM = cases.ROOM
+ROOM = 300_000
 # So many of the images with which damage begins are written here; more of it is theirs, since they are small.
 BY_HERE = 3
 MOST_BUILT_BYTES = 20_000

@@ -14,11 +14,14 @@
 //!     @codes N N ..     these bytes, as a part of the input
 //!     @reads N N ..     the numbers of the reads of the input that fail, in each call
 //!     @loads N N ..     the numbers of the loads and saves that fail, counted over all calls of the case
+//!     @fronts NAME      behind the calls, each front of what this file holds then is executed: 0 bytes, 1 byte, and so on
 //!     @output N M       the write of this number to the output fails after M bytes, in each call
 //!     @note N M         the write of this number to the notes fails after M bytes, in each call
+//!     @room N           the output and the notes take so many bytes each, in place of 1,000
 //!     @tokens N         no call: the source is a file of this number, and its tokens are told
 //!
 //! There are the files of these sources and no others. What a call left of its input is told too.
+use crate::fronts::tell_fronts;
 use crate::telling::{tell_bytes, tell_end, tell_left, tell_loads, tell_stack, tell_tokens};
 use fac_base::{Bytes, Duplicate, List, Memory, Text};
 use fac_io::{Files, MemFiles, MemSink, MemSource, Sink, Source};
@@ -27,7 +30,7 @@ use fac_tool::{Ended, factor_top};
 use std::alloc::Global;
 use std::mem;
 
-// The most bytes that a sink takes.
+// The most bytes that a sink takes, where no line says otherwise.
 const ROOM: u64 = 1000;
 
 /// A call of the tool.
@@ -43,8 +46,11 @@ pub struct Case {
     name: Text,
     source: Bytes,
     loads: List<u64>,
+    // The file whose fronts are executed.
+    fronts: Option<Text>,
     output: List<(u64, u64)>,
     note: List<(u64, u64)>,
+    room: u64,
     // The number of the file whose tokens are told.
     tokens: Option<u32>,
 }
@@ -156,9 +162,9 @@ fn called(
     tell_left(alloc, told, channels)
 }
 
-// A sink whose listed writes fail.
-fn sink(alloc: Global, fails: &List<(u64, u64)>) -> Result<MemSink, Memory> {
-    MemSink::new(alloc, ROOM, fails.copy(alloc)?)
+// A sink of this room whose listed writes fail.
+fn sink(alloc: Global, room: u64, fails: &List<(u64, u64)>) -> Result<MemSink, Memory> {
+    MemSink::new(alloc, room, fails.copy(alloc)?)
 }
 
 impl Case {
@@ -173,8 +179,10 @@ impl Case {
             name: Text::from_str(alloc, "a")?,
             source: Bytes::new(alloc),
             loads: List::new(alloc),
+            fronts: None,
             output: List::new(alloc),
             note: List::new(alloc),
+            room: ROOM,
             tokens: None,
         })
     }
@@ -229,10 +237,28 @@ impl Case {
             }
             "repeat" => push_times(&mut self.input, text),
             "codes" => push_bytes(&mut self.input, text),
+            _ => self.set_rest(alloc, name, text),
+        }
+    }
+
+    // Takes what a line with this name says of what fails, and of what is told.
+    fn set_rest(&mut self, alloc: Global, name: &str, text: &str) -> Result<bool, Memory> {
+        match name {
             "reads" => push_numbers(&mut self.reads, text),
             "loads" => push_numbers(&mut self.loads, text),
+            "fronts" => {
+                self.fronts = Some(Text::from_str(alloc, text)?);
+                Ok(true)
+            }
             "output" => push_pair(&mut self.output, text),
             "note" => push_pair(&mut self.note, text),
+            "room" => match text.parse::<u64>() {
+                Ok(room) => {
+                    self.room = room;
+                    Ok(true)
+                }
+                Err(_) => Ok(false),
+            },
             "tokens" => {
                 self.tokens = text.parse::<u32>().ok();
                 Ok(self.tokens.is_some())
@@ -276,9 +302,9 @@ impl Case {
         files: &mut MemFiles,
     ) -> Result<(), Memory> {
         let source = MemSource::new(self.input.copy(alloc)?, self.reads.copy(alloc)?);
-        let output = sink(alloc, &self.output)?;
+        let output = sink(alloc, self.room, &self.output)?;
         let mut channels = Channels::new(alloc, source, output);
-        let mut note = sink(alloc, &self.note)?;
+        let mut note = sink(alloc, self.room, &self.note)?;
         called(alloc, told, words, files, &mut channels, &mut note)
     }
 
@@ -289,6 +315,9 @@ impl Case {
         self.call(alloc, &mut told, self.words.as_slice(), &mut files)?;
         for words in self.others.as_slice() {
             self.call(alloc, &mut told, words.as_slice(), &mut files)?;
+        }
+        if let Some(name) = &self.fronts {
+            tell_fronts(alloc, &mut told, files.held(name.as_str()))?;
         }
         Ok(told)
     }

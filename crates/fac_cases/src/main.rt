@@ -12,10 +12,12 @@
 //! - printed text: values, and the note of each status but 12, which comes where memory is short;
 //! - faults: a file, a save, an input, an output and a note that fail at each place, and that nothing else is asked for;
 //! - the input: which lines are taken, and what is left;
+//! - images that are cut: each front of one;
 //! - large sources take little time: 4 MiB, 200,000 items, a million digits, 100,000,000 ticks.
 #![tactic(auto)]
 
 mod case;
+mod fronts;
 mod telling;
 
 use case::Case;
