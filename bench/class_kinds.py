@@ -126,9 +126,11 @@ class Hierarchy:
                 self.sketches.append(sketch)
 
     def slots(self, sketch):
-        """Some slots, of which the parents have none."""
+        """Some slots, of which the parents have none. By a slip a class may be a parent of itself."""
         taken = set()
-        while sketch is not None:
+        met = set()
+        while sketch is not None and sketch.name not in met:
+            met.add(sketch.name)
             taken.update(sketch.slots)
             sketch = next((one for one in self.sketches if one.name == sketch.parent), None)
         free = [slot for slot in SLOTS if slot not in taken]
