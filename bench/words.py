@@ -22,8 +22,8 @@ LINES = "docs/words.txt"
 WRITTEN = "docs/WORDS.md"
 WIDTH = 160
 
-# The files of the library, each behind those that it needs.
-LIBRARY = ["combinators", "sequences", "sorting", "assocs", "text"]
+# The files of the library whose words are told, each behind those that it needs. `unicode` has none for a program.
+LIBRARY = """combinators sequences sorting vectors assocs hashtables sets heaps dlists math bignums random text io testing""".split()
 
 HEAD = """\
 # Words
@@ -54,9 +54,9 @@ A program may define a word of such a name in a vocabulary of its own. In a voca
 LIBRARY_HEAD = """\
 ## Words of `lib/`
 
-These aren't part of the tool: a program names their files before its own, as `factorc run lib/sorting.factor a.factor`. `lib/assocs.factor` and
-`lib/text.factor` need `lib/sequences.factor` before them. Their tests, `lib/NAME-tests.factor`, are run by `examples/check.py`. Where Factor has a
-word of the name, it takes and leaves as many values there.
+These aren't part of the tool: a program names their files before its own, as `factorc run lib/sorting.factor a.factor`. Below each file stands which
+others it needs, in an order that serves. Their tests, `lib/NAME-tests.factor`, are run by `examples/check.py`. Where Factor has a word of the name, it takes
+and leaves as many values there, unless something else is said. `lib/unicode.factor` has characters for `lib/text.factor`, and no word for a program.
 """
 
 

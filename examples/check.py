@@ -32,13 +32,11 @@ TOP = os.path.realpath(os.path.join(os.path.dirname(os.path.abspath(__file__)), 
 sys.path.insert(0, os.path.join(TOP, "bench"))
 
 # The modules of the folder bench.
+import library as files  # noqa: E402
 import model  # noqa: E402
 import speed  # noqa: E402
 
 MOST_SECONDS = 20.0
-
-# The files of the library that others need before them.
-NEEDS = {"assocs": ["sequences"], "text": ["sequences"]}
 
 TUTORIAL = "docs/TUTORIAL.md"
 # The words behind `factor`, the text, the input, the words behind `text`, and what is written. None of the texts has a line that ends a block.
@@ -87,7 +85,7 @@ def programs():
         for name in sorted(os.listdir(os.path.join(TOP, folder))):
             tested = name.removesuffix("-tests.factor")
             if folder == "lib" and tested != name:
-                yield stored([f"lib/{needed}.factor" for needed in NEEDS.get(tested, []) + [tested]] + [f"lib/{name}"])
+                yield stored([f"lib/{needed}.factor" for needed in files.with_needs(tested)] + [f"lib/{name}"])
             elif folder == "examples" and name.endswith(".factor"):
                 yield stored([f"examples/{name}"])
     for number, found in enumerate(LISTING.finditer(read(TUTORIAL)), 1):

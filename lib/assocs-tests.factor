@@ -45,3 +45,23 @@ table [ 0 2array [ 1 + ] dip ] assoc-map .
 100 { { 1 10 } { 2 20 } } [ pick + ] assoc-map . .
 { { 1 10 } { 2 2 } { 3 30 } } [ < ] assoc-filter .
 { } [ < ] assoc-filter .
+
+! More words
+
+: counts ( -- assoc ) { { "a" 1 } { "b" 2 } } [ >array ] map ;
+
+counts "a" over [ 10 + ] change-at .
+counts "b" over inc-at .
+counts 5 "b" pick at+ .
+"a" counts [ drop "never" ] cache .
+"a" counts ?at . .
+"z" counts ?at . .
+{ } assoc-empty? .
+counts assoc-empty? .
+counts >alist .
+counts { { "b" 9 } } assoc-union! .
+counts [ nip even? ] assoc-find . . .
+counts [ nip 9 = ] assoc-find . . .
+counts [ nip 0 > ] assoc-all? .
+counts [ nip 1 > ] assoc-all? .
+counts [ nip 1 > ] assoc-any? .

@@ -40,3 +40,14 @@ f [ 7 ] unless* .
 : first-such ( ..a n quot: ( ..a n -- ..a ? ) -- ..a n )
     [ keep swap ] curry [ 1 + ] until ; inline
 10 [ 7 mod zero? ] first-such .
+
+! Several callables out of an array
+
+5 { [ . ] [ 1 + . ] } cleave
+5 6 { [ + . ] [ - . ] } 2cleave
+5 { } cleave
+
+! Values for callables
+
+10 3 2 [ - - ] 2with call .
+100 20 { 3 4 } [ - - ] 2with map .

@@ -1,8 +1,9 @@
-! More words that apply callables, by the names and effects that Factor has for them.
+! More words that apply callables, by the names and effects that Factor has for them. It needs no other file.
 !
 ! Those whose effects have no row variable are expanded where they are named, so they leave what their callables leave.
 
 IN: kernel
+USE: sequences
 
 ! One value or several, several callables
 
@@ -20,6 +21,13 @@ IN: kernel
 
 ! Runs three callables on `x`, `y` and `z`, one after another.
 : 3tri ( x y z p q r -- ) [ [ 3keep ] dip 3keep ] dip call ; inline
+
+! Runs each callable of an array on `x`. Factor's `cleave` takes callables that leave values; here, where an array isn't looked into before
+! the program runs, each has to leave none. What leaves values is `bi`, `tri`, `2bi` or `2tri`.
+: cleave ( x seq -- ) [ dupd call( x -- ) ] each drop ;
+
+! Runs each callable of an array on `x` and `y`. As `cleave`, it takes callables that leave nothing.
+: 2cleave ( x y seq -- ) [ [ 2dup ] dip call( x y -- ) ] each 2drop ;
 
 ! Several values, a callable for each
 
@@ -63,3 +71,8 @@ IN: kernel
 
 ! Runs the body before the first test: `do while` and `do until` run it at least once.
 : do ( pred body -- pred body ) dup 2dip ; inline
+
+! Values for callables
+
+! The callable that runs `quot` with `param1` and `param2` below the top value.
+: 2with ( param1 param2 obj quot -- obj curry ) with with ; inline

@@ -115,3 +115,74 @@ USING: kernel math sequences arrays splitting io math.parser prettyprint ;
 "key=value=x" "=" split1 . .
 "key" "=" split1 . .
 "=é" "=" split1 . .
+
+! More places and parts
+
+USING: grouping ;
+
+{ 5 6 7 8 } first3 . . .
+"añb" unclip-last . .
+"añb" 1 cut . .
+{ 1 2 3 } 0 cut . .
+{ 1 2 3 } 1 cut* . .
+"abc" 1 head* .
+"abc" 2 tail* .
+"b" "a" prepend .
+{ 1 } { 2 } { 3 } 3append .
+"b" "(" ")" surround .
+"a" "b" ", " glue .
+{ 1 2 3 } >array 0 2 pick exchange .
+{ 1 2 3 } >array 1 1 pick exchange .
+"a" "b" "c" 3array .
+1 2 3 4 4array .
+1 { 5 6 7 } remove-nth .
+0 "añ" remove-nth .
+"x" 1 { 5 6 } insert-nth .
+"x" 2 { 5 6 } insert-nth .
+
+! More loops
+
+{ 1 2 3 } 10 [ + ] accumulate . .
+{ } 10 [ + ] accumulate . .
+{ 1 2 3 } { 4 5 6 } 0 [ * + ] 2reduce .
+{ 1 2 } { 3 4 } [ < ] 2all? .
+{ 1 9 } { 3 4 } [ < ] 2all? .
+{ } { 1 } [ < ] 2all? .
+"ab" zip-index .
+{ 1 2 3 } [ "-" write ] [ number>string write ] interleave nl
+{ } [ "-" write ] [ number>string write ] interleave nl
+100 { 1 2 } [ 1 + ] [ + ] interleave .
+3 { 1 3 3 } last-index .
+7 { 1 3 3 } last-index .
+3 { 3 1 3 } indices .
+{ 1 2 } "ab" same-length? .
+
+! Parts of a length
+
+{ 1 2 3 4 5 } 2 group .
+"abcdef" 3 group .
+{ } 3 group .
+{ 1 2 3 4 } 2 clump .
+"abc" 3 clump .
+"ab" 3 clump .
+{ 1 1 1 } all-equal? .
+{ 1 2 1 } all-equal? .
+{ } all-equal? .
+{ 1 2 4 } [ < ] monotonic? .
+{ 1 2 2 } [ < ] monotonic? .
+{ } [ < ] monotonic? .
+
+! Parts between parts
+
+"a--b----c" "--" split-subseq .
+"---" "--" split-subseq .
+"" "--" split-subseq .
+"ab" "abc" split-subseq .
+{ 1 0 0 2 } { 0 0 } split-subseq .
+"one fish, two fish" "fish" "cat" replace .
+"aaa" "a" "aa" replace .
+"é-é" "é" "" replace .
+"abc" "x" "y" replace .
+{ "a" "b" "c" "d" "e" } "" join .
+{ "a" "b" "c" "d" "e" } "·" join .
+{ { 1 } { 2 } { 3 } } { } join .

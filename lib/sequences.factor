@@ -14,6 +14,9 @@ USING: kernel math arrays ;
 ! The first two elements.
 : first2 ( seq -- first second ) [ first ] [ second ] bi ;
 
+! The first three elements.
+: first3 ( seq -- first second third ) [ first2 ] [ third ] bi ;
+
 ! Whether the sequence has a place of this number.
 : bounds-check? ( n seq -- ? ) over 0 < [ 2drop f ] [ length < ] if ;
 
@@ -35,6 +38,33 @@ USING: kernel math arrays ;
 ! All elements but the first, and the first.
 : unclip ( seq -- rest first ) [ rest ] [ first ] bi ;
 
+! All elements but the last, and the last.
+: unclip-last ( seq -- headseq last ) [ but-last ] [ last ] bi ;
+
+! The first `n` elements, and those behind them.
+: cut ( seq n -- before after ) [ head ] 2keep tail ;
+
+! The first elements but the last `n`.
+: head* ( seq n -- headseq ) over length swap - head ;
+
+! The last `n` elements.
+: tail* ( seq n -- tailseq ) over length swap - tail ;
+
+! The elements but the last `n`, and these.
+: cut* ( seq n -- before after ) over length swap - cut ;
+
+! The elements of `seq2` and then those of `seq1`.
+: prepend ( seq1 seq2 -- newseq ) swap append ;
+
+! The elements of three sequences, one behind the other.
+: 3append ( seq1 seq2 seq3 -- newseq ) append append ;
+
+! The elements of `seq2`, of `seq1` and of `seq3`, one behind the other: `"b" "(" ")" surround` leaves `"(b)"`.
+: surround ( seq1 seq2 seq3 -- newseq ) swapd [ append ] dip append ;
+
+! The elements of `seq1`, of `seq3` and of `seq2`, one behind the other: `"a" "b" ", " glue` leaves `"a, b"`.
+: glue ( seq1 seq2 seq3 -- newseq ) swap append append ;
+
 ! An array of this element and the elements behind it.
 : prefix ( seq elt -- newseq ) 1array swap append ;
 
@@ -50,6 +80,10 @@ USING: kernel math arrays ;
 ! Replaces the element in this place by what the callable makes of it.
 : change-nth ( ..a i seq quot: ( ..a elt -- ..b newelt ) -- ..b )
     [ 2dup nth -rot ] dip -rot [ call ] 2dip set-nth ; inline
+
+! Exchanges the elements in two places of an array.
+:: exchange ( m n seq -- )
+    m seq nth n seq nth m seq set-nth n seq set-nth ;
 
 ! Two sequences, and places
 
@@ -83,6 +117,21 @@ PRIVATE>
 ! An array of what the callable makes of the elements of both sequences in each place, up to the end of the shorter one.
 : 2map ( ..a seq1 seq2 quot: ( ..a elt1 elt2 -- ..a newelt ) -- ..a newseq )
     (paired) map ; inline
+
+! As `reduce` with the elements of both sequences in each place, up to the end of the shorter one.
+: 2reduce ( ..a seq1 seq2 identity quot: ( ..a prev elt1 elt2 -- ..a next ) -- ..a result )
+    [ -rot ] dip 2each ; inline
+
+! What `reduce` leaves, and behind it an array of what the callable was handed with each element: the `identity` with the first one.
+: accumulate ( ..a seq identity quot: ( ..a prev elt -- ..a next ) -- ..a final newseq )
+    [ swap ] dip [ dip ] curry [ over ] prepose map ; inline
+
+! An array of pairs of each element and its place.
+: zip-index ( seq -- alist ) [ 2array ] map-index ;
+
+! Runs `quot` on each element, and `between` before each one but the first.
+:: interleave ( ..a seq between: ( ..a -- ..a ) quot: ( ..a elt -- ..a ) -- ..a )
+    seq [ zero? [ between dip ] unless quot call ] each-index ; inline
 
 ! An array of what the callable leaves at each of `len` runs.
 : replicate ( ..a len quot: ( ..a -- ..a newelt ) -- ..a newseq )
@@ -118,12 +167,24 @@ PRIVATE>
 : all? ( ..a seq quot: ( ..a elt -- ..a ? ) -- ..a ? )
     [ not ] compose (find) not ; inline
 
+! Whether the callable leaves `f` for no two elements in the same place of both sequences, up to the end of the shorter one.
+: 2all? ( ..a seq1 seq2 quot: ( ..a elt1 elt2 -- ..a ? ) -- ..a ? )
+    [ not ] compose (paired) (find) not ; inline
+
 ! Whether the callable leaves `f` for each element.
 : none? ( ..a seq quot: ( ..a elt -- ..a ? ) -- ..a ? )
     (find) not ; inline
 
 ! The first place of an element that is equal to `obj`; or `f`.
 : index ( obj seq -- n ) [ = ] with find drop ;
+
+! The last place of an element that is equal to `obj`; or `f`.
+: last-index ( obj seq -- n )
+    [ reverse index ] keep over [ length swap - 1 - ] [ drop ] if ;
+
+! An array of the places of elements that are equal to `obj`.
+: indices ( obj seq -- indices )
+    [ [ = ] with map ] keep length <iota> (select) ;
 
 ! Whether an element is equal to `obj`.
 : member? ( obj seq -- ? ) index not not ;
@@ -163,6 +224,15 @@ PRIVATE>
 ! The least of some integers.
 : minimum ( seq -- elt ) dup first [ min ] reduce ;
 
+! The sequence without the element in place `n`.
+:: remove-nth ( n seq -- newseq ) seq n head seq n 1 + tail append ;
+
+! An array with `elt` before the element in place `n`.
+: insert-nth ( elt n seq -- newseq ) swap cut [ swap suffix ] dip append ;
+
+! Whether both sequences have as many elements.
+: same-length? ( seq1 seq2 -- ? ) [ length ] bi@ = ;
+
 ! Runs `quot1` where there is no element, and otherwise `quot2` on the sequence.
 : if-empty ( ..a seq quot1: ( ..a -- ..b ) quot2: ( ..a seq -- ..b ) -- ..b )
     pick empty? [ drop nip call ] [ nip call ] if ; inline
@@ -171,22 +241,31 @@ PRIVATE>
 
 <PRIVATE
 
-! The sequences in the places 2 i and 2 i + 1, with `joint` between them; or that in the first one where it is the last.
-: (join-pair) ( i seq joint -- newseq )
-    [ [ 2 * ] dip over 1 + over bounds-check? ] dip swap
-    [ [ 2dup nth -rot [ 1 + ] dip nth ] dip swap [ append ] dip append ]
-    [ drop nth ] if ;
+! The sequences in the places from `from` up to `to`, of which there is one, one behind the other. Both halves are made in the same way.
+:: (concat) ( from to seq -- newseq )
+    to from - 3 < [
+        from seq nth to from - 1 > [ from 1 + seq nth append ] when
+    ] [
+        from to + 2 /i :> middle
+        from middle seq (concat) middle to seq (concat) append
+    ] if ;
 
-! Half as many sequences, each joined of two.
-: (join-pass) ( seq joint -- newseq )
-    over length 1 + 2 /i <iota> -rot [ (join-pair) ] 2curry map ;
+! The same, with `joint` between each two.
+:: (join) ( from to seq joint -- newseq )
+    to from - 1 = [ from seq nth ] [
+        from to + 2 /i :> middle
+        from middle seq joint (join) joint append
+        middle to seq joint (join) append
+    ] if ;
 
 PRIVATE>
 
 ! The sequences one behind the other, with `joint` between each two. Each element is copied once for each doubling of their number.
-: join ( seq joint -- newseq )
-    [ over length 1 > ] [ [ (join-pass) ] keep ] while
-    0 0 rot subseq swap dup empty? [ drop ] [ first swap append ] if ;
+:: join ( seq joint -- newseq )
+    0 0 joint subseq
+    seq empty? [
+        0 seq length seq joint empty? [ (concat) ] [ joint (join) ] if append
+    ] unless ;
 
 ! The sequences one behind the other; an array where there are none.
 : concat ( seq -- newseq )
@@ -196,17 +275,88 @@ PRIVATE>
 : map-concat ( ..a seq quot: ( ..a elt -- ..a newelts ) -- ..a newseq )
     map concat ; inline
 
+IN: arrays
+USING: kernel sequences ;
+
+! The array of these three.
+: 3array ( x y z -- array ) [ 2array ] dip suffix ;
+
+! The array of these four.
+: 4array ( w x y z -- array ) [ 2array ] 2dip 2array append ;
+
 IN: splitting
-USING: kernel math sequences ;
+USING: kernel math sequences sequences.private ;
+
+<PRIVATE
+
+! For each element whether it is in `separators`.
+:: (separates) ( seq separators -- flags )
+    separators length 1 =
+    [ separators first :> elt seq [ elt = ] map ]
+    [ seq [ separators member? ] map ] if ;
+
+PRIVATE>
 
 ! An array of the parts between the elements that are in `separators`. Two of them in a row have an empty part between them.
-: split ( seq separators -- pieces )
-    [ dup length <iota> over ] dip [ [ nth ] dip member? ] 2curry filter
-    over length suffix
-    0 swap rot [ over [ subseq ] dip 1 + swap ] curry map nip ;
+:: split ( seq separators -- pieces )
+    seq separators (separates) seq length <iota> (select) seq length suffix
+    0 swap [ [ seq subseq ] keep 1 + swap ] map nip ;
+
+<PRIVATE
+
+! Whether the elements of `part`, of which there is one, stand from place `i` on.
+:: (stands?) ( i seq part -- ? )
+    i seq nth part first =
+    [ i i part length + dup seq length > [ 2drop f ] [ seq subseq part = ] if ] [ f ] if ;
+
+! The places where the elements of `part` stand, of which each is behind the elements of the one before.
+:: (places) ( seq part -- places )
+    0 seq length <iota> [| free i |
+        free i > not [ i seq part (stands?) ] [ f ] if
+        [ i part length + t ] [ free f ] if
+    ] map nip seq length <iota> (select) ;
+
+PRIVATE>
+
+! An array of the parts between the places where the elements of `part` stand. Where `part` has no element, it is thrown.
+:: split-subseq ( seq part -- seqs )
+    part empty? [ part throw ] when
+    0 seq part (places) seq length suffix
+    [ [ seq subseq ] keep part length + swap ] map nip ;
 
 ! What stands before and behind the first place where the elements of `subseq` stand; or the sequence and `f`.
 : split1 ( seq subseq -- before after )
     2dup subseq-index dup
     [ swap length over + pick swap tail [ head ] dip ]
     [ 2drop f ] if ;
+
+! The sequence with `new` in place of each `old`.
+: replace ( seq old new -- newseq ) [ split-subseq ] dip join ;
+
+IN: grouping
+USING: kernel math sequences ;
+
+<PRIVATE
+
+! Fails unless `n`, the length of a part, is positive.
+: (check-part) ( n -- n ) dup 0 > [ dup throw ] unless ;
+
+PRIVATE>
+
+! An array of the parts of `n` elements, one behind the other. The last one may have fewer. Where `n` isn't positive, it is thrown.
+:: group ( seq n -- groups )
+    seq length n (check-part) 1 - + n /i <iota>
+    [ n * dup n + seq length min seq subseq ] map ;
+
+! An array of all parts of `n` elements, from each place on. Where `n` isn't positive, it is thrown.
+:: clump ( seq n -- clumps )
+    seq length n (check-part) - 1 + 0 max <iota>
+    [ dup n + seq subseq ] map ;
+
+! Whether all elements are equal.
+: all-equal? ( seq -- ? )
+    dup empty? [ drop t ] [ [ first ] keep [ = ] with all? ] if ;
+
+! Whether the callable doesn't leave `f` for each two elements that stand beside each other.
+: monotonic? ( ..a seq quot: ( ..a elt1 elt2 -- ..a ? ) -- ..a ? )
+    [ dup dup empty? [ rest ] unless ] dip 2all? ; inline

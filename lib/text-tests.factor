@@ -67,3 +67,13 @@ USING: kernel math sequences splitting strings ascii io math.parser prettyprint 
 "Größe 日本 xyz" >upper .
 "GRÖßE 日本 XYZ" >lower .
 "" >upper .
+
+! Characters that a text makes known
+
+"日本" add-characters 26085 1string .
+{ 26412 33 26085 } >string .
+"𝔸" add-characters 3 120120 <string> .
+"7" 3 26085 pad-head .
+1000 <iota> [ 26 mod 97 + ] map >string [ length . ] [ 999 swap nth . ] bi
+{ 100 32 9 10 13 11 } [ blank? ] map .
+"日本 xyz ÿ" >upper .

@@ -1,8 +1,10 @@
 ! Words on texts, by the names and effects that Factor has for them. It needs `lib/sequences.factor` before it.
 !
-! No word of the language makes a string of a code point. Here such strings are parts of the two tables below, so there are those of tab,
-! line feed, carriage return and the characters of ASCII and Latin-1 that one can see; another code point is thrown. Words that take
-! parts of a given string keep every character.
+! No word of the language makes a string of a code point: `append`, `subseq` and `reverse` make strings of strings, and `write` takes
+! strings alone, so no program can write single bytes either. Here strings of one character are parts of texts that are known. Those of tab,
+! line feed, carriage return and the characters of ASCII and Latin-1 that one can see are; with `lib/unicode.factor` all others from 1 to
+! 65535 and many pictures are; and `add-characters`, which Factor doesn't have, makes those of any text known, as of a line that was read.
+! Another code point is thrown. Words that take parts of a given string keep every character.
 
 IN: strings
 USING: arrays kernel math sequences ;
@@ -19,19 +21,67 @@ CONSTANT: (others)
 ! The string of the one character in this place.
 : (nth-string) ( n str -- newstr ) [ dup 1 + ] dip subseq ;
 
+! What is known: of each 256 code points `f` or an array of strings, with `f` for one that isn't known; and behind that of each 256 code
+! points `f` or the text of all of them, of which strings are made when one is asked for.
+CONSTANT: (known) { f f }
+
+! How many times 256 code points there are.
+CONSTANT: (row-count) 4352
+
+! The array in this place of what is known, which is made where there is none.
+:: (known-rows) ( n -- rows )
+    n (known) nth [ ] [ (row-count) f <array> dup n (known) set-nth ] if* ;
+
+! The strings of the 256 code points that this one is among.
+:: (row) ( ch -- row )
+    ch -8 shift :> n
+    n 0 (known-rows) nth [ ] [ 256 f <array> dup n 0 (known-rows) set-nth ] if* ;
+
+! Makes the string of one character known.
+:: (add) ( n str -- )
+    n str nth :> ch
+    n str (nth-string) ch 255 bitand ch (row) set-nth ;
+
 PRIVATE>
 
-! The string of this one character.
-: 1string ( ch -- str )
-    dup 32 - dup (ascii) bounds-check? [ nip (ascii) (nth-string) ]
-    [ drop dup (others) index [ nip (others) (nth-string) ] [ throw ] if* ] if ;
+! Makes the characters of the text known: from then on there are strings of each.
+: add-characters ( str -- ) dup length <iota> swap [ (add) ] curry each ;
+
+<PRIVATE
+
+! Makes the first characters known, where they aren't yet.
+: (begin) ( -- ) 0 (known) nth [ (ascii) add-characters (others) add-characters ] unless ;
+
+! Makes the 256 code points known that this one is among, where there is a text of them, which isn't looked at again.
+:: (ask) ( ch -- )
+    ch -8 shift :> n
+    n 1 (known-rows) nth [ add-characters f n 1 (known-rows) set-nth ] [ ] if* ;
+
+! The string of this one character, or `f`.
+:: (string-of) ( ch -- str/f )
+    ch 0 < ch 1114111 > or [ f ] [
+        (begin) ch 255 bitand ch (row) nth
+        [ ] [ ch (ask) ch 255 bitand ch (row) nth ] if*
+    ] if ;
+
+! The same of a character of ASCII in few steps, where the first characters are known.
+: (fast-string-of) ( ch ascii -- str/f )
+    over 128 < pick 0 >= and [ nth ] [ drop (string-of) ] if ;
+
+PRIVATE>
+
+! The string of this one character. A code point that isn't known is thrown.
+: 1string ( ch -- str ) dup (string-of) [ nip ] [ throw ] if* ;
 
 ! The string of `n` times this character.
 : <string> ( n ch -- string ) 1string <array> "" join ;
 
 ! The string of these characters.
-: >string ( seq -- str )
-    dup string? [ [ 1string ] map "" join ] unless ;
+:: >string ( seq -- str )
+    seq string? [ seq ] [
+        (begin) 0 (row) :> ascii
+        seq [ dup ascii (fast-string-of) [ nip ] [ throw ] if* ] map "" join
+    ] if ;
 
 IN: sequences
 USING: arrays kernel math strings ;
@@ -101,7 +151,8 @@ PRIVATE>
 : Letter? ( ch -- ? ) dup letter? swap LETTER? or ;
 
 ! Whether it is a space, a tab, a line feed or a carriage return.
-: blank? ( ch -- ? ) " \t\n\r" member? ;
+: blank? ( ch -- ? )
+    dup 32 = [ drop t ] [ [ 9 = ] [ 10 = ] [ 13 = ] tri or or ] if ;
 
 ! The capital letter of a small one; every other character is left as it is.
 : ch>upper ( ch -- upper ) dup letter? [ 32 - ] when ;
@@ -111,18 +162,17 @@ PRIVATE>
 
 <PRIVATE
 
-: (upper-at) ( n str -- newstr )
-    2dup nth letter? [ nth ch>upper 1string ] [ (nth-string) ] if ;
-
-: (lower-at) ( n str -- newstr )
-    2dup nth LETTER? [ nth ch>lower 1string ] [ (nth-string) ] if ;
+! The text with each character as the callable makes it. Strings of those that aren't known are parts of the text.
+:: (map-text) ( str quot: ( ch -- ch' ) -- newstr )
+    (begin) 0 (row) :> ascii
+    str length <iota> [
+        dup str nth quot call ascii (fast-string-of) [ nip ] [ str (nth-string) ] if*
+    ] map "" join ; inline
 
 PRIVATE>
 
 ! The text with capital letters in place of the small ones of ASCII.
-: >upper ( str -- upper )
-    dup length <iota> swap [ (upper-at) ] curry map "" join ;
+: >upper ( str -- upper ) [ ch>upper ] (map-text) ;
 
 ! The text with small letters in place of the capital ones of ASCII.
-: >lower ( str -- lower )
-    dup length <iota> swap [ (lower-at) ] curry map "" join ;
+: >lower ( str -- lower ) [ ch>lower ] (map-text) ;
