@@ -9,10 +9,16 @@ Each program is run by itself, as `PROGRAM run NAME.factor`, and each test of th
 `PROGRAM run lib/NAME.factor lib/NAME-tests.factor`. Its input is the file with its name and `.in`, or nothing where there is none. It has to
 write what the file with its name and `.out` has, and to end with status 0 and without a note.
 
-A listing of docs/TUTORIAL.md is a block that begins with "```factor", perhaps with the names of files of the library that it needs behind
+A listing of README.md and of docs/TUTORIAL.md is a block that begins with "```factor", perhaps with the names of files of the library that it needs behind
 that, and with the word `image` before them where it is built as an image too, which is executed then. It is run as `a.factor`, behind these.
 A block behind it that begins with "```input" is its input. The next block, which begins with "```text", has what it writes, with its note at
 the end, and behind that word `status=N` where it ends with another status than 0.
+
+An indented listing of docs/LANGUAGE.md is run as `a.factor`, behind all vocabularies where it uses none. Where the line behind it begins with "This prints",
+it has to write what stands between backticks in this sentence; otherwise it has to be accepted. PARTS are no programs by themselves.
+
+The table of README.md that says what to write instead has sources between backticks: the first one of its left column has to be refused by the
+grammar or as a name, and those of its right column that aren't one word have to be accepted. Both are run behind the whole library.
 
 An example of docs/REFUSALS.md is an item of a list that begins with a note and, behind `of`, a source, both between backticks. The source is run as
 `a.factor`, and has to write this note alone and to end with its status. Each text of the tables of notes has to stand in that document.
@@ -38,12 +44,23 @@ import speed  # noqa: E402
 
 MOST_SECONDS = 20.0
 
+README = "README.md"
 TUTORIAL = "docs/TUTORIAL.md"
+LANGUAGE = "docs/LANGUAGE.md"
 # The words behind `factor`, the text, the input, the words behind `text`, and what is written. None of the texts has a line that ends a block.
 BLOCK = rb"((?:(?!```)[^\n]*\n)*)```\n"
 LISTING = re.compile(
     rb"^```factor([^\n]*)\n" + BLOCK + rb"\n+(?:```input\n" + BLOCK + rb"\n+)?```text([^\n]*)\n" + BLOCK, re.MULTILINE
 )
+
+INDENTED = re.compile(r"\n\n((?:    [^\n]*\n|\n(?=    ))+)\n([^\n]*(?:\n[^\n]+)*)")
+ALL = "USING: kernel math math.parser sequences arrays io prettyprint combinators strings words accessors locals fry ;"
+# Listings that are parts: what they begin with, and the words that make a program of one, or nothing where it is no phrase at all.
+PARTS = {"( str: string n -- str )": None, "[ dup 100 < ] call": (": listing ( n -- str ) ", " ;")}
+
+INSTEAD = "| In Factor | Write instead |\n|---|---|\n"
+OF_LIBRARY = "combinators sequences sorting vectors assocs hashtables math text io".split()
+BEFORE_INSTEAD = f"{ALL[:-2]} assocs hashtables math.functions vectors ; TUPLE: point x y ; "
 
 REFUSALS = "docs/REFUSALS.md"
 EXAMPLE = re.compile(rb"^- `([^`\n]+)` of\s+`([^`\n]+)`", re.MULTILINE)
@@ -88,16 +105,53 @@ def programs():
                 yield stored([f"lib/{needed}.factor" for needed in files.with_needs(tested)] + [f"lib/{name}"])
             elif folder == "examples" and name.endswith(".factor"):
                 yield stored([f"examples/{name}"])
-    for number, found in enumerate(LISTING.finditer(read(TUTORIAL)), 1):
+    for page, number, found in ((page, *each) for page in (README, TUTORIAL) for each in enumerate(LISTING.finditer(read(page)), 1)):
         library, text, given, status, wanted = found.groups()
         names = library.decode().split()
         image = names[:1] == ["image"]
         names = names[image:]
         texts = {name: read(name) for name in names} | {"a.factor": text}
         status = int(status.partition(b"status=")[2] or 0)
-        yield Program(f"listing {number} of {TUTORIAL}", [*names, "a.factor"], texts, status, wanted, given or b"", image)
+        yield Program(f"listing {number} of {page}", [*names, "a.factor"], texts, status, wanted, given or b"", image)
     for note, text in EXAMPLE.findall(read(REFUSALS)):
         yield Program(f"the example {text.decode()} of {REFUSALS}", ["a.factor"], {"a.factor": text}, STATUSES[note.partition(b":")[0]], note + b"\n")
+
+
+def indented():
+    """The indented listings of LANGUAGE, as programs; one that is accepted alone or behind the one before it, where it writes nothing."""
+    before = ""
+    for number, found in enumerate(INDENTED.finditer(read(LANGUAGE).decode()), 1):
+        text = re.sub("^    ", "", found[1], flags=re.MULTILINE)
+        around = next((around for start, around in PARTS.items() if text.startswith(start)), ("", ""))
+        if around is None:
+            continue
+        told = re.match(r"This prints (.*?)[.:](?=\s|$)", found[2].replace("\n", " "))
+        wanted = "".join(line + "\n" for line in re.findall("`([^`]*)`", told[1])) if told else ""
+        whole = "" if "USING:" in text or "USE:" in text else ALL + "\n"
+        if text.startswith("1 2 account boa"):
+            text = before + text
+        yield Program(f"indented listing {number} of {LANGUAGE}", ["a.factor"], {"a.factor": (whole + text.join(around)).encode()}, 0, wanted.encode())
+        before = text
+
+
+def instead():
+    """The sources of the table of README that says what to write instead: each with whether it is to be accepted."""
+    for row in read(README).decode().partition(INSTEAD)[2].partition("\n\n")[0].split("\n"):
+        left, right = [re.findall("`([^`]*)`", part.replace(r"\|", "|")) for part in re.split(r"(?<!\\)\|", row)[1:3]]
+        yield from [(left[0], False)] + [(text, True) for text in right if " " in text]
+
+
+def misguided(built):
+    """What the table of README says wrongly."""
+    faults = []
+    names = [f"lib/{name}.factor" for name in OF_LIBRARY]
+    texts = {name: read(name) for name in names}
+    for text, accepted in instead():
+        program = Program(text, [*names, "a.factor"], texts | {"a.factor": f"{BEFORE_INSTEAD}{text}\n".encode()}, 0, b"")
+        status, told = run_model(program) if built is None else run_built(built, program)
+        if status not in ((0,) if accepted else (3, 4)):
+            faults.append(f"{README}: {text} ends with status {status}: {told.decode()}")
+    return faults
 
 
 def unexplained():
@@ -147,9 +201,9 @@ def difference(got, program):
 def main():
     on_model = sys.argv[1:] == ["--model"]
     built = None if on_model else speed.program_or(speed.DEFAULT)
-    failed = unexplained()
+    failed = unexplained() + misguided(built)
     count = 0
-    for program in programs():
+    for program in [*programs(), *indented()]:
         count += 1
         try:
             told = difference(run_model(program) if on_model else run_built(built, program), program)

@@ -13,18 +13,16 @@
 IN: kernel
 USING: arrays math sequences strings ;
 
-! The hash code of a value: a nonnegative integer of at most 32 bits. `depth` is how many levels of arrays are looked at.
+! The hash code of a value: a nonnegative integer of at most 31 bits. `depth` is how many levels of arrays are looked at.
 GENERIC: hashcode* ( depth obj -- code )
 
 <PRIVATE
 
-! A code of 32 bits in which each bit depends on many of the integer.
-: (mixed) ( n -- code )
-    dup 64 neg shift bitxor dup 32 neg shift bitxor 4294967295 bitand
-    2654435761 * dup 15 neg shift bitxor 4294967295 bitand ;
+! A code of 30 bits in which each bit depends on many of the integer: it is multiplied modulo a prime. The product has 59 bits.
+: (mixed) ( n -- code ) 1000000007 mod 387420489 * 1000000007 mod 1073741823 bitand ;
 
 ! The code of what has this code and of one more behind it.
-: (next-code) ( code n -- newcode ) swap 31 * + 4294967295 bitand ;
+: (next-code) ( code n -- newcode ) swap 31 * + 2147483647 bitand ;
 
 PRIVATE>
 
@@ -76,9 +74,11 @@ CONSTANT: most-buckets 524288
         [ 2nip ] [ next>> (search) ] if
     ] [ 2nip ] if ;
 
+! The entry with this key and code, or `f`.
+: (entry-with) ( key code hash -- entry/f ) over swap buckets>> (place) nth (search) ;
+
 ! The entry with this key, or `f`.
-: (entry-at) ( key hash -- entry/f )
-    over hashcode dup rot buckets>> (place) nth (search) ;
+: (entry-at) ( key hash -- entry/f ) over hashcode swap (entry-with) ;
 
 ! Puts the entry before all others of its list.
 :: (link) ( entry buckets -- )
@@ -95,15 +95,17 @@ CONSTANT: most-buckets 524288
     dup buckets>> dup length 2 * f <array>
     [ [ (link) ] curry [ (each-in-list) ] curry each ] keep >>buckets drop ;
 
-! Whether there are to be more lists.
-: (full?) ( hash -- ? )
-    [ count>> ] [ buckets>> length ] bi dup most-buckets < [ > ] [ 2drop f ] if ;
+! Adds an entry. Its key isn't there yet.
+:: (add) ( entry hash -- )
+    hash count>> 1 + dup hash count<<
+    hash buckets>> length dup most-buckets < [ > ] [ 2drop f ] if [ hash (rehash) ] when
+    entry hash buckets>> (link) ;
 
-! Adds an entry. The key isn't there yet.
-:: (add) ( value key hash -- )
-    hash count>> 1 + hash count<<
-    hash (full?) [ hash (rehash) ] when
-    key hashcode key value f entry boa hash buckets>> (link) ;
+! Gives the key this value.
+:: (put) ( value key hash -- )
+    key hashcode :> code
+    key code hash (entry-with)
+    [ value swap value<< ] [ code key value f entry boa hash (add) ] if* ;
 
 ! Takes the entry out of its list.
 :: (unlink) ( entry hash -- )
@@ -129,7 +131,7 @@ PRIVATE>
 
 M: hashtable at* (entry-at) [ value>> t ] [ f f ] if* ;
 
-M: hashtable set-at 2dup (entry-at) [ 2nip value<< ] [ (add) ] if* ;
+M: hashtable set-at (put) ;
 
 M: hashtable delete-at [ (entry-at) ] keep over [ (unlink) ] [ 2drop ] if ;
 
