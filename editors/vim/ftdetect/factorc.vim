@@ -1,0 +1,2 @@
+" Sources of factorc.
+autocmd BufRead,BufNewFile *.factor setfiletype factorc
