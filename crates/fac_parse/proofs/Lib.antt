@@ -12,3 +12,7 @@ pub mod ExamplesOfArrays
 pub mod ExamplesOfClasses
 pub mod ExamplesOfLocals
 pub mod ExamplesOfCalls
+pub mod NestingLemmas
+pub mod NestingReads
+pub mod NestedItems
+pub mod ExamplesOfNesting

@@ -1,4 +1,5 @@
 pub mod Contexts
 pub mod Trees
+pub mod Nesting
 pub mod Handed
 pub mod inner

@@ -1,4 +1,5 @@
 //! Laws of the grammar, each on the contract of a function that does nothing.
+ghost use Rattle.fac_parse.specs.Nesting.{ItemsNest, LiteralsNest, OneNesting};
 ghost use Rattle.fac_parse.specs.Trees.{OnePlace, OneTree, SomePlace, TreeOrNone};
 
 /// No two trees have the same tokens.
@@ -19,4 +20,20 @@ pub fn one_place()
 /// Tokens of no tree are refused at some place.
 pub fn some_place()
     ensures { SomePlace }
+{}
+
+/// The items of a form are those that nest well, and no others: what is said of levels, elements, locals and holes holds of what stands in each
+/// pair of brackets.
+pub fn items_nest()
+    ensures { ItemsNest }
+{}
+
+/// Likewise the literal of a constant.
+pub fn literals_nest()
+    ensures { LiteralsNest }
+{}
+
+/// Elements nest in one way.
+pub fn one_nesting()
+    ensures { OneNesting }
 {}
