@@ -122,13 +122,7 @@ fn runs_told(
 }
 
 // Runs an image, once or twice, and tells how each run ended.
-fn run(
-    alloc: Global,
-    image: Image,
-    said: &Said,
-    budget: u64,
-    again: bool,
-) -> Result<Text, Memory> {
+fn run(alloc: Global, image: Image, said: &Said, budget: u64, again: bool) -> Result<Text, Memory> {
     let mut machine = Machine::new(alloc, image)?;
     runs_told(alloc, &mut machine, said, budget, again)
 }
