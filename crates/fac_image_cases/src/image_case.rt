@@ -27,11 +27,12 @@
 //!     @input TEXT             a part of the input, with a `|` for each end of a line in it
 //!     @read N                 the read of the input with this number fails
 //!     @output N M             the write of this number fails after M bytes
+//!     @deepest                the runs from here on tell how many return entries they had at most
 //!     @run N M                runs the code from the place N, with M ticks
 //!     @twice N M              runs it so two times on one machine
 use crate::instructions::instr;
 use crate::told_rows::Rows;
-use crate::told_runs::told;
+use crate::told_runs::{told, told_deepest};
 use crate::told_tables::tables;
 use fac_base::{Bytes, List, Memory, Text};
 use fac_code::{Image, Instr};
@@ -46,12 +47,13 @@ const ROOM: u64 = 20;
 // The most ticks of a run that is tried with many collections too, since each of these goes through all that stands.
 const MOST_EAGER_TICKS: u64 = 10_000;
 
-// What a case says of input and output: the input, the reads of it that fail, and the writes that fail.
+// What a case says beside its image: the input, the reads of it that fail, the writes that fail, and whether it is told how deep runs go.
 #[derive(Drop)]
-struct SaidOfChannels {
+struct Said {
     input: Vec<u8>,
     reads: Vec<u64>,
     writes: Vec<(u64, u64)>,
+    is_deepest_told: bool,
 }
 
 /// An image, what its runs read, and the reads and writes that fail.
@@ -59,7 +61,7 @@ struct SaidOfChannels {
 pub struct Case {
     rows: Rows,
     code: Vec<Instr>,
-    said: SaidOfChannels,
+    said: Said,
 }
 
 // The two numbers of a text.
@@ -80,7 +82,7 @@ fn sink(alloc: Global, fails: &[(u64, u64)]) -> Result<MemSink, Memory> {
 }
 
 // The channels of a run.
-fn channels(alloc: Global, said: &SaidOfChannels) -> Result<Channels<MemSource, MemSink>, Memory> {
+fn channels(alloc: Global, said: &Said) -> Result<Channels<MemSource, MemSink>, Memory> {
     let bytes = Bytes::from_slice(alloc, said.input.as_slice())?;
     let fails = List::from_vec(Vec::from_slice(alloc, said.reads.as_slice())?)?;
     let output = sink(alloc, said.writes.as_slice())?;
@@ -91,12 +93,16 @@ fn channels(alloc: Global, said: &SaidOfChannels) -> Result<Channels<MemSource, 
 fn run_told(
     alloc: Global,
     machine: &mut Machine,
-    said: &SaidOfChannels,
+    said: &Said,
     budget: u64,
 ) -> Result<Text, Memory> {
     let mut channels = channels(alloc, said)?;
     let stop = machine.run(alloc, &mut channels, budget);
-    told(alloc, stop, machine, channels.output().taken())
+    let mut end = told(alloc, stop, machine, channels.output().taken())?;
+    if said.is_deepest_told {
+        end.push_str(told_deepest(alloc, machine)?.as_str())?;
+    }
+    Ok(end)
 }
 
 // Lets a machine run, once or twice, and tells how each run ended. Each has channels of its own: it reads the input from its start, and its writes are
@@ -104,7 +110,7 @@ fn run_told(
 fn runs_told(
     alloc: Global,
     machine: &mut Machine,
-    said: &SaidOfChannels,
+    said: &Said,
     budget: u64,
     again: bool,
 ) -> Result<Text, Memory> {
@@ -116,13 +122,7 @@ fn runs_told(
 }
 
 // Runs an image, once or twice, and tells how each run ended.
-fn run(
-    alloc: Global,
-    image: Image,
-    said: &SaidOfChannels,
-    budget: u64,
-    again: bool,
-) -> Result<Text, Memory> {
+fn run(alloc: Global, image: Image, said: &Said, budget: u64, again: bool) -> Result<Text, Memory> {
     let mut machine = Machine::new(alloc, image)?;
     runs_told(alloc, &mut machine, said, budget, again)
 }
@@ -131,7 +131,7 @@ fn run(
 fn run_eagerly(
     alloc: Global,
     image: Image,
-    said: &SaidOfChannels,
+    said: &Said,
     budget: u64,
     again: bool,
 ) -> Result<Text, Memory> {
@@ -156,10 +156,11 @@ impl Case {
         Case {
             rows: Rows::new(alloc),
             code: Vec::new(alloc),
-            said: SaidOfChannels {
+            said: Said {
                 input: Vec::new(alloc),
                 reads: Vec::new(alloc),
                 writes: Vec::new(alloc),
+                is_deepest_told: false,
             },
         }
     }
@@ -172,6 +173,7 @@ impl Case {
                 ("run", text) => return self.run(alloc, text, false),
                 ("twice", text) => return self.run(alloc, text, true),
                 ("about", _) => true,
+                ("deepest", _) => self.tell_deepest(),
                 ("input", text) => self.add_input(text)?,
                 ("read", text) => self.add_read(text)?,
                 ("output", text) => self.add_output(text)?,
@@ -190,6 +192,12 @@ impl Case {
             self.code.push(next)?;
         }
         Ok(true)
+    }
+
+    // Has runs tell how many return entries they had at most.
+    fn tell_deepest(&mut self) -> bool {
+        self.said.is_deepest_told = true;
+        true
     }
 
     // Adds a part of the input.
