@@ -15,6 +15,7 @@ pub mod EffectRows
 pub mod DirectUses
 pub mod ListedLemmas
 pub mod Composing
+pub mod CountLemmas
 pub mod ExecutedLemmas
 pub mod ListingLemmas
 pub mod CarriedRuns
