@@ -1,3 +1,4 @@
+pub mod BuiltRuns
 mod Causes
 pub mod EarlyEnds
 pub mod EndLemmas
