@@ -79,8 +79,8 @@ module _ (names : List (List ℕ)) (image : List ℕ) (built : FilesSeen) (unrea
       let sources = come_to b.does.sources in
       elim b.does.ends [
         | inl answers ↦
-          let ends = subst (λ (s : ℕ). EndsBy (ending_of s) (answer_on (saving image).answer sources answers.ends.input) (work_of (saving image).work (accepted sources) answers.ends.input) unwritten unread answers.ends.left reached) done answers.ends.holds.ends in
-          absurd (sources_fail image sources answers.ends.input (sym ends.0.status ∙ done))
+            let ends = subst (λ (s : ℕ). EndsBy (ending_of s) (answer_on (saving image).answer sources answers.ends.input) (work_of (saving image).work (accepted sources) answers.ends.input) unwritten unread answers.ends.left reached) done answers.ends.holds.ends in
+            absurd (sources_fail image sources answers.ends.input (sym ends.0.status ∙ done))
         | inr saves ↦ record {
           loaded = b;
           P = saves.P;
