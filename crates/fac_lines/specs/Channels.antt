@@ -2,7 +2,7 @@
 use Rattle.std.specs.Prelude.{◌≡◌, ◌≤◌, ℕ, List, Bool, Result, IsErr, OnOk, refl}
 use Rattle.std.specs.declared.option.Option.{Option}
 use Rattle.std.specs.Coded.{Coded, code_by, coded×, coded_ℕ, coded_list, coded_bool, coded_option}
-use Rattle.fac_io.specs.Faults.{HasCause}
+use Rattle.fac_io.specs.Faults.{HasCause, Rose}
 use Rattle.fac_io.specs.Told.{SinkTold, Took}
 use Rattle.fac_lines.specs.declared.line_fault.LineFault.{LineFault}
 use Rattle.fac_lines.specs.Inputs.{InputTold, ReadsInput}
@@ -29,15 +29,31 @@ channels_code =
 abbrev pub OnChannels : ChannelsTold → ChannelsTold → (SinkTold → SinkTold → List ℕ → List ℕ → Type 0) → Type 0
 OnChannels before now Holds = ReadsInput before.input now.input (Holds before.output now.output)
 
--- No count of faults fell. Where it is answered that the input failed its count rose, and where it is answered that the output failed that one's.
-pub record CountsFaults (before now : ChannelsTold) (InputFailed OutputFailed : Type 0) : Type 0 where
-  pub input : HasCause before.input_faults now.input_faults InputFailed
-  pub output : HasCause before.output_faults now.output_faults OutputFailed
+-- A count rose where a fault was answered, and is as it was where none was.
+pub record CountsFault (before now : ℕ) (Answered : Type 0) : Type 0 where
+  pub later : before ≤ now
+  pub cause : Answered → Rose before now
+  pub stays : (Answered → ⊥) → now ≡ before
 
--- no count of faults fell
+-- so of the input, where it is answered that it failed, and of the output
+pub record CountsFaults (before now : ChannelsTold) (InputFailed OutputFailed : Type 0) : Type 0 where
+  pub input : CountsFault before.input_faults now.input_faults InputFailed
+  pub output : CountsFault before.output_faults now.output_faults OutputFailed
+
+-- no count of faults changed
 pub record CountsStand (before now : ChannelsTold) : Type 0 where
-  pub input : before.input_faults ≤ now.input_faults
-  pub output : before.output_faults ≤ now.output_faults
+  pub input : now.input_faults ≡ before.input_faults
+  pub output : now.output_faults ≡ before.output_faults
+
+-- a count didn't fall, and is as it was unless a fault was answered
+pub record StaysUnless (before now : ℕ) (Answered : Type 0) : Type 0 where
+  pub later : before ≤ now
+  pub stays : (Answered → ⊥) → now ≡ before
+
+-- so of the input and the output
+pub record CountsStayUnless (before now : ChannelsTold) (InputFailed OutputFailed : Type 0) : Type 0 where
+  pub input : StaysUnless before.input_faults now.input_faults InputFailed
+  pub output : StaysUnless before.output_faults now.output_faults OutputFailed
 
 -- nothing was written, and no write failed
 pub record IsUnwritten (before now : ChannelsTold) : Type 0 where

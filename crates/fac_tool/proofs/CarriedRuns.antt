@@ -1,6 +1,6 @@
 -- The run of an image that carries a program is the program's.
-use Rattle.std.proofs.Common.{◌≡◌, ◌-◌, ℕ, List, [], None, Some, refl, ap, subst, ◌∙◌}
-use Rattle.std.specs.Prelude.{slice_get}
+use Rattle.std.proofs.Common.{◌≡◌, ◌-◌, ℕ, List, [], None, Some, inl, inr, refl, ap, subst, ◌∙◌}
+use Rattle.std.specs.Prelude.{◌⊎◌, slice_get}
 use Rattle.std.specs.declared.option.Option.{Option}
 use Rattle.std.specs.Option.{option_map}
 use Rattle.fac_lang.specs.declared.program.Program.{Program}
@@ -27,14 +27,14 @@ use Rattle.fac_tool.specs.declared.ended.Ended.{Ended}
 use Rattle.fac_notes.specs.Told.{shown, error_report}
 use Rattle.fac_tool.specs.Answer.{Answer, meaning, of_run, run_answer}
 use Rattle.fac_tool.specs.SeenObjects.{SinkSeen, InputSeen}
-use Rattle.fac_tool.specs.Ends.{Ending, Told, Usage, FileFault, InputFault, WriteFault, TooLong, NoMemory, ending_of, Matches, EndsBy, EndsAs, runs, StopsWithin}
-use Rattle.fac_tool.specs.Executed.{fresh_held, image_shown, of_end, ExecutesWithin, ExecutesBy, Executes}
+use Rattle.fac_tool.specs.Ends.{Ending, Told, Usage, FileFault, InputFault, WriteFault, TooLong, NoMemory, ending_of, Matches, EndsBy, EndsAs, WantedInRun, WantedBehind, runs, StopsWithin}
+use Rattle.fac_tool.specs.Executed.{fresh_held, image_shown, of_end, ExecutesWithin, WantedIn, ExecutesBy, Executes}
 use Rattle.fac_tool.specs.inner.Stops.{Carried, first_state}
 use Rattle.fac_tool.specs.inner.StepEnds.{EndsRun}
 use Rattle.fac_tool.specs.inner.ImageSteps.{RunsImage}
 use Rattle.fac_tool.proofs.EndLemmas.{text_same, stack_same}
 use Rattle.fac_tool.proofs.StopLemmas.{EndsSame, begins, same_end, within}
-use Rattle.fac_tool.proofs.PieceLemmas.{run_pieces, front_pieces, asked_in_tick}
+use Rattle.fac_tool.proofs.PieceLemmas.{run_pieces, front_pieces, asked_in_tick, fault_left, wanted_at}
 
 -- the vocabulary and the name of a word, by its row in an image and as it is defined
 abbrev row_pair : Image → WordRow → List ℕ × List ℕ
@@ -112,6 +112,10 @@ module _ (one_end : RunsHaveOneEnd) (law : PrintedFormsAreEqual) (P : Program) (
   stops_within : (ticks : ℕ) → ExecutesWithin M budget input ticks out → StopsWithin P input budget ticks out
   stops_within ticks h = within one_end P M input budget (fresh_held M) ticks out carries begin h.within h.reaches
 
+  wanted_in : (ticks : ℕ) → WantedIn M budget input left ticks out → WantedInRun P input left ticks out ⊎ WantedBehind (run_answer P input budget) left ticks out
+  wanted_in ticks (inl at) = inl (wanted_at one_end P M input carries (fresh_held M) begin ticks out left at)
+  wanted_in ticks (inr behind) = inr (subst (λ (a : Answer). WantedBehind a left ticks out) (same_answer behind.0 behind.1) behind.2)
+
   ends_by : (ended : Ended) (k : Ending) → ExecutesBy k M budget input left seen out ended → EndsBy k (run_answer P input budget) (runs P input budget) out seen left ended
   ends_by ended Told h = (
     subst (λ (a : Answer). Matches a out left ended) (same_answer h.0 h.1) h.2,
@@ -120,7 +124,11 @@ module _ (one_end : RunsHaveOneEnd) (law : PrintedFormsAreEqual) (P : Program) (
   ends_by ended WriteFault h = (
     h.0,
     h.1,
-    record { stops = stops_within ended.ticks h.2; front = front_pieces one_end P M input carries (fresh_held M) begin ended.ticks out h.3 },
+    record {
+      stops = stops_within ended.ticks h.2;
+      front = front_pieces one_end P M input carries (fresh_held M) begin ended.ticks out h.3;
+      rest = fault_left one_end P M input carries (fresh_held M) begin h.4.0 ended.ticks left h.4.1;
+    },
   )
   ends_by ended InputFault h = (
     h.0,
@@ -133,7 +141,11 @@ module _ (one_end : RunsHaveOneEnd) (law : PrintedFormsAreEqual) (P : Program) (
   )
   ends_by ended NoMemory h = (
     h.0,
-    record { stops = stops_within ended.ticks h.1; pieces = run_pieces one_end P M input carries (fresh_held M) begin ended.ticks out stop.Memory [] h.2 h.2.only_at_fault },
+    record {
+      stops = stops_within ended.ticks h.1;
+      pieces = run_pieces one_end P M input carries (fresh_held M) begin ended.ticks out stop.Memory [] h.2 h.2.only_at_fault;
+      wanted = inr (wanted_in ended.ticks h.3);
+    },
   )
   ends_by ended Usage h = h
   ends_by ended FileFault h = h

@@ -17,7 +17,7 @@ use Rattle.fac_tool.specs.Plans.{Task, SavesTask, DoesOnSources, DoesOnImage, ch
 use Rattle.fac_tool.specs.Answers.{Tells, ReachesBy, AnswersBy, TellsUsage, numbered_names}
 
 -- a status that is neither a write fault nor want of memory is the one that was reached
-status-Tells : (n : ℕ) (names : List (List ℕ)) (reached : Ended) (notes : SinkSeen) (ended : Ended) → n ≢ 10 → n ≢ 12 → Tells names reached notes ended → ended.status ≡ n → reached.status ≡ n
+pub status-Tells : (n : ℕ) (names : List (List ℕ)) (reached : Ended) (notes : SinkSeen) (ended : Ended) → n ≢ 10 → n ≢ 12 → Tells names reached notes ended → ended.status ≡ n → reached.status ≡ n
 status-Tells n names reached notes ended a b (inl (inl whole)) e = ap (λ (x : Ended). x.status) (sym whole.same) ∙ e
 status-Tells n names reached notes ended a b (inl (inr part)) e = absurd (a (sym e ∙ part.status))
 status-Tells n names reached notes ended a b (inr none) e =

@@ -91,7 +91,7 @@ reaches_early law whole names task files texts still (Err other) ended same load
     let work : List ℕ → Work = work_of task.work (accepted (come_to read.sources)) in
     let answers : AnswersTask task (come_to read.sources) (since files (told_behind files)) (input_seen still still) (output_seen still still) ended = record {
       kept = kept_behind files;
-      ends = on_still still (λ input. record { ends = read.ends task.answer input (work input) still.output still.output_faults (input_seen still still); unread = unread_by (work input) still });
+      ends = on_still still (λ input. record { ends = read.ends task.answer input (work input) still.output still.output_faults (input_seen still still) (still_unread still); unread = unread_by (work input) still });
     } in
     let early : Loaded (on_sources names task) files (input_seen still still) (output_seen still still) ended = record {
       texts = texts;

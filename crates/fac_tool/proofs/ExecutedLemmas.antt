@@ -1,5 +1,5 @@
 -- The run of a fresh machine of an image is what `exec` answers.
-use Rattle.std.proofs.Common.{◌≡◌, ◌+◌, ◌-◌, ◌≤◌, ℕ, List, [], ◌∷◌, map, reverse, None, Some, refl, ap, ap₂, sym, subst, ◌∙◌, arith}
+use Rattle.std.proofs.Common.{◌≡◌, ◌+◌, ◌-◌, ◌≤◌, ℕ, List, [], ◌∷◌, map, reverse, None, Some, inl, inr, refl, ap, ap₂, sym, subst, ◌∙◌, arith}
 use Rattle.std.specs.declared.option.Option.{Option}
 use Rattle.std.specs.Option.{option_map}
 use Rattle.fac_io.specs.Faults.{Rose}
@@ -26,7 +26,7 @@ use Rattle.fac_notes.specs.WordNames.{image_word_name}
 use Rattle.fac_tool.specs.declared.ended.Ended.{Ended}
 use Rattle.fac_tool.specs.SeenObjects.{SinkSeen, InputSeen, OnInput}
 use Rattle.fac_notes.specs.Told.{shown_text}
-use Rattle.fac_tool.specs.Executed.{fresh_held, image_shown, ExecutesWithin}
+use Rattle.fac_tool.specs.Executed.{fresh_held, image_shown, ExecutesWithin, WantedIn}
 use Rattle.fac_tool.specs.inner.StepEnds.{bare, reported}
 use Rattle.fac_tool.specs.inner.Stops.{IsFresh, AreStackTexts, IsTextOf}
 use Rattle.fac_tool.specs.inner.ImageSteps.{IsImageReportOf, RunsFirst, RunsImage}
@@ -147,20 +147,28 @@ module _ (M : Image) (machine : MachineSeen) (budget ticks : ℕ) (seen : InputS
       (what : StopKind) (ended : Ended) → what ≡ stop.WriteFault → Rose out.faults_before out.faults_now → ended ≡ bare 10 ticks → Stopped what → RunsImage M budget seen out ended input left
   write_fault_execution what ended is rose e r =
       let first = subst Stopped is r in
-      subst (λ (ended : Ended). RunsImage M budget seen out ended input left) (sym e) (record { within = first.within; ends = (rose, record { stack = refl; refusal = refl }, first.within, first.runs.pieces) })
+      subst (λ (ended : Ended). RunsImage M budget seen out ended input left) (sym e) (record { within = first.within; ends = (rose, record { stack = refl; refusal = refl }, first.within, first.runs.pieces, (held_in machine, first.runs.runs)) })
 
   -- memory was wanted in the run, or behind it for what is told
-  memory_behind : (ended : Ended) → ended ≡ bare 12 ticks → ExecutesWithin M budget input ticks out → Pieces stop.Memory → RunsImage M budget seen out ended input left
-  memory_behind ended e within pieces = subst (λ (ended : Ended). RunsImage M budget seen out ended input left) (sym e) (record { within = within; ends = (record { stack = refl; refusal = refl }, within, pieces) })
+  memory_behind : (ended : Ended) → ended ≡ bare 12 ticks → ExecutesWithin M budget input ticks out → Pieces stop.Memory → WantedIn M budget input left ticks out → RunsImage M budget seen out ended input left
+  memory_behind ended e within pieces wanted = subst (λ (ended : Ended). RunsImage M budget seen out ended input left) (sym e) (record { within = within; ends = (record { stack = refl; refusal = refl }, within, pieces, wanted) })
 
   pub memory_execution : (what : StopKind) (ended : Ended) → what ≡ stop.Memory → ended ≡ bare 12 ticks → Stopped what → RunsImage M budget seen out ended input left
-  memory_execution what ended is e r = let first = subst Stopped is r in memory_behind ended e first.within first.runs.pieces
+  memory_execution what ended is e r = let first = subst Stopped is r in memory_behind ended e first.within first.runs.pieces (inl first.runs.runs.1)
 
   pub no_stack_texts : (what : StopKind) (ended : Ended) → what ≡ stop.Done → ended ≡ bare 12 ticks → Stopped what → RunsImage M budget seen out ended input left
-  no_stack_texts what ended is e r = let first = subst Stopped is r in memory_behind ended e first.within (pieces_as stop.Done stop.Memory (λ ps last none. none) first.runs.pieces)
+  no_stack_texts what ended is e r =
+      let first = subst Stopped is r in
+      let h = first.runs.runs in
+      memory_behind ended e first.within (pieces_as stop.Done stop.Memory (λ ps last none. none) first.runs.pieces)
+      (inr (done h.0 h.1, h.4.1, record { used = left_is ticks h.1 budget h.2; output = h.3; rest = sym h.4.2 }))
 
   pub no_report : (err : RunError) (what : StopKind) (ended : Ended) → what ≡ stop.Failed err → ended ≡ bare 12 ticks → Stopped what → RunsImage M budget seen out ended input left
-  no_report err what ended is e r = let first = subst Stopped is r in memory_behind ended e first.within (pieces_as (stop.Failed err) stop.Memory (λ ps last none. none) first.runs.pieces)
+  no_report err what ended is e r =
+      let first = subst Stopped is r in
+      let h = first.runs.runs in
+      memory_behind ended e first.within (pieces_as (stop.Failed err) stop.Memory (λ ps last none. none) first.runs.pieces)
+      (inr (failed (renamed_error h.4.0 (error_of (callables_in machine) err)) h.0 h.1, h.4.1, record { used = left_is ticks h.1 budget h.2; output = h.3; rest = sym h.4.2 }))
 
 -- a run that is done has its answer
 pub done_on :

@@ -1,3 +1,4 @@
+pub mod BuiltRuns
 mod Causes
 pub mod EarlyEnds
 pub mod EndLemmas
@@ -15,6 +16,7 @@ pub mod EffectRows
 pub mod DirectUses
 pub mod ListedLemmas
 pub mod Composing
+pub mod CountLemmas
 pub mod ExecutedLemmas
 pub mod ListingLemmas
 pub mod CarriedRuns

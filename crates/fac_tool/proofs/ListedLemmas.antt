@@ -9,7 +9,7 @@ use Rattle.fac_lang.specs.declared.program.Program.{Program}
 use Rattle.fac_lang.specs.Phrases.{Value}
 use Rattle.fac_lang.specs.World.{State}
 use Rattle.fac_lang.specs.Eval.{Result as Run, Done, Failed, Spent, Stuck}
-use Rattle.fac_lines.specs.Channels.{ChannelsTold, CountsStand, IsUnread as AreUnread}
+use Rattle.fac_lines.specs.Channels.{ChannelsTold, IsUnread as AreUnread}
 use Rattle.fac_locals.specs.declared.closing.Closed.{Closed}
 use Rattle.fac_tool.specs.declared.ended.Ended.{Ended}
 use Rattle.fac_notes.specs.Told.{shown, stack_lines}
@@ -58,7 +58,7 @@ no_lines P input budget answer out seen left reached TooLong none h = h
 no_lines P input budget answer out seen left reached NoMemory none h = h
 
 -- one with a stack is that of a run which is done
-has_stack :
+pub has_stack :
     (P : Program) (input : List ℕ) (budget : ℕ) (answer : Answer) (out : SinkSeen) (seen : InputSeen) (left : List ℕ) (reached : Ended) (texts : List (List ℕ)) (e : Ending) →
     reached.stack ≡ Some texts → EndsBy e answer (runs P input budget) out seen left reached → (e ≡ Told) × Matches answer out left reached × RunPieces P input reached.ticks [] out
 has_stack P input budget answer out seen left reached texts Told some h = (refl, h.0, h.1)
@@ -91,7 +91,7 @@ done_of P budget texts Stuck e = absurd (cc)
 -- the write of its lines fails
 lists_front :
     (P : Program) (input : List ℕ) (budget : ℕ) (b m n : SinkTold) (i j k : ℕ) (left : List ℕ) (reached ended : Ended) (texts : List (List ℕ)) → reached.stack ≡ Some texts →
-    Matches (run_answer P input budget) (sink b m i j) left reached → RunPieces P input reached.ticks [] (sink b m i j) → NotePart (stack_lines texts) reached (sink m n j k) ended → FaultBehindRun P input budget ended.ticks (sink b n i k)
+    Matches (run_answer P input budget) (sink b m i j) left reached → RunPieces P input reached.ticks [] (sink b m i j) → NotePart (stack_lines texts) reached (sink m n j k) ended → FaultBehindRun P input budget left ended.ticks (sink b n i k)
 lists_front P input budget b m n i j k left reached ended texts some h pieces part =
     let there : (run_answer P input budget).stack ≡ Some texts = sym h.stack ∙ some in
     let done = done_of P budget texts (meaning P input budget) there in
@@ -109,6 +109,7 @@ lists_front P input budget b m n i j k left reached ended texts some h pieces pa
       most = part.note_is.most;
       taken = grows_on b.taken m.taken n.taken _ (take part.note_is.count (stack_lines texts)) _ (ap (λ (a : Answer). a.output ++ take part.note_is.count (stack_lines texts)) answer) h.output front.taken;
       pieces = subst (λ (t : ℕ). RunPieces P input t (take part.note_is.count (stack_lines texts)) (sink b n i k)) (sym part.ticks) (pieces_on P input reached.ticks _ b m n i j k pieces front);
+      rest = h.rest ∙ ap (λ (a : Answer). a.left) answer;
     }
 
 rose_later : (i j k : ℕ) → i ≤ j → Rose j k → Rose i k
@@ -118,7 +119,7 @@ lists_some :
     (P : Program) (input : List ℕ) (budget : ℕ) (b m n : SinkTold) (i j k : ℕ) (seen : InputSeen) (left : List ℕ) (reached ended : Ended) (texts : List (List ℕ)) → i ≤ j → reached.stack ≡ Some texts → StopsWithin P input budget reached.ticks (sink b m i j) →
     (ending_of reached.status ≡ Told) × Matches (run_answer P input budget) (sink b m i j) left reached × RunPieces P input reached.ticks [] (sink b m i j) → Lists (Some texts) reached (sink m n j k) ended → EndsAs (stack_answer P input budget) (runs_and_lists P input budget) (sink b n i k) seen left ended
 lists_some P input budget b m n i j k seen left reached ended texts le some within done (inl none) =
-    let memory : EndsAs (stack_answer P input budget) (runs_and_lists P input budget) (sink b m i j) seen left (bare 12 reached.ticks) = (record { stack = refl; refusal = refl }, record { stops = within; pieces = done.2 }) in
+    let memory : EndsAs (stack_answer P input budget) (runs_and_lists P input budget) (sink b m i j) seen left (bare 12 reached.ticks) = (record { stack = refl; refusal = refl }, record { stops = within; pieces = done.2; wanted = inr (inr (record { used = done.1.ticks; output = done.1.output; rest = done.1.rest })) }) in
     let told : n ≡ m = ap (λ (o : SinkSeen). o.now) none.0 in
     let count : k ≡ j = ap (λ (o : SinkSeen). o.faults_now) none.0 in
     subst (λ (x : Ended). EndsAs (stack_answer P input budget) (runs_and_lists P input budget) (sink b n i k) seen left x) (sym none.1)
@@ -152,15 +153,15 @@ ends_listed P input budget b m n i j k seen left reached ended le within ends h 
 
 -- likewise on one input, for each program that a closed one stands for
 pub lists_on :
-    (closed : Closed) (budget : ℕ) (old mid new : ChannelsTold) (reached ended : Ended) → AreUnread mid new → CountsStand old mid →
+    (closed : Closed) (budget : ℕ) (old mid new : ChannelsTold) (reached ended : Ended) → AreUnread mid new → old.output_faults ≤ mid.output_faults →
     OnInput (input_seen old mid) (λ input left. (P : Program) → StandsForSafe closed P → EndsRun P budget (output_seen old mid) (input_seen old mid) reached input left) → ListsStack reached (output_seen mid new) ended →
     OnInput (input_seen old new) (λ input left. (P : Program) → StandsForSafe closed P → EndsOn (λ bytes. stack_answer P bytes budget) (λ bytes. runs_and_lists P bytes budget) (output_seen old new) (input_seen old new) ended input left)
-lists_on closed budget old mid new reached ended unread counts ran lists =
+lists_on closed budget old mid new reached ended unread later ran lists =
     let out = output_seen old new in
     subst (λ (seen : InputSeen). OnInput seen (λ input left. (P : Program) → StandsForSafe closed P → EndsOn (λ bytes. stack_answer P bytes budget) (λ bytes. runs_and_lists P bytes budget) out seen ended input left)) (same_input old mid new unread)
     (onward (λ input left h P stands.
     let run = h P stands in
     record {
-      ends = ends_listed P input budget old.output mid.output new.output old.output_faults mid.output_faults new.output_faults (input_seen old mid) left reached ended counts.output run.within run.ends lists;
+      ends = ends_listed P input budget old.output mid.output new.output old.output_faults mid.output_faults new.output_faults (input_seen old mid) left reached ended later run.within run.ends lists;
       unread = tt;
     }) ran)

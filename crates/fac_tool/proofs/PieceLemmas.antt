@@ -1,22 +1,24 @@
 -- The pieces that a machine's run writes are those of the program's run, tick by tick.
-use Rattle.std.proofs.Common.{◌≡◌, ◌<◌, ◌≤◌, ℕ, zero, suc, ◌+◌, ◌-◌, List, [], ◌∷◌, ◌++◌, Some, refl, ap, sym, subst, ◌∙◌, arith}
+use Rattle.std.proofs.Common.{◌≡◌, ◌<◌, ◌≤◌, ℕ, zero, suc, ◌+◌, ◌-◌, List, [], ◌∷◌, ◌++◌, None, Some, inl, inr, refl, ap, sym, subst, ◌∙◌, arith}
 use Rattle.std.proofs.lemmas.List.{append-nil, append_cancel_left}
 use Rattle.std.proofs.lemmas.List.Folds.{concat-append}
 use Rattle.std.proofs.Math.Seq.{drop-append_seam}
-use Rattle.std.specs.Prelude.{length, drop, ⊤}
+use Rattle.std.specs.Prelude.{◌⊎◌, length, drop, slice_get, ⊤}
 use Rattle.std.specs.List.{concat}
 use Rattle.std.specs.declared.option.Option.{Option}
 use Rattle.fac_io.specs.Told.{Grows, one_piece}
 use Rattle.fac_lang.specs.declared.program.Program.{Program}
 use Rattle.fac_code.specs.declared.image.Image.{Image}
+use Rattle.fac_code.specs.declared.image.Instr.{Instr}
 use Rattle.fac_vm.specs.declared.machine.StopKind.{StopKind}
 use Rattle.fac_vm.specs.declared.machine.StopKind.TheVariants as stop
 use Rattle.fac_machine.specs.MachineLaws.{RunsHaveOneEnd}
-use Rattle.fac_machine.specs.Machine.{Machine, End, spent, Step, goes_on, ends, step, stepped, steps, Leads, Ends, Writes, w_none, w_silent, w_piece}
-use Rattle.fac_vm.specs.Runs.{Held, begun, InPieces as InMachinePieces, end_world, step_world, AsksAt}
+use Rattle.fac_machine.specs.Machine.{Job, instr, cost, job_cost, paying, does_instr, does_job, fetched, job_or_fetched, Machine, End, spent, Step, goes_on, ends, step, stepped, steps, Leads, Ends, Writes, w_none, w_silent, w_piece}
+use Rattle.fac_machine.proofs.Leading.{leads_on, leads_step}
+use Rattle.fac_vm.specs.Runs.{Held, begun, as_job, job_at, InPieces as InMachinePieces, end_world, step_world, AsksAt, FaultsBehind, WantsAt}
 use Rattle.fac_tool.specs.Answer.{meaning}
 use Rattle.fac_tool.specs.SeenObjects.{SinkSeen}
-use Rattle.fac_tool.specs.Ends.{run_output, run_asked, tick_output, pieces_in, RunPieces, RunFront, AskedInTick}
+use Rattle.fac_tool.specs.Ends.{run_output, run_asked, run_left, tick_output, pieces_in, RunPieces, RunFront, AskedInTick, ThenOrBefore, WantedInRun}
 use Rattle.fac_tool.specs.inner.Stops.{Carried, first_state}
 use Rattle.fac_tool.proofs.StepTicks.{Mark, mark_in, StepsAt, GoesAt, step_at}
 use Rattle.fac_tool.proofs.StopLemmas.{carried_end, same_end, run_mark, mark_is}
@@ -62,6 +64,33 @@ module _ (M : Image) where
   without_ticks : (count : ℕ) (s : Machine) (e : End) → steps M count s 0 ≡ Some e → mark_in (end_world e) ≡ mark_in s.world
   without_ticks zero s e p = absurd (cc)
   without_ticks (suc count) s e p = without_by count (without_ticks count) s e (step M s 0) (step_at M s 0) p
+
+-- where a step goes on it doesn't end
+goes_not_ends : (s : Machine) (n : ℕ) (e : End) → goes_on s n ≡ ends e → ⊥
+goes_not_ends s n e is = cc
+
+-- with fewer ticks than a job costs the machine is spent before it, and reads and writes nothing
+paying_short : (c n : ℕ) (s : Machine) (go : ℕ → Step) → n < c → paying c s n go ≡ ends (spent s)
+paying_short zero n s go lt = absurd (omega (arith, lt))
+paying_short (suc c) zero s go lt = refl
+paying_short (suc c) (suc n) s go lt = paying_short c n s go (omega (arith, lt))
+
+module _ (M : Image) where
+  -- a step that is spent where it stands
+  abbrev SpentThere : Machine → Step → Type 0
+  SpentThere t x = (s : Machine) × (x ≡ ends (spent s)) × (mark_in s.world ≡ mark_in t.world)
+
+  spent_fetched : (o : Option Instr) (t : Machine) (j : Job) (n : ℕ) → as_job o ≡ Some j → n < job_cost j → SpentThere t (fetched M o t n)
+  spent_fetched None t j n e lt = absurd (cc)
+  spent_fetched (Some i) t j n e lt = let same : j ≡ instr i = cc in let short : n < cost i = rw same at lt in (t, paying_short (cost i) n t (does_instr M i t) short, refl)
+
+  spent_job : (o : Option Job) (t : Machine) (j : Job) (n : ℕ) → job_at M o t.pc ≡ Some j → n < job_cost j → SpentThere t (job_or_fetched M o t n)
+  spent_job None t j n e lt = spent_fetched (slice_get M.code t.pc) t j n e lt
+  spent_job (Some k) t j n e lt =
+      let same : j ≡ k = cc in
+      let short : n < job_cost k = rw same at lt in
+      let stood : Machine = record t { job = None } in
+      (stood, paying_short (job_cost k) n stood (does_job M k stood) short, refl)
 
 -- the machine of a program's image comes from its start on this input to a state in so many ticks, whatever more ticks there are
 abbrev Comes : Image → List ℕ → ℕ → Machine → Type 0
@@ -161,6 +190,47 @@ module _ (law : RunsHaveOneEnd) (P : Program) (M : Image) (input : List ℕ) (ca
       subst (λ (qs : List (List ℕ)). Walked b qs u' k') (append-nil ps) on
   walked b pieces t m (w_piece {ps} u u' k k' piece before is more) = walked_on b ps u u' k k' piece (walked b ps u k before) (goes_at u u' k k' is) more
 
+  -- what the run told where a job is that has its cost, with these ticks or with one less
+  abbrev MarkThen : ℕ → Mark → Type 0
+  MarkThen ticks mark = (run_mark (meaning P input ticks) ≡ mark) ⊎ ((0 < ticks) × (run_mark (meaning P input (ticks - 1)) ≡ mark))
+
+  stood_mark : (u : ℕ) (t : Machine) (j : Job) (c ticks : ℕ) → Comes M input u t → job_at M t.job t.pc ≡ Some j → c ≡ job_cost j → ticks ≡ u + c → MarkThen ticks (mark_in t.world)
+  stood_mark u t j zero ticks comes there price sum =
+      let same : u ≡ ticks = omega (arith, sum) in
+      inl (subst (λ (n : ℕ). run_mark (meaning P input n) ≡ mark_in t.world) same (marked_at u t comes))
+  stood_mark u t j (suc c) ticks comes there price sum =
+      let last : u + c ≡ ticks - 1 = omega (arith, sum) in
+      let was = spent_job M t.job t j c there (omega (arith, price)) in
+      inr (omega (arith, sum), subst (λ (n : ℕ). run_mark (meaning P input n) ≡ mark_in t.world) last (ends_behind u c t (spent was.0) comes was.1 ∙ was.2))
+
+  output_then : (ticks : ℕ) (out : SinkSeen) (t : Machine) → MarkThen ticks (mark_in t.world) → Grows out.before.taken out.now.taken t.world.output → ThenOrBefore P input ticks (λ r. Grows out.before.taken out.now.taken (run_output r))
+  output_then ticks out t (inl same) wrote = inl (subst (λ (bytes : List ℕ). Grows out.before.taken out.now.taken bytes) (sym (ap (λ (m : Mark). m.1.1) same)) wrote)
+  output_then ticks out t (inr before) wrote = inr (before.0, subst (λ (bytes : List ℕ). Grows out.before.taken out.now.taken bytes) (sym (ap (λ (m : Mark). m.1.1) before.1)) wrote)
+
+  -- what its step leaves is what the run left in these ticks
+  after_by :
+      (u c : ℕ) (t : Machine) (j : Job) (x : Step) → Comes M input u t → job_at M t.job t.pc ≡ Some j → c ≡ job_cost j → step M t c ≡ x → StepsAt ⊤ (step M t) (mark_in t.world) c x →
+      run_left (meaning P input (u + c)) ≡ (step_world x).input
+  after_by u c t j (ends e) comes there price is at = ap (λ (m : Mark). m.0) (ends_behind u c t e comes is)
+  after_by u c t j (goes_on b zero) comes there price is at =
+      let next : u + at.took ≡ u + c = omega (arith, at.sum) in
+      ap (λ (n : ℕ). run_left (meaning P input n)) (sym next) ∙ ap (λ (m : Mark). m.0) (marked_at (u + at.took) b (comes_on u at.took t b comes at.later))
+  after_by u c t j (goes_on b (suc m)) comes there price is at =
+      let was = spent_job M t.job t j at.took there (omega (arith, at.sum, price)) in
+      let all : at.took + 0 ≡ at.took = omega arith in
+      absurd (goes_not_ends b 0 (spent was.0) (sym (ap (step M t) (sym all) ∙ at.later 0) ∙ was.1))
+
+  rest_then :
+      (u : ℕ) (t : Machine) (j : Job) (ticks : ℕ) (rest : List ℕ) → Comes M input u t → job_at M t.job t.pc ≡ Some j → ticks ≡ u + job_cost j → MarkThen ticks (mark_in t.world) →
+      (rest ≡ t.world.input) ⊎ ((more : ℕ) → rest ≡ (step_world (step M t (job_cost j + more))).input) → ThenOrBefore P input ticks (λ r. rest ≡ run_left r)
+  rest_then u t j ticks rest comes there sum (inl mark) (inl same) = inl (same ∙ sym (ap (λ (m : Mark). m.0) mark))
+  rest_then u t j ticks rest comes there sum (inr mark) (inl same) = inr (mark.0, same ∙ sym (ap (λ (m : Mark). m.0) mark.1))
+  rest_then u t j ticks rest comes there sum mark (inr gone) =
+      let c = job_cost j in
+      let none : c + 0 ≡ c = omega arith in
+      let after = after_by u c t j (step M t c) comes there refl refl (step_at M t c) in
+      inl (gone 0 ∙ ap (λ (n : ℕ). (step_world (step M t n)).input) none ∙ sym after ∙ ap (λ (n : ℕ). run_left (meaning P input n)) (sym sum))
+
   module _ (old : Held) (begin : begun M input old ≡ first_state M input) where
     -- what a run wrote in so many ticks, whatever more there were
     are_pieces : (used : ℕ) (pieces : List (List ℕ)) (stood : Machine) → ((more : ℕ) → Writes M (begun M input old) (used + more) pieces stood more) → pieces ≡ pieces_in P input used
@@ -196,6 +266,20 @@ module _ (law : RunsHaveOneEnd) (P : Program) (M : Image) (input : List ℕ) (ca
           count = fault.count;
           front = fault.front;
         }
+
+    -- where a write failed the run left what the input has left
+    pub fault_left : (new : Held) (ticks : ℕ) (rest : List ℕ) → FaultsBehind M input rest old new ticks → rest ≡ run_left (meaning P input ticks)
+    fault_left new ticks rest h =
+        let comes : Comes M input ticks h.behind = λ k. subst (λ (s : Machine). Leads M s (ticks + k) h.behind k) begin
+        (leads_on M (begun M input old) h.stood h.behind (ticks + k) (h.price + k) k (h.leads k) (leads_step M h.stood h.behind (h.price + k) k (h.goes k))) in
+        sym h.left ∙ sym (ap (λ (m : Mark). m.0) (marked_at ticks h.behind comes))
+
+    -- memory was wanted at an item
+    pub wanted_at : (ticks : ℕ) (out : SinkSeen) (rest : List ℕ) → WantsAt M input rest old ticks out.before.taken out.now.taken → WantedInRun P input rest ticks out
+    wanted_at ticks out rest h =
+        let comes : Comes M input h.used h.stood = λ k. subst (λ (s : Machine). Leads M s (h.used + k) h.stood k) begin (h.leads k) in
+        let mark = stood_mark h.used h.stood h.job (job_cost h.job) ticks comes h.stands refl h.with_cost in
+        record { output = output_then ticks out h.stood mark h.wrote; rest = rest_then h.used h.stood h.job ticks rest comes h.stands h.with_cost mark h.left }
 
     -- A step that asks for a line and writes nothing took one tick: there is no other way for what it tells to change.
     asks_by :

@@ -75,7 +75,7 @@ module _ (sources : Sources) (P : Program) (budget : ℕ) (seen : InputSeen) (ou
   no_memory : NoImageMemory ended → TookNothing out.before out.now → IsUnread seen → OnInput seen RunsSources
   no_memory memory none unread = on_unread seen unread (λ input. as_run input input
       (subst (λ (s : ℕ). EndsBy (ending_of s) (run_answer P input budget) (runs P input budget) out seen input ended) (sym memory.status)
-      (memory.bare, subst (λ (t : ℕ). MemoryInRun P input budget t out) (sym memory.ticks) (memory_first P input budget out none))))
+      (memory.bare, subst (λ (t : ℕ). MemoryInRun P input budget input t seen out) (sym memory.ticks) (memory_first P input budget input seen out unread none))))
 
   module _ (one_end : RunsHaveOneEnd) (law : PrintedFormsAreEqual) (never : SafeAreNotStuck) (one : OneImage) (exact : Exact image_format) (decoded_back : EncodedIsDecoded) (safe : IsSafe P 0) (bytes : List ℕ) (saved : CarriesSaved P bytes) where
     carried : Carried P saved.image

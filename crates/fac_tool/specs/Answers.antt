@@ -3,7 +3,8 @@ use Rattle.std.specs.Prelude.{◌≡◌, ◌≤◌, ◌<◌, ◌⊎◌, ℕ, Lis
 use Rattle.std.specs.declared.option.Option.{Option}
 use Rattle.fac_io.specs.Faults.{Rose}
 use Rattle.fac_io.specs.Told.{Stays, TookNothing, TookWhole, TookFront}
-use Rattle.fac_notes.specs.declared.status.TheConstants.{NO_COMMAND, WRITE_FAULT, NO_MEMORY}
+use Rattle.fac_lines.specs.Channels.{StaysUnless}
+use Rattle.fac_notes.specs.declared.status.TheConstants.{NO_COMMAND, INPUT_FAULT, WRITE_FAULT, NO_MEMORY}
 use Rattle.fac_command.specs.Command.{Command, command_of, files_of}
 use Rattle.fac_tool.specs.declared.ended.Ended.{Ended}
 use Rattle.fac_tool.specs.ToldNotes.{note_of, memory_note, usage_note}
@@ -30,11 +31,11 @@ pub record Loaded (plan : Plan) (files : FilesSeen) (seen : InputSeen) (out : Si
 abbrev pub ReachesBy : Plan → FilesSeen → InputSeen → SinkSeen → Ended → Type 0
 ReachesBy plan files seen out ended = NoTexts plan.files plan.limit files seen out ended ⊎ Loaded plan files seen out ended
 
--- the work of a command: no count falls, and it ends in one of these ways
+-- the work of a command: no count falls, those of the input and the output are as they were unless it is told that they failed, and it ends in one of these ways
 pub record Reaches (command : Command) (files : FilesSeen) (seen : InputSeen) (out : SinkSeen) (ended : Ended) : Type 0 where
   pub files_count : files.faults_before ≤ files.faults_now
-  pub input_count : seen.faults_before ≤ seen.faults_now
-  pub out_count : out.faults_before ≤ out.faults_now
+  pub input_count : StaysUnless seen.faults_before seen.faults_now (ended.status ≡ INPUT_FAULT)
+  pub out_count : StaysUnless out.faults_before out.faults_now (ended.status ≡ WRITE_FAULT)
   pub ending : ReachesBy (plan_of command) files seen out ended
 
 -- the note was written whole, in one write, or it is empty and nothing was

@@ -12,7 +12,7 @@ use Rattle.fac_vm.specs.Runs.{GrowsBeyond}
 use Rattle.fac_notes.specs.declared.status.TheConstants.{NO_COMMAND, FILE_FAULT, INPUT_FAULT, WRITE_FAULT, TOO_LONG, NO_MEMORY}
 use Rattle.fac_tool.specs.declared.ended.Ended.{Ended}
 use Rattle.fac_notes.specs.Told.{shown, stack_lines}
-use Rattle.fac_tool.specs.Answer.{Answer, meaning, lines_if}
+use Rattle.fac_tool.specs.Answer.{Answer, meaning, run_answer, lines_if}
 use Rattle.fac_tool.specs.SeenObjects.{SinkSeen, InputSeen, IsUnread}
 
 -- the kinds of statuses: an answer of the definition, or one that the outside or want of memory brings
@@ -110,16 +110,39 @@ OutputWhole idle answer ticks out = Grows out.before.pieces out.now.pieces (one_
 OutputWhole (runs P input budget) answer ticks out = RunPieces P input ticks [] out
 OutputWhole (runs_and_lists P input budget) answer ticks out = RunPieces P input ticks (lines_if answer.stack) out
 
--- The ticks of a run in which memory was wanted, or behind which it was, and what the output had taken: that of the run alone.
-pub record MemoryInRun (P : Program) (input : List ℕ) (budget : ℕ) (ticks : ℕ) (out : SinkSeen) : Type 0 where
+-- Something is so of what a run came to in so many ticks, or with one tick less: what is wanted for an item is wanted when its tick is taken.
+abbrev pub ThenOrBefore : Program → List ℕ → ℕ → (Run → Type 0) → Type 0
+ThenOrBefore P input ticks Holds = Holds (meaning P input ticks) ⊎ ((0 < ticks) × Holds (meaning P input (ticks - 1)))
+
+-- Memory was wanted before a run was begun: nothing was read and nothing was written.
+pub record WantedBefore (ticks : ℕ) (seen : InputSeen) (out : SinkSeen) : Type 0 where
+  pub none : ticks ≡ 0
+  pub unread : IsUnread seen
+  pub out_is : TookNothing out.before out.now
+
+-- or in it, at an item: all that it had written before the item was taken, and no more. This is left of its input, where a line may be gone for which the item asks.
+pub record WantedInRun (P : Program) (input left : List ℕ) (ticks : ℕ) (out : SinkSeen) : Type 0 where
+  pub output : ThenOrBefore P input ticks (λ r. Grows out.before.taken out.now.taken (run_output r))
+  pub rest : ThenOrBefore P input ticks (λ r. left ≡ run_left r)
+
+-- or behind it, for what is told of the run, which had ended with this answer
+pub record WantedBehind (answer : Answer) (left : List ℕ) (ticks : ℕ) (out : SinkSeen) : Type 0 where
+  pub used : ticks ≡ answer.ticks
+  pub output : Grows out.before.taken out.now.taken answer.output
+  pub rest : left ≡ answer.left
+
+-- The ticks of a run in which memory was wanted, or before or behind which it was, what the output had taken, which is that of the run alone, and what is left of
+-- the input.
+pub record MemoryInRun (P : Program) (input : List ℕ) (budget : ℕ) (left : List ℕ) (ticks : ℕ) (seen : InputSeen) (out : SinkSeen) : Type 0 where
   pub stops : StopsWithin P input budget ticks out
   pub pieces : RunPieces P input ticks [] out
+  pub wanted : WantedBefore ticks seen out ⊎ (WantedInRun P input left ticks out ⊎ WantedBehind (run_answer P input budget) left ticks out)
 
 -- likewise for all work: outside a run nothing was taken, and no tick was used
-abbrev pub OutputBefore : Work → ℕ → SinkSeen → Type 0
-OutputBefore idle ticks out = (ticks ≡ 0) × TookNothing out.before out.now
-OutputBefore (runs P input budget) ticks out = MemoryInRun P input budget ticks out
-OutputBefore (runs_and_lists P input budget) ticks out = MemoryInRun P input budget ticks out
+abbrev pub OutputBefore : Work → List ℕ → ℕ → InputSeen → SinkSeen → Type 0
+OutputBefore idle left ticks seen out = (ticks ≡ 0) × TookNothing out.before out.now
+OutputBefore (runs P input budget) left ticks seen out = MemoryInRun P input budget left ticks seen out
+OutputBefore (runs_and_lists P input budget) left ticks seen out = MemoryInRun P input budget left ticks seen out
 
 -- In a run the item that took the last of these ticks asked for a line: of this the lines that were asked for are one more than with one tick less, and
 -- what is left of the input is what was left then. All that is written in these ticks was taken.
@@ -141,14 +164,15 @@ OutputAsked idle left ticks out = ⊥
 OutputAsked (runs P input budget) left ticks out = InputFaultInRun P input budget left ticks out
 OutputAsked (runs_and_lists P input budget) left ticks out = InputFaultInRun P input budget left ticks out
 
--- likewise where a write of a run failed: of the piece of the last item a front was taken
-pub record FaultInRun (P : Program) (input : List ℕ) (budget : ℕ) (ticks : ℕ) (out : SinkSeen) : Type 0 where
+-- likewise where a write of a run failed: of the piece of the last item a front was taken, and of the input is left what the run left of it in these ticks
+pub record FaultInRun (P : Program) (input : List ℕ) (budget : ℕ) (left : List ℕ) (ticks : ℕ) (out : SinkSeen) : Type 0 where
   pub stops : StopsWithin P input budget ticks out
   pub front : RunFront P input ticks out
+  pub rest : left ≡ run_left (meaning P input ticks)
 
 -- A write failed behind a run that is done with these ticks, that of the lines of its stack, which aren't empty: behind all of the run's output a
--- front of them was taken.
-pub record FaultBehindRun (P : Program) (input : List ℕ) (budget : ℕ) (ticks : ℕ) (out : SinkSeen) : Type 0 where
+-- front of them was taken. Of the input is left what the run left.
+pub record FaultBehindRun (P : Program) (input : List ℕ) (budget : ℕ) (left : List ℕ) (ticks : ℕ) (out : SinkSeen) : Type 0 where
   pub state : State Value
   pub more : ℕ
   pub done : meaning P input budget ≡ Done state more
@@ -160,12 +184,13 @@ pub record FaultBehindRun (P : Program) (input : List ℕ) (budget : ℕ) (ticks
   pub most : count ≤ length lines
   pub taken : Grows out.before.taken out.now.taken (state.world.output ++ take count lines)
   pub pieces : RunPieces P input ticks (take count lines) out
+  pub rest : left ≡ state.world.input
 
 -- what was taken where a write failed: outside a run the one that there is
-abbrev pub OutputFront : Work → Answer → ℕ → SinkSeen → Type 0
-OutputFront idle answer ticks out = (ticks ≡ 0) × (0 < length answer.output) × TookFront out.before out.now answer.output
-OutputFront (runs P input budget) answer ticks out = FaultInRun P input budget ticks out
-OutputFront (runs_and_lists P input budget) answer ticks out = FaultInRun P input budget ticks out ⊎ FaultBehindRun P input budget ticks out
+abbrev pub OutputFront : Work → Answer → List ℕ → ℕ → SinkSeen → Type 0
+OutputFront idle answer left ticks out = (ticks ≡ 0) × (0 < length answer.output) × TookFront out.before out.now answer.output
+OutputFront (runs P input budget) answer left ticks out = FaultInRun P input budget left ticks out
+OutputFront (runs_and_lists P input budget) answer left ticks out = FaultInRun P input budget left ticks out ⊎ FaultBehindRun P input budget left ticks out
 
 -- there is neither a stack nor a refusal: what stood on the stack of a run that was cut short isn't told
 pub record IsBare (ended : Ended) : Type 0 where
@@ -179,8 +204,8 @@ EndsBy Usage answer work out seen left ended = ⊥
 EndsBy TooLong answer work out seen left ended = ⊥
 EndsBy FileFault answer work out seen left ended = ⊥
 EndsBy InputFault answer work out seen left ended = Rose seen.faults_before seen.faults_now × IsBare ended × OutputAsked work left ended.ticks out
-EndsBy WriteFault answer work out seen left ended = Rose out.faults_before out.faults_now × IsBare ended × OutputFront work answer ended.ticks out
-EndsBy NoMemory answer work out seen left ended = IsBare ended × OutputBefore work ended.ticks out
+EndsBy WriteFault answer work out seen left ended = Rose out.faults_before out.faults_now × IsBare ended × OutputFront work answer left ended.ticks out
+EndsBy NoMemory answer work out seen left ended = IsBare ended × OutputBefore work left ended.ticks seen out
 
 -- the work has this answer, or was cut short
 abbrev pub EndsAs : Answer → Work → SinkSeen → InputSeen → List ℕ → Ended → Type 0

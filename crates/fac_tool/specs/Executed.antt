@@ -11,7 +11,7 @@ use Rattle.fac_store.specs.MachineValues.{MValue, machine_values}
 use Rattle.fac_vm.specs.declared.machine.StopKind.{StopKind}
 use Rattle.fac_vm.specs.declared.machine.StopKind.TheVariants as stop
 use Rattle.fac_machine.specs.Machine.{End, done, failed, spent, trap, Ends, first_world}
-use Rattle.fac_vm.specs.Runs.{Held, begun, Reaches, InPieces, AsksAt}
+use Rattle.fac_vm.specs.Runs.{Held, begun, Reaches, InPieces, AsksAt, FaultsBehind, WantsAt}
 use Rattle.fac_spelling.specs.Whole.{Spells, IsRefused}
 use Rattle.fac_bytes.specs.ImageBytes.{image as image_format, are_image, parts_of}
 use Rattle.fac_bytes.specs.Listings.{listing}
@@ -22,7 +22,7 @@ use Rattle.fac_tool.specs.declared.ended.Ended.{Ended}
 use Rattle.fac_notes.specs.Told.{shown_text}
 use Rattle.fac_tool.specs.Answer.{Answer}
 use Rattle.fac_tool.specs.SeenObjects.{SinkSeen, InputSeen, OnInput, IsUnread}
-use Rattle.fac_tool.specs.Ends.{Ending, Told, WriteFault, InputFault, NoMemory, ending_of, IsBare, Matches, idle, EndsOn}
+use Rattle.fac_tool.specs.Ends.{Ending, Told, WriteFault, InputFault, NoMemory, ending_of, IsBare, Matches, WantedBehind, idle, EndsOn}
 
 -- what a machine of an image holds before its first run: no value, and no objects but the literal arrays
 abbrev pub fresh_held : Image → Held
@@ -49,17 +49,23 @@ pub record ExecutesWithin (M : Image) (budget : ℕ) (input : List ℕ) (ticks :
 abbrev pub ExecutionPieces : Image → List ℕ → ℕ → SinkSeen → StopKind → Type 0
 ExecutionPieces M input ticks out what = InPieces M input (fresh_held M) ticks out.before out.now what
 
+-- memory was wanted at a job of the run, or behind the run for what is told of it
+abbrev pub WantedIn : Image → ℕ → List ℕ → List ℕ → ℕ → SinkSeen → Type 0
+WantedIn M budget input left ticks out =
+    WantsAt M input left (fresh_held M) ticks out.before.taken out.now.taken ⊎ ((e : End) × Ends M (begun M input (fresh_held M)) budget e × WantedBehind (of_end M budget e) left ticks out)
+
 -- The run of an image on this input, of which this is left, by the kind of the status: it ended as the machine ends, or was cut short.
 abbrev pub ExecutesBy : Ending → Image → ℕ → List ℕ → List ℕ → InputSeen → SinkSeen → Ended → Type 0
 ExecutesBy Told M budget input left seen out ended =
     (e : End) × Ends M (begun M input (fresh_held M)) budget e × Matches (of_end M budget e) out left ended × ExecutionPieces M input ended.ticks out stop.Done
 ExecutesBy WriteFault M budget input left seen out ended =
-    Rose out.faults_before out.faults_now × IsBare ended × ExecutesWithin M budget input ended.ticks out × ExecutionPieces M input ended.ticks out stop.WriteFault
+    Rose out.faults_before out.faults_now × IsBare ended × ExecutesWithin M budget input ended.ticks out × ExecutionPieces M input ended.ticks out stop.WriteFault ×
+    ((now : Held) × FaultsBehind M input left (fresh_held M) now ended.ticks)
 ExecutesBy InputFault M budget input left seen out ended =
     Rose seen.faults_before seen.faults_now × IsBare ended × ExecutesWithin M budget input ended.ticks out × ExecutionPieces M input ended.ticks out stop.InputFault ×
     ((now : Held) × AsksAt M input left (fresh_held M) now ended.ticks out.before.taken out.now.taken)
 ExecutesBy NoMemory M budget input left seen out ended =
-    IsBare ended × ExecutesWithin M budget input ended.ticks out × ExecutionPieces M input ended.ticks out stop.Memory
+    IsBare ended × ExecutesWithin M budget input ended.ticks out × ExecutionPieces M input ended.ticks out stop.Memory × WantedIn M budget input left ended.ticks out
 ExecutesBy _ M budget input left seen out ended = ⊥
 
 abbrev pub Executes : Image → ℕ → List ℕ → List ℕ → InputSeen → SinkSeen → Ended → Type 0

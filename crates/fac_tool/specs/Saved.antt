@@ -15,11 +15,14 @@ use Rattle.fac_code.specs.declared.image.Image.{Image}
 use Rattle.fac_code.specs.declared.image.TemplateRow.{TemplateRow}
 use Rattle.fac_spelling.specs.Whole.{Spells}
 use Rattle.fac_bytes.specs.ImageBytes.{image as image_format, parts_of}
-use Rattle.fac_carry.specs.Carries.{Carries}
+use Rattle.fac_machine.specs.Machine.{End, Ends, starting, first_world}
+use Rattle.fac_carry.specs.Carries.{Carries, SameEnd}
+use Rattle.fac_carry.specs.MachineView.{template_phrases}
 use Rattle.fac_carry.specs.Direct.{DirectIsInPlace}
 use Rattle.fac_notes.specs.declared.status.TheConstants.{SUCCESS, FILE_FAULT, NO_MEMORY}
 use Rattle.fac_notes.specs.declared.report.Report.TheVariants as report
 use Rattle.fac_tool.specs.declared.ended.Ended.{Ended}
+use Rattle.fac_tool.specs.Answer.{meaning}
 use Rattle.fac_tool.specs.SeenObjects.{FilesSeen}
 use Rattle.fac_tool.specs.Ends.{IsBare}
 
@@ -34,6 +37,8 @@ pub record CarriesSaved (P : Program) (bytes : List ℕ) : Type 0 where
   pub image : Image
   pub spelled : Spells image_format bytes (parts_of image)
   pub carries : Carries P (callable_height P) 0 image
+  -- So on every input and with every budget its machine ends as the program's meaning does.
+  pub ends : (input : List ℕ) (n : ℕ) → (e : End) × Ends image (starting image [] (first_world image input)) n e × SameEnd (template_phrases P) (meaning P input n) e
   pub effects : HasEffects P image
   pub short : length bytes ≤ MOST_IMAGE_BYTES
 

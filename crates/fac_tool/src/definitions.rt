@@ -1,10 +1,11 @@
 //! The definitions of a command's files, and the line that tells how many there are.
 ghost use Rattle.std.specs.Prelude.{◌≡◌, ℕ, List, IfOk};
 ghost use Rattle.std.specs.List.{count_by};
-ghost use Rattle.fac_lines.specs.Channels.{CountsStand, IsUnread};
+ghost use Rattle.fac_lines.specs.Channels.{IsUnread};
 ghost use Rattle.fac_tool.specs.Answer.{checked_answer, checked_line as line_of_checked, is_definition as is_defined};
 ghost use Rattle.fac_tool.specs.Ends.{EndsAs, idle};
 ghost use Rattle.fac_tool.specs.SeenObjects.{output_seen, InputSeen};
+ghost use Rattle.fac_tool.specs.inner.StepEnds.{StatusCounts};
 
 use crate::Ended;
 use crate::ended::bare;
@@ -54,7 +55,7 @@ pub fn tell_checked<S: Source, K: Sink>(
 ) -> Ended
     ensures ends { (input : List ℕ) (seen : InputSeen) → EndsAs (checked_answer definitions input) idle (output_seen channels.old channels.new) seen input result }
     ensures unread { IsUnread channels.old channels.new }
-    ensures counts { CountsStand channels.old channels.new }
+    ensures counts { StatusCounts channels.old channels.new result.status }
 {
     match checked_line(alloc, definitions) {
         Err(_) => bare(NO_MEMORY, 0),

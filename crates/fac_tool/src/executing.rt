@@ -1,11 +1,12 @@
 //! The run of an image without its source.
 ghost use Rattle.std.specs.Prelude.{◌≡◌, IfOk};
-ghost use Rattle.fac_lines.specs.Channels.{CountsFaults, CountsStand};
+ghost use Rattle.fac_lines.specs.Channels.{CountsFaults};
 ghost use Rattle.fac_vm.specs.SeenMachine.{callables_in, held_in};
 ghost use Rattle.fac_tool.specs.Executed.{DoesOnBytes, executed};
 ghost use Rattle.fac_tool.specs.SeenObjects.{input_seen, output_seen, OnInput};
 ghost use Rattle.fac_tool.specs.inner.ImageSteps.{IsImageReportOf, MakesImage, MakesMachine, RunsFirst, RunsImage};
 ghost use Rattle.fac_tool.specs.inner.Stops.{IsFresh};
+ghost use Rattle.fac_tool.specs.inner.StepEnds.{StatusCounts};
 
 use crate::ended::{bare, reported};
 use crate::images::image_of_bytes;
@@ -71,7 +72,7 @@ pub fn run_image<S: Reader, K: Sink>(
     requires { IsFresh machine.old }
     ensures ends { OnInput (input_seen channels.old channels.new)
         (RunsImage machine.old.image budget (input_seen channels.old channels.new) (output_seen channels.old channels.new) result) }
-    ensures counts { CountsStand channels.old channels.new }
+    ensures counts { StatusCounts channels.old channels.new result.status }
 {
     let stop = run_first(alloc, machine, budget, channels);
     let ticks = stop.ticks;
@@ -123,7 +124,7 @@ pub fn execute<S: Reader, K: Sink>(
     channels: &mut Channels<S, K>,
 ) -> Ended
     ensures ends { DoesOnBytes (executed budget) bytes (input_seen channels.old channels.new) (output_seen channels.old channels.new) result }
-    ensures counts { CountsStand channels.old channels.new }
+    ensures counts { StatusCounts channels.old channels.new result.status }
 {
     match machine_of_bytes(alloc, bytes) {
         Ok(mut machine) => run_image(alloc, &mut machine, budget, channels),

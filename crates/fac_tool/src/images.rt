@@ -1,10 +1,11 @@
 //! The image of a command: its bytes are decoded, and its code is told.
 ghost use Rattle.std.specs.Prelude.{List, ℕ};
-ghost use Rattle.fac_lines.specs.Channels.{CountsStand, IsUnread};
+ghost use Rattle.fac_lines.specs.Channels.{IsUnread};
 ghost use Rattle.fac_tool.specs.Ends.{EndsAs, idle};
 ghost use Rattle.fac_tool.specs.Executed.{DoesOnBytes, listed, listed_answer};
 ghost use Rattle.fac_tool.specs.SeenObjects.{input_seen, output_seen, InputSeen};
 ghost use Rattle.fac_tool.specs.inner.ImageSteps.{MakesImage};
+ghost use Rattle.fac_tool.specs.inner.StepEnds.{StatusCounts};
 
 use crate::ended::{bare, reported};
 use crate::{Ended, Report};
@@ -34,7 +35,7 @@ fn write_listing<S: Source, K: Sink>(
 ) -> Ended
     ensures ends { (input : List ℕ) → (seen : InputSeen) → EndsAs (listed_answer image.now input) idle (output_seen channels.old channels.new) seen input result }
     ensures unread { IsUnread channels.old channels.new }
-    ensures counts { CountsStand channels.old channels.new }
+    ensures counts { StatusCounts channels.old channels.new result.status }
 {
     match listing(alloc, image) {
         Err(_) => bare(NO_MEMORY, 0),
@@ -52,7 +53,7 @@ pub fn list_image<S: Source, K: Sink>(
     channels: &mut Channels<S, K>,
 ) -> Ended
     ensures ends { DoesOnBytes listed bytes.now (input_seen channels.old channels.new) (output_seen channels.old channels.new) result }
-    ensures counts { CountsStand channels.old channels.new }
+    ensures counts { StatusCounts channels.old channels.new result.status }
 {
     match image_of_bytes(alloc, bytes) {
         Ok(image) => write_listing(alloc, &image, channels),

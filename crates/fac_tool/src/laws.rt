@@ -1,6 +1,6 @@
 //! Laws of what files come to, each on the contract of a function that does nothing but call on laws below.
 ghost use Rattle.fac_tool.specs.Sources.{OneSource, EverySource};
-ghost use Rattle.fac_tool.specs.SavedRuns.{SavedCodeRunsAsItsSource};
+ghost use Rattle.fac_tool.specs.SavedRuns.{SavedCodeRunsAsItsSource, ExecAfterBuildIsRun};
 
 use fac_bytes::{encoded_is_decoded, images_are_exact, one_image};
 use fac_carry::printed_forms_are_equal;
@@ -38,4 +38,12 @@ pub fn saved_code_runs_as_its_source()
     one_image();
     images_are_exact();
     encoded_is_decoded();
+}
+
+/// What a call of `exec` answers behind a call of `build` that ended with status 0 is what `run` does with the sources of that call, with the same
+/// budget and on the same input. Both calls are as the clause `answer` of `factor_top` has them.
+pub fn exec_after_build_is_run()
+    ensures { ExecAfterBuildIsRun }
+{
+    saved_code_runs_as_its_source();
 }

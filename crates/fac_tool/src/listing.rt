@@ -1,10 +1,11 @@
 //! The lines of a stack, which are written behind a run that is done.
 ghost use Rattle.std.specs.Prelude.{◌≡◌, ◌<◌, ◌++◌, codes, length, string_bytes, IfOk, OnErr, OnOk};
-ghost use Rattle.fac_lines.specs.Channels.{CountsStand, IsUnread, TakesPiece};
+ghost use Rattle.fac_lines.specs.Channels.{IsUnread, TakesPiece};
 ghost use Rattle.fac_notes.specs.Told.{stack_lines};
 ghost use Rattle.fac_tool.specs.SeenObjects.{output_seen};
 ghost use Rattle.fac_tool.specs.Answers.{TellsBy};
 ghost use Rattle.fac_tool.specs.inner.ListedStacks.{ListsStack};
+ghost use Rattle.fac_tool.specs.inner.StepEnds.{StatusCounts};
 
 use crate::Ended;
 use crate::ended::bare;
@@ -53,7 +54,7 @@ fn write_lines<S: Source, K: Sink>(
 fn list_by<S: Source, K: Sink>(lines: &[u8], reached: Ended, channels: &mut Channels<S, K>) -> Ended
     ensures told { TellsBy lines.now reached (output_seen channels.old channels.new) result }
     ensures unread { IsUnread channels.old channels.new }
-    ensures counts { CountsStand channels.old channels.new }
+    ensures counts { StatusCounts channels.old channels.new result.status }
 {
     let ticks = reached.ticks;
     match write_lines(channels, lines) {
@@ -70,7 +71,7 @@ pub fn list_stack<S: Source, K: Sink>(
 ) -> Ended
     ensures lists { ListsStack ended (output_seen channels.old channels.new) result }
     ensures unread { IsUnread channels.old channels.new }
-    ensures counts { CountsStand channels.old channels.new }
+    ensures counts { StatusCounts channels.old channels.new result.status }
 {
     let ticks = ended.ticks;
     match &ended.stack {

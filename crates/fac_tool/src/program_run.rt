@@ -1,12 +1,11 @@
 //! The run of an accepted program: its image is run.
 ghost use Rattle.std.specs.Prelude.{IfOk};
 ghost use Rattle.fac_lang.specs.declared.program.Program.{Program as Source};
-ghost use Rattle.fac_lines.specs.Channels.{CountsStand};
 ghost use Rattle.fac_tool.specs.Answer.{run_answer, stack_answer};
 ghost use Rattle.fac_tool.specs.Ends.{runs, runs_and_lists};
 ghost use Rattle.fac_tool.specs.SeenObjects.{input_seen, output_seen, OnInput};
 ghost use Rattle.fac_tool.specs.inner.Stops.{Carried, IsFresh, StandsForSafe};
-ghost use Rattle.fac_tool.specs.inner.StepEnds.{StepsEnd, EndsRun};
+ghost use Rattle.fac_tool.specs.inner.StepEnds.{StepsEnd, EndsRun, StatusCounts, ended_by};
 
 use crate::Ended;
 use crate::ended::bare;
@@ -33,7 +32,7 @@ fn run_carried<S: Reader, K: Sink>(
     requires { IsFresh machine.old }
     ensures ends { OnInput (input_seen channels.old channels.new) (λ bytes left. (P : Source) → Carried P machine.old.image →
         EndsRun P budget (output_seen channels.old channels.new) (input_seen channels.old channels.new) result bytes left) }
-    ensures counts { CountsStand channels.old channels.new }
+    ensures counts { StatusCounts channels.old channels.new result.status }
 {
     runs_have_one_end();
     printed_forms_are_equal();
@@ -61,7 +60,7 @@ pub fn run_program<S: Reader, K: Sink>(
 ) -> Result<Ended, Ended>
     requires { (P : Source) × StandsForSafe checked.closed P }
     ensures ends { StepsEnd checked.closed (λ P input. run_answer P input budget) (λ P input. runs P input budget) channels.old channels.new result }
-    ensures counts { CountsStand channels.old channels.new }
+    ensures counts { StatusCounts channels.old channels.new (ended_by result).status }
 {
     match machine_of(alloc, checked) {
         Ok(mut machine) => Ok(run_carried(alloc, &mut machine, budget, channels)),
@@ -80,7 +79,7 @@ pub fn run_and_list<S: Reader, K: Sink>(
 ) -> Result<Ended, Ended>
     requires { (P : Source) × StandsForSafe checked.closed P }
     ensures ends { StepsEnd checked.closed (λ P input. stack_answer P input budget) (λ P input. runs_and_lists P input budget) channels.old channels.new result }
-    ensures counts { CountsStand channels.old channels.new }
+    ensures counts { StatusCounts channels.old channels.new (ended_by result).status }
 {
     match machine_of(alloc, checked) {
         Ok(mut machine) => {

@@ -2,13 +2,13 @@
 ghost use Rattle.std.specs.Prelude.{◌≤◌, map, string_bytes};
 ghost use Rattle.fac_command.specs.SeenCommands.{command_seen};
 ghost use Rattle.fac_lang.specs.declared.program.Program.{Program as Source};
-ghost use Rattle.fac_lines.specs.Channels.{ChannelsTold, CountsStand};
+ghost use Rattle.fac_lines.specs.Channels.{ChannelsTold};
 ghost use Rattle.fac_tool.specs.Answers.{Reaches, ReachesBy};
 ghost use Rattle.fac_tool.specs.Executed.{executed, listed};
 ghost use Rattle.fac_tool.specs.Plans.{on_image, on_sources, plan_of, saving};
 ghost use Rattle.fac_tool.specs.SeenObjects.{files_seen, input_seen, output_seen};
 ghost use Rattle.fac_tool.specs.inner.Stops.{StandsForSafe};
-ghost use Rattle.fac_tool.specs.inner.StepEnds.{StepsEnd, ended_by};
+ghost use Rattle.fac_tool.specs.inner.StepEnds.{StepsEnd, ended_by, StatusCounts};
 ghost use Rattle.fac_tool.specs.inner.Tasks.{task_seen};
 
 use crate::accepting::{Accepted, accepted_program};
@@ -46,7 +46,7 @@ fn carry_out<S: Reader, K: Sink>(
 ) -> Result<Ended, Ended>
     requires { (P : Source) × StandsForSafe accepted.checked.closed P }
     ensures ends { StepsEnd accepted.checked.closed ((task_seen task).answer accepted.definitions) (task_seen task).work channels.old channels.new result }
-    ensures counts { CountsStand channels.old channels.new }
+    ensures counts { StatusCounts channels.old channels.new (ended_by result).status }
 {
     match task {
         Task::Check => Ok(tell_checked(alloc, accepted.definitions, channels)),
@@ -64,7 +64,7 @@ fn steps<F: Files, S: Reader, K: Sink>(
     channels: &mut Channels<S, K>,
 ) -> Result<Ended, Ended>
     ensures files_count { F.faults files.old ≤ F.faults files.new }
-    ensures counts { CountsStand channels.old channels.new }
+    ensures counts { StatusCounts channels.old channels.new (ended_by result).status }
     ensures ending { ReachesBy (on_sources (map string_bytes names.now) (task_seen task)) (files_seen F.held F.asked F.faults files.old files.new) (input_seen channels.old channels.new) (output_seen channels.old channels.new) (ended_by result) }
 {
     accepted_programs_are_safe();
@@ -101,7 +101,7 @@ fn execute_steps<F: Files, S: Reader, K: Sink>(
     channels: &mut Channels<S, K>,
 ) -> Result<Ended, Ended>
     ensures files_count { F.faults files.old ≤ F.faults files.new }
-    ensures counts { CountsStand channels.old channels.new }
+    ensures counts { StatusCounts channels.old channels.new (ended_by result).status }
     ensures ending { ReachesBy (on_image name.now (executed budget)) (files_seen F.held F.asked F.faults files.old files.new) (input_seen channels.old channels.new) (output_seen channels.old channels.new) (ended_by result) }
 {
     let bytes = load_one(alloc, name, MOST_IMAGE_BYTES, files)?;
@@ -116,7 +116,7 @@ fn list_steps<F: Files, S: Reader, K: Sink>(
     channels: &mut Channels<S, K>,
 ) -> Result<Ended, Ended>
     ensures files_count { F.faults files.old ≤ F.faults files.new }
-    ensures counts { CountsStand channels.old channels.new }
+    ensures counts { StatusCounts channels.old channels.new (ended_by result).status }
     ensures ending { ReachesBy (on_image name.now listed) (files_seen F.held F.asked F.faults files.old files.new) (input_seen channels.old channels.new) (output_seen channels.old channels.new) (ended_by result) }
 {
     let bytes = load_one(alloc, name, MOST_IMAGE_BYTES, files)?;
@@ -131,7 +131,7 @@ fn command_steps<F: Files, S: Reader, K: Sink>(
     channels: &mut Channels<S, K>,
 ) -> Result<Ended, Ended>
     ensures files_count { F.faults files.old ≤ F.faults files.new }
-    ensures counts { CountsStand channels.old channels.new }
+    ensures counts { StatusCounts channels.old channels.new (ended_by result).status }
     ensures ending { ReachesBy (plan_of (command_seen command.entry)) (files_seen F.held F.asked F.faults files.old files.new) (input_seen channels.old channels.new) (output_seen channels.old channels.new) (ended_by result) }
 {
     match command {

@@ -8,14 +8,14 @@ use Rattle.fac_names.specs.Resolution.{resolved}
 use Rattle.fac_check.specs.Verdicts.{verdict}
 use Rattle.fac_token.specs.declared.fault.TokenFault.{TokenFault}
 use Rattle.fac_token.specs.declared.fault.TokenFault.TheVariants as token
-use Rattle.fac_notes.specs.declared.status.TheConstants.{NO_MEMORY}
+use Rattle.fac_notes.specs.declared.status.TheConstants.{INPUT_FAULT, WRITE_FAULT, NO_MEMORY}
 use Rattle.fac_notes.specs.declared.report.ByteFault.TheVariants as byte
 use Rattle.fac_notes.specs.declared.report.Report.{Report}
 use Rattle.fac_notes.specs.declared.report.Report.TheVariants as report
 use Rattle.fac_notes.specs.Statuses.{status_of}
 use Rattle.fac_tool.specs.declared.ended.Ended.{Ended}
 use Rattle.fac_tool.specs.declared.accepting.Accepted.{Accepted}
-use Rattle.fac_lines.specs.Channels.{ChannelsTold}
+use Rattle.fac_lines.specs.Channels.{ChannelsTold, CountsStayUnless}
 use Rattle.fac_locals.specs.declared.closing.Closed.{Closed}
 use Rattle.fac_notes.specs.Sources.{Source}
 use Rattle.fac_tool.specs.Answer.{Answer, OnAccepted, trees, together, come_to, answer_on, limit, own_definitions, run_answer}
@@ -23,7 +23,7 @@ use Rattle.fac_tool.specs.Sources.{IsReadAs, AreReadWithPrelude}
 use Rattle.fac_io.specs.declared.files.Asked.TheVariants.{Load}
 use Rattle.fac_io.specs.Faults.{Rose}
 use Rattle.fac_io.specs.Told.{SinkTold, Stays, Grows}
-use Rattle.fac_tool.specs.SeenObjects.{SinkSeen, FilesSeen, InputSeen, OnInput, input_seen, output_seen}
+use Rattle.fac_tool.specs.SeenObjects.{SinkSeen, FilesSeen, InputSeen, OnInput, IsUnread, input_seen, output_seen}
 use Rattle.fac_tool.specs.Ends.{Work, runs, StopsWithin, EndsAs, EndsOn}
 use Rattle.fac_tool.specs.inner.Stops.{StandsForSafe}
 use Rattle.fac_tool.specs.Loads.{LoadsGive, LoadsEnd}
@@ -53,9 +53,9 @@ tree_ending file parse.Memory = bare NO_MEMORY 0
 abbrev pub still : SinkTold → ℕ → SinkSeen
 still told faults = record { before = told; now = told; faults_before = faults; faults_now = faults }
 
--- an ending before anything is read or written, whatever the work was to be and on whatever input: the answer, or want of memory
+-- an ending before anything is read or written, whatever the work was to be and on whatever input, of which nothing was taken: the answer, or want of memory
 abbrev pub EndsEarly : (List ℕ → Answer) → Ended → Type 0
-EndsEarly answer ended = (input : List ℕ) (work : Work) (told : SinkTold) (faults : ℕ) (seen : InputSeen) → EndsAs (answer input) work (still told faults) seen input ended
+EndsEarly answer ended = (input : List ℕ) (work : Work) (told : SinkTold) (faults : ℕ) (seen : InputSeen) → IsUnread seen → EndsAs (answer input) work (still told faults) seen input ended
 
 -- a step of work that has these answers, by what is done with an accepted program and by the input: it gives a result of which this holds, or the work ends
 abbrev pub Steps : {A : Type 0} → (A → Type 0) → (OnAccepted → List ℕ → Answer) → Result A Ended → Type 0
@@ -71,6 +71,10 @@ StepsOn holds (Err ended) = (answer : List ℕ → Answer) → EndsEarly answer 
 pub record EndsRun (P : Program) (budget : ℕ) (out : SinkSeen) (seen : InputSeen) (ended : Ended) (input left : List ℕ) : Type 0 where
   pub within : StopsWithin P input budget ended.ticks out
   pub ends : EndsAs (run_answer P input budget) (runs P input budget) out seen left ended
+
+-- the counts of the input and the output are as they were, unless this status tells that one of them failed
+abbrev pub StatusCounts : ChannelsTold → ChannelsTold → ℕ → Type 0
+StatusCounts before now status = CountsStayUnless before now (status ≡ INPUT_FAULT) (status ≡ WRITE_FAULT)
 
 -- the ending of steps
 abbrev pub ended_by : Result Ended Ended → Ended

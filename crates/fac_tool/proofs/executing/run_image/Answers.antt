@@ -1,6 +1,8 @@
 use Rattle.fac_tool.specs.SeenObjects.{output_seen, input_seen}
 use Rattle.fac_tool.proofs.InputLemmas.{onward}
 use Rattle.fac_tool.proofs.ExecutedLemmas.{done_on, failed_execution, spent_execution, trap_execution, input_fault_execution, write_fault_execution, memory_execution, no_stack_texts, no_report}
+use Rattle.fac_vm.specs.declared.machine.StopKind.TheVariants as stop
+use Rattle.fac_tool.proofs.CountLemmas.{other_counts, input_counts, output_counts}
 use Rattle.fac_tool.proofs.executing.run_image.Goals as goal
 
 pub returns-in-Ok-clause-ends : goal.returns-in-Ok-clause-ends
@@ -54,3 +56,30 @@ pub returns-in-Memory-clause-ends : goal.returns-in-Memory-clause-ends
 returns-in-Memory-clause-ends g c =
     let stop = c.run_first-stop in
     onward (λ input left h. memory_execution _ stop.new.machine c.args.budget stop.result.ticks _ _ input left stop.result.what _ c.in-Memory.is c.bare-in-Memory.ensures h) stop.ensures.runs
+
+pub returns-in-Ok-clause-counts : goal.returns-in-Ok-clause-counts
+returns-in-Ok-clause-counts g c = other_counts _ _ c.run_first-stop.result.what (stop.Done) _ c.in-Done.is tt c.run_first-stop.ensures.faults
+
+pub returns-in-Err-clause-counts : goal.returns-in-Err-clause-counts
+returns-in-Err-clause-counts g c = other_counts _ _ c.run_first-stop.result.what (stop.Done) _ c.in-Done.is tt c.run_first-stop.ensures.faults
+
+pub returns-in-Ok-error_report-clause-counts : goal.returns-in-Ok-error_report-clause-counts
+returns-in-Ok-error_report-clause-counts g c = other_counts _ _ c.run_first-stop.result.what (stop.Failed c.in-Failed.error) _ c.in-Failed.is tt c.run_first-stop.ensures.faults
+
+pub returns-in-Err-error_report-clause-counts : goal.returns-in-Err-error_report-clause-counts
+returns-in-Err-error_report-clause-counts g c = other_counts _ _ c.run_first-stop.result.what (stop.Failed c.in-Failed.error) _ c.in-Failed.is tt c.run_first-stop.ensures.faults
+
+pub returns-in-Spent-clause-counts : goal.returns-in-Spent-clause-counts
+returns-in-Spent-clause-counts g c = other_counts _ _ c.run_first-stop.result.what (stop.Spent) _ c.in-Spent.is tt c.run_first-stop.ensures.faults
+
+pub returns-in-Trap-clause-counts : goal.returns-in-Trap-clause-counts
+returns-in-Trap-clause-counts g c = other_counts _ _ c.run_first-stop.result.what (stop.Trap c.in-Trap.pc c.in-Trap.why) _ c.in-Trap.is tt c.run_first-stop.ensures.faults
+
+pub returns-in-Memory-clause-counts : goal.returns-in-Memory-clause-counts
+returns-in-Memory-clause-counts g c = other_counts _ _ c.run_first-stop.result.what (stop.Memory) _ c.in-Memory.is tt c.run_first-stop.ensures.faults
+
+pub returns-in-InputFault-clause-counts : goal.returns-in-InputFault-clause-counts
+returns-in-InputFault-clause-counts g c = input_counts _ _ c.run_first-stop.result.what _ c.run_first-stop.result.ticks c.in-InputFault.is c.bare-in-InputFault.ensures c.run_first-stop.ensures.faults
+
+pub returns-in-WriteFault-clause-counts : goal.returns-in-WriteFault-clause-counts
+returns-in-WriteFault-clause-counts g c = output_counts _ _ c.run_first-stop.result.what _ c.run_first-stop.result.ticks c.in-WriteFault.is c.bare-in-WriteFault.ensures c.run_first-stop.ensures.faults

@@ -2,7 +2,7 @@ use Rattle.std.proofs.Common.{List, ℕ}
 use Rattle.fac_tool.specs.Answer.{run_answer}
 use Rattle.fac_tool.specs.Ends.{runs}
 use Rattle.fac_tool.proofs.EarlyEnds.{no_memory_before_run}
-use Rattle.fac_tool.proofs.InputLemmas.{onward, on_still}
+use Rattle.fac_tool.proofs.InputLemmas.{onward, on_still, still_unread}
 use Rattle.fac_tool.proofs.program_run.run_program.Goals as goal
 
 pub returns-in-Ok-clause-ends : goal.returns-in-Ok-clause-ends
@@ -12,4 +12,4 @@ returns-in-Ok-clause-ends g c =
 pub returns-in-Err-clause-ends : goal.returns-in-Err-clause-ends
 returns-in-Err-clause-ends g c =
     on_still c.args.channels.now (λ input P stands.
-    no_memory_before_run (λ (bytes : List ℕ). run_answer P bytes c.args.budget) (λ (bytes : List ℕ). runs P bytes c.args.budget) _ _ _ c.bare.result input c.bare.ensures tt)
+    no_memory_before_run (λ (bytes : List ℕ). run_answer P bytes c.args.budget) (λ (bytes : List ℕ). runs P bytes c.args.budget) _ _ _ c.bare.result input c.bare.ensures (still_unread c.args.channels.now) tt)

@@ -1,3 +1,4 @@
+use Rattle.fac_tool.proofs.StopLemmas.{carried_end}
 use Rattle.fac_tool.proofs.saving.image_bytes.Goals as goal
 
 pub returns : goal.returns
@@ -6,6 +7,6 @@ returns c =
     λ P stands.
     let whole = linked.1 P stands in
     record {
-      carries = record { image = c.in_ok-linked.linked.image; spelled = linked.0.spelled; carries = whole.carried.carries; effects = whole.effects; short = linked.0.short };
+      carries = record { image = c.in_ok-linked.linked.image; spelled = linked.0.spelled; carries = whole.carried.carries; ends = λ input n. carried_end P c.in_ok-linked.linked.image input n whole.carried; effects = whole.effects; short = linked.0.short };
       direct = whole.direct;
     }
