@@ -1,5 +1,5 @@
 -- A call of `exec` behind a call of `build`.
-use Rattle.std.proofs.Common.{◌≡◌, ◌≢◌, ◌⊎◌, ℕ, List, [], ◌∷◌, None, Some, Result, Ok, Err, inl, inr, refl, ap, sym, subst, ◌∙◌, arith}
+use Rattle.std.proofs.Common.{◌≡◌, ◌⊎◌, ℕ, List, [], ◌∷◌, None, Some, Result, Ok, Err, inl, inr, refl, ap, sym, subst, ◌∙◌, arith}
 use Rattle.std.specs.Prelude.{map, IfSome}
 use Rattle.std.specs.declared.option.Option.{Option}
 use Rattle.fac_base.specs.declared.limits.TheConstants.{MOST_IMAGE_BYTES}
@@ -15,14 +15,14 @@ use Rattle.fac_command.specs.Command.{Command}
 use Rattle.fac_command.specs.Command as command
 use Rattle.fac_tool.specs.declared.ended.Ended.{Ended}
 use Rattle.fac_tool.specs.Answer.{Sources, no_tokens_in, no_tree_in, trees, answer_on, on_resolved, on_verdict, own_definitions, come_to, accepted, limit}
-use Rattle.fac_tool.specs.SeenObjects.{SinkSeen, FilesSeen, InputSeen, OnInput}
-use Rattle.fac_tool.specs.Ends.{ending_of, EndsBy, Work, work_of}
+use Rattle.fac_tool.specs.SeenObjects.{SinkSeen, FilesSeen, InputSeen}
+use Rattle.fac_tool.specs.Ends.{ending_of, EndsBy, work_of}
 use Rattle.fac_tool.specs.Loads.{LoadsEnd}
 use Rattle.fac_tool.specs.Saved.{CarriesSaved, Saves, since}
 use Rattle.fac_tool.specs.Executed.{executed}
-use Rattle.fac_tool.specs.Plans.{Task, DoesOnSources, DoesOnImage, SavesProgram, on_sources, on_image, plan_of, running, saving}
+use Rattle.fac_tool.specs.Plans.{DoesOnSources, on_sources, on_image, running, saving}
 use Rattle.fac_tool.specs.Answers.{AnswersBy, Loaded, NoTexts, ReachesBy, Works, numbered_names}
-use Rattle.fac_tool.specs.SavedRuns.{SavedCodeRunsAsItsSource, ExecAfterBuildIsRun, AnswersAsRun}
+use Rattle.fac_tool.specs.SavedRuns.{SavedCodeRunsAsItsSource, ExecAfterBuildIsRun}
 use Rattle.fac_tool.proofs.Causes.{status-Tells}
 
 -- without a save `build` never succeeds

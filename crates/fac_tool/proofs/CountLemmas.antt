@@ -1,5 +1,5 @@
 -- Counts of faults by the status that is answered.
-use Rattle.std.proofs.Common.{◌≡◌, ◌≤◌, ℕ, List, None, Some, Result, Ok, Err, IsErr, inl, inr, refl, ap, sym, subst, ◌∙◌, arith}
+use Rattle.std.proofs.Common.{◌≡◌, ℕ, List, None, Some, Result, Ok, Err, IsErr, refl, ap, sym, subst, ◌∙◌, arith}
 use Rattle.std.specs.declared.option.Option.{Option}
 use Rattle.fac_lines.specs.Channels.{ChannelsTold, CountsFaults, IsUnread, TakesPiece}
 use Rattle.fac_vm.specs.declared.machine.StopKind.{StopKind}
@@ -28,8 +28,8 @@ IsNoFault stop.WriteFault = ⊥
 IsNoFault _ = Unit {0}
 
 pub other_counts : (before now : ChannelsTold) (what other : StopKind) (status : ℕ) → what ≡ other → IsNoFault other → CountsFaults before now (what ≡ stop.InputFault) (what ≡ stop.WriteFault) → StatusCounts before now status
-other_counts before now what other status is no h =
-    stop_counts before now what status h (λ e. absurd (subst IsNoFault (sym is ∙ e) no)) (λ e. absurd (subst IsNoFault (sym is ∙ e) no))
+other_counts before now what other status is isnt h =
+    stop_counts before now what status h (λ e. absurd (subst IsNoFault (sym is ∙ e) isnt)) (λ e. absurd (subst IsNoFault (sym is ∙ e) isnt))
 
 pub input_counts : (before now : ChannelsTold) (what : StopKind) (ended : Ended) (ticks : ℕ) → what ≡ stop.InputFault → ended ≡ bare 9 ticks → CountsFaults before now (what ≡ stop.InputFault) (what ≡ stop.WriteFault) → StatusCounts before now ended.status
 input_counts before now what ended ticks is e h = stop_counts before now what ended.status h (λ fault. ap (λ (x : Ended). x.status) e) (λ fault. absurd (cc))
@@ -45,7 +45,7 @@ took_counts before now piece (Ok x) status took fault = record {
 }
 took_counts before now piece (Err x) status took fault = record {
   input = record { later = omega (arith, took.unread.faults); stays = λ none. took.unread.faults };
-  output = record { later = took.cause.later; stays = λ none. absurd (none (fault tt)) };
+  output = record { later = took.cause.later; stays = λ none. absurd (none (fault refl)) };
 }
 
 -- The lines of a stack were written behind a run. One that has a stack is none that was cut short.

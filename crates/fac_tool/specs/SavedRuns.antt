@@ -33,7 +33,7 @@ pub record AnswersAsRun (names : List (List ℕ)) (image : List ℕ) (budget : �
   pub loads : LoadsGive names limit (until built loaded) texts
   pub reached : Ended
   pub ending : NoTexts (image ∷ []) MOST_IMAGE_BYTES files seen out reached ⊎ ((mid : FilesTold) × DoesOnSources (running budget) texts (since files mid) seen out reached)
-  pub tells : Tells (numbered_names (image ∷ [])) reached notes ended
+  pub tells : Tells (numbered_names []) reached notes ended
 
 -- Where a call of `build` ended with status 0, and the files tell what they hold, whatever a call of `exec` answers, with the files as `build` left them and with any budget, input
 -- and output, is what `run` does.
