@@ -10,7 +10,7 @@ use Rattle.fac_carry.specs.Stands.{ends_phrase}
 use Rattle.fac_expand.specs.declared.plan.Use.{Use}
 use Rattle.fac_expand.specs.declared.direct_places.Behind.TheVariants.{Nothing, Applied, Quotation}
 use Rattle.fac_expand.specs.inner.Calls.{has_tail}
-use Rattle.fac_expand.specs.inner.DirectPlaces.{is_other, DirectAt, at_end, at_last, at_item, at_call, at_last_call, at_dip, at_if, at_last_if, stands_behind, tail_of_if, made_quotation, entry_in, listed, IsDirectThere, AreDirect}
+use Rattle.fac_expand.specs.inner.DirectPlaces.{is_other, DirectAt, at_end, at_last, at_item, at_call, at_last_call, at_dip, at_if, at_last_if, at_loop, at_last_loop, at_while, at_last_while, stands_behind, tail_of_two, applied_if, flag_if, made_quotation, entry_in, listed, IsDirectThere, AreDirect}
 use Rattle.fac_expand.proofs.RunMoves.{same_found}
 
 pub clash : {A : Type 0} (b : Bool) → b ≡ true → b ≡ false → A
@@ -38,9 +38,9 @@ module _ (N : Image) (uses : List Use) where
 
   -- A direct phrase that begins with a quotation.
   data Quoted (a q : ℕ) : Type 0 where
-    as_applied : (t : Bool) → stands_behind (slice_get N.code (a + 1)) ≡ Applied t → IsDirectThere N uses (entry_in (slice_get N.templates q)) → (t ≡ false → DirectAt N uses (a + 2)) → Quoted a q
+    as_applied : (t : Bool) → stands_behind uses (slice_get N.code (a + 1)) ≡ Applied t → IsDirectThere N uses (entry_in (slice_get N.templates q)) → (t ≡ false → DirectAt N uses (a + 2)) → Quoted a q
     as_branched :
-        (s : ℕ) (t : Bool) → stands_behind (slice_get N.code (a + 1)) ≡ Quotation s → tail_of_if (slice_get N.code (a + 2)) ≡ Some t → IsDirectThere N uses (entry_in (slice_get N.templates q)) → IsDirectThere N uses (entry_in (slice_get N.templates s)) →
+        (s : ℕ) (t : Bool) → stands_behind uses (slice_get N.code (a + 1)) ≡ Quotation s → tail_of_two uses (slice_get N.code (a + 2)) ≡ Some t → IsDirectThere N uses (entry_in (slice_get N.templates q)) → IsDirectThere N uses (entry_in (slice_get N.templates s)) →
         (t ≡ false → DirectAt N uses (a + 3)) → Quoted a q
 
   entry_there : (q s : ℕ) (r : TemplateRow) → q ≡ s → slice_get N.templates s ≡ Some r → DirectAt N uses r.entry → IsDirectThere N uses (entry_in (slice_get N.templates q))
@@ -56,51 +56,58 @@ module _ (N : Image) (uses : List Use) where
   quoted a q e (at_end i f ends) = clash (ends_phrase i) ends (ap ends_phrase (same_found (slice_get N.code a) i (Quot q) f e))
   quoted a q e (at_last i f h tail) = not_other a q i e f h
   quoted a q e (at_item i f h tail d) = not_other a q i e f h
-  quoted a q e (at_call s r f er fc b d) = as_applied false (ap stands_behind fc) (entry_there q s r (same_quotation a q s e f) er b) (λ t. d)
-  quoted a q e (at_last_call s r f er fc b) = as_applied true (ap stands_behind fc) (entry_there q s r (same_quotation a q s e f) er b) (λ t. clash true refl t)
-  quoted a q e (at_dip s r f er fc b d) = as_applied false (ap stands_behind fc) (entry_there q s r (same_quotation a q s e f) er b) (λ t. d)
-  quoted a q e (at_if s u r v f er fq ev fi b c d) = as_branched u false (ap stands_behind fq) (ap tail_of_if fi) (entry_there q s r (same_quotation a q s e f) er b) (entry_there u u v refl ev c) (λ t. d)
-  quoted a q e (at_last_if s u r v f er fq ev fi b c) = as_branched u true (ap stands_behind fq) (ap tail_of_if fi) (entry_there q s r (same_quotation a q s e f) er b) (entry_there u u v refl ev c) (λ t. clash true refl t)
+  quoted a q e (at_call s r f er fc b d) = as_applied false (ap (stands_behind uses) fc) (entry_there q s r (same_quotation a q s e f) er b) (λ t. d)
+  quoted a q e (at_last_call s r f er fc b) = as_applied true (ap (stands_behind uses) fc) (entry_there q s r (same_quotation a q s e f) er b) (λ t. clash true refl t)
+  quoted a q e (at_dip s r f er fc b d) = as_applied false (ap (stands_behind uses) fc) (entry_there q s r (same_quotation a q s e f) er b) (λ t. d)
+  quoted a q e (at_if s u r v f er fq ev fi b c d) = as_branched u false (ap (stands_behind uses) fq) (ap (tail_of_two uses) fi) (entry_there q s r (same_quotation a q s e f) er b) (entry_there u u v refl ev c) (λ t. d)
+  quoted a q e (at_last_if s u r v f er fq ev fi b c) = as_branched u true (ap (stands_behind uses) fq) (ap (tail_of_two uses) fi) (entry_there q s r (same_quotation a q s e f) er b) (entry_there u u v refl ev c) (λ t. clash true refl t)
 
-  alone_by : {A : Type 0} (a q : ℕ) → stands_behind (slice_get N.code (a + 1)) ≡ Nothing → Quoted a q → A
+  quoted a q e (at_loop s w r f er fc one b d) = as_applied false (ap (stands_behind uses) fc ∙ ap (λ (x : Bool). applied_if x false) one) (entry_there q s r (same_quotation a q s e f) er b) (λ t. d)
+  quoted a q e (at_last_loop s w r f er fc one b) = as_applied true (ap (stands_behind uses) fc ∙ ap (λ (x : Bool). applied_if x true) one) (entry_there q s r (same_quotation a q s e f) er b) (λ t. clash true refl t)
+  quoted a q e (at_while s u w r v f er fq ev fi two b c d) =
+      as_branched u false (ap (stands_behind uses) fq) (ap (tail_of_two uses) fi ∙ ap (λ (x : Bool). flag_if x false) two) (entry_there q s r (same_quotation a q s e f) er b) (entry_there u u v refl ev c) (λ t. d)
+  quoted a q e (at_last_while s u w r v f er fq ev fi two b c) =
+      as_branched u true (ap (stands_behind uses) fq) (ap (tail_of_two uses) fi ∙ ap (λ (x : Bool). flag_if x true) two) (entry_there q s r (same_quotation a q s e f) er b) (entry_there u u v refl ev c) (λ t. clash true refl t)
+
+  alone_by : {A : Type 0} (a q : ℕ) → stands_behind uses (slice_get N.code (a + 1)) ≡ Nothing → Quoted a q → A
   alone_by a q f (as_applied t g h more) = absurd (let no : Nothing ≡ Applied t = sym f ∙ g in cc)
   alone_by a q f (as_branched s t g i h k more) = absurd (let no : Nothing ≡ Quotation s = sym f ∙ g in cc)
 
-  pub quoted_alone : {A : Type 0} (a q : ℕ) → slice_get N.code a ≡ Some (Quot q) → stands_behind (slice_get N.code (a + 1)) ≡ Nothing → DirectAt N uses a → A
+  pub quoted_alone : {A : Type 0} (a q : ℕ) → slice_get N.code a ≡ Some (Quot q) → stands_behind uses (slice_get N.code (a + 1)) ≡ Nothing → DirectAt N uses a → A
   quoted_alone a q e f d = alone_by a q f (quoted a q e d)
 
-  applied_by : (a q : ℕ) (t : Bool) → stands_behind (slice_get N.code (a + 1)) ≡ Applied t → Quoted a q → IsDirectThere N uses (entry_in (slice_get N.templates q)) × (t ≡ false → DirectAt N uses (a + 2))
+  applied_by : (a q : ℕ) (t : Bool) → stands_behind uses (slice_get N.code (a + 1)) ≡ Applied t → Quoted a q → IsDirectThere N uses (entry_in (slice_get N.templates q)) × (t ≡ false → DirectAt N uses (a + 2))
   applied_by a q t f (as_applied u g h more) = let same : t ≡ u = (let both : Applied t ≡ Applied u = sym f ∙ g in cc) in (h, λ no. more (sym same ∙ no))
   applied_by a q t f (as_branched s u g i h k more) = absurd (let no : Applied t ≡ Quotation s = sym f ∙ g in cc)
 
-  pub applied_leads : (a q : ℕ) (t : Bool) → slice_get N.code a ≡ Some (Quot q) → stands_behind (slice_get N.code (a + 1)) ≡ Applied t → DirectAt N uses a → IsDirectThere N uses (entry_in (slice_get N.templates q)) × (t ≡ false → DirectAt N uses (a + 2))
+  pub applied_leads : (a q : ℕ) (t : Bool) → slice_get N.code a ≡ Some (Quot q) → stands_behind uses (slice_get N.code (a + 1)) ≡ Applied t → DirectAt N uses a → IsDirectThere N uses (entry_in (slice_get N.templates q)) × (t ≡ false → DirectAt N uses (a + 2))
   applied_leads a q t e f d = applied_by a q t f (quoted a q e d)
 
   -- two quotations before an `if`
   pub record Branched (a q s : ℕ) : Type 0 where
     pub tail : Bool
-    pub there : tail_of_if (slice_get N.code (a + 2)) ≡ Some tail
+    pub there : tail_of_two uses (slice_get N.code (a + 2)) ≡ Some tail
     pub first : IsDirectThere N uses (entry_in (slice_get N.templates q))
     pub second : IsDirectThere N uses (entry_in (slice_get N.templates s))
     pub more : tail ≡ false → DirectAt N uses (a + 3)
 
-  branched_by : (a q s : ℕ) → stands_behind (slice_get N.code (a + 1)) ≡ Quotation s → Quoted a q → Branched a q s
+  branched_by : (a q s : ℕ) → stands_behind uses (slice_get N.code (a + 1)) ≡ Quotation s → Quoted a q → Branched a q s
   branched_by a q s f (as_applied u g h more) = absurd (let no : Quotation s ≡ Applied u = sym f ∙ g in cc)
   branched_by a q s f (as_branched v u g i h k more) =
       let same : v ≡ s = (let both : Quotation v ≡ Quotation s = sym g ∙ f in cc) in
       record { tail = u; there = i; first = h; second = subst (λ (n : ℕ). IsDirectThere N uses (entry_in (slice_get N.templates n))) same k; more = more }
 
-  pub branched : (a q s : ℕ) → slice_get N.code a ≡ Some (Quot q) → stands_behind (slice_get N.code (a + 1)) ≡ Quotation s → DirectAt N uses a → Branched a q s
+  pub branched : (a q s : ℕ) → slice_get N.code a ≡ Some (Quot q) → stands_behind uses (slice_get N.code (a + 1)) ≡ Quotation s → DirectAt N uses a → Branched a q s
   branched a q s e f d = branched_by a q s f (quoted a q e d)
 
-  pub branched_leads : (a q s : ℕ) (t : Bool) → slice_get N.code a ≡ Some (Quot q) → stands_behind (slice_get N.code (a + 1)) ≡ Quotation s → tail_of_if (slice_get N.code (a + 2)) ≡ Some t → DirectAt N uses a →
+  pub branched_leads : (a q s : ℕ) (t : Bool) → slice_get N.code a ≡ Some (Quot q) → stands_behind uses (slice_get N.code (a + 1)) ≡ Quotation s → tail_of_two uses (slice_get N.code (a + 2)) ≡ Some t → DirectAt N uses a →
       IsDirectThere N uses (entry_in (slice_get N.templates q)) × IsDirectThere N uses (entry_in (slice_get N.templates s)) × (t ≡ false → DirectAt N uses (a + 3))
   branched_leads a q s t e f g d =
       let b = branched a q s e f d in
-      let same : t ≡ b.tail = same_found (tail_of_if (slice_get N.code (a + 2))) t b.tail g b.there in
+      let same : t ≡ b.tail = same_found (tail_of_two uses (slice_get N.code (a + 2))) t b.tail g b.there in
       (b.first, b.second, λ no. b.more (sym same ∙ no))
 
-  pub not_branched : {A : Type 0} (a q s : ℕ) → slice_get N.code a ≡ Some (Quot q) → stands_behind (slice_get N.code (a + 1)) ≡ Quotation s → tail_of_if (slice_get N.code (a + 2)) ≡ None → DirectAt N uses a → A
+  pub not_branched : {A : Type 0} (a q s : ℕ) → slice_get N.code a ≡ Some (Quot q) → stands_behind uses (slice_get N.code (a + 1)) ≡ Quotation s → tail_of_two uses (slice_get N.code (a + 2)) ≡ None → DirectAt N uses a → A
   not_branched a q s e f g d = let b = branched a q s e f d in absurd (let there = b.there in let no : None ≡ Some b.tail = sym g ∙ there in cc)
 
   -- What begins with no quotation: the end of a phrase, or another item.
@@ -120,6 +127,10 @@ module _ (N : Image) (uses : List Use) where
   unquoted a i e none (at_dip s r f er fc b d) = no_quotation a s i e none f
   unquoted a i e none (at_if s u r v f er fq ev fi b c d) = no_quotation a s i e none f
   unquoted a i e none (at_last_if s u r v f er fq ev fi b c) = no_quotation a s i e none f
+  unquoted a i e none (at_loop s w r f er fc one b d) = no_quotation a s i e none f
+  unquoted a i e none (at_last_loop s w r f er fc one b) = no_quotation a s i e none f
+  unquoted a i e none (at_while s u w r v f er fq ev fi two b c d) = no_quotation a s i e none f
+  unquoted a i e none (at_last_while s u w r v f er fq ev fi two b c) = no_quotation a s i e none f
 
   item_by : (a : ℕ) (i : Instr) → ends_phrase i ≡ false → Unquoted a i → (is_other uses i ≡ true) × (has_tail i ≡ false → DirectAt N uses (a + 1))
   item_by a i goes_on (as_end h) = clash (ends_phrase i) h goes_on
@@ -137,3 +148,7 @@ module _ (N : Image) (uses : List Use) where
   nowhere a e (at_dip s r f er fc b d) = absurd (let no : None ≡ Some (Quot s) = sym e ∙ f in cc)
   nowhere a e (at_if s u r v f er fq ev fi b c d) = absurd (let no : None ≡ Some (Quot s) = sym e ∙ f in cc)
   nowhere a e (at_last_if s u r v f er fq ev fi b c) = absurd (let no : None ≡ Some (Quot s) = sym e ∙ f in cc)
+  nowhere a e (at_loop s w r f er fc one b d) = absurd (let no : None ≡ Some (Quot s) = sym e ∙ f in cc)
+  nowhere a e (at_last_loop s w r f er fc one b) = absurd (let no : None ≡ Some (Quot s) = sym e ∙ f in cc)
+  nowhere a e (at_while s u w r v f er fq ev fi two b c d) = absurd (let no : None ≡ Some (Quot s) = sym e ∙ f in cc)
+  nowhere a e (at_last_while s u w r v f er fq ev fi two b c) = absurd (let no : None ≡ Some (Quot s) = sym e ∙ f in cc)

@@ -1,12 +1,12 @@
 -- Where plain code stands for a direct phrase, the code of a direct phrase begins.
 use Rattle.std.proofs.Common.{◌≡◌, ◌<◌, ◌+◌, ◌++◌, ℕ, List, [], ◌∷◌, length, Bool, true, false, Option, Some, None, refl, ap, sym, subst, ◌∙◌, arith}
-use Rattle.std.specs.Prelude.{nat_eq, slice_get}
+use Rattle.std.specs.Prelude.{nat_eq, slice_get, codes}
 use Rattle.fac_base.specs.declared.height.Height.{Height}
 use Rattle.fac_base.specs.declared.place.Place.{Place}
 use Rattle.fac_lang.specs.declared.program.Program.{Program}
 use Rattle.fac_lang.specs.declared.program.WordDef.{WordDef}
 use Rattle.fac_lang.specs.declared.program.Sort.{Sort}
-use Rattle.fac_lang.specs.declared.program.Sort.TheVariants.{Core as core_sort}
+use Rattle.fac_lang.specs.declared.program.Sort.TheVariants.{Core as core_sort, Body as body_sort}
 use Rattle.fac_lang.specs.declared.core_table.CoreWord.{CoreWord}
 use Rattle.fac_lang.specs.declared.core_table.CoreWord.TheVariants.{Call as w_call, Dip as w_dip, If as w_if, Execute as w_execute, Boa as w_boa}
 use Rattle.fac_lang.specs.Phrases.{yes, Phrase, end, then, Item, lit, lit_arr, quot, word, bind, local, fry, hole, call_effect, execute_effect, next_method, made, next_after, held, known, Value, plain as plain_value, fun, Callable, of_phrase}
@@ -15,7 +15,7 @@ use Rattle.fac_lang.specs.World.{World, State}
 use Rattle.fac_lang.specs.Eval.{wrong, goes, runs}
 use Rattle.fac_lang.specs.Meaning.{sort_of, sort_act, word_phrase}
 use Rattle.fac_code.specs.declared.image.Instr.{Instr}
-use Rattle.fac_code.specs.declared.image.Instr.TheVariants.{Quot, Call, Dip, If, Ret, Halt, Bind, Boa}
+use Rattle.fac_code.specs.declared.image.Instr.TheVariants.{Quot, Callw, Call, Dip, If, Ret, Halt, Bind, Boa}
 use Rattle.fac_code.specs.declared.image.TemplateRow.{TemplateRow}
 use Rattle.fac_code.specs.declared.image.Image.{Image}
 use Rattle.fac_store.specs.MachineValues.{MValue, m_plain}
@@ -23,12 +23,12 @@ use Rattle.fac_carry.specs.Accessors.{Accessor, getting, setting, putting, acces
 use Rattle.fac_carry.specs.MachineView.{template_phrases, value_view}
 use Rattle.fac_carry.specs.WholeValues.{AllWhole}
 use Rattle.fac_carry.specs.Stands.{RunsPhrase, PushesItself, IsStuck, ends_phrase, Calling, l_word, l_call, l_if, l_execute, l_call_effect, l_execute_effect, l_generic, l_next, Translates, t_int, t_true, t_false, t_text, t_array, t_reference, t_symbol, t_held, t_quot, t_fry, t_prim, t_accessor, t_isa, t_dip, t_boa, t_stuck, t_calling, Stands, s_end, s_item, s_tail, s_bind, PlainCode}
-use Rattle.fac_carry.specs.Direct.{AppliesNothing, IsOther, Direct, direct_end, direct_item, direct_call, direct_dip, direct_if}
+use Rattle.fac_carry.specs.Direct.{AppliesNothing, IsOther, IsKernelWord, IsLoop, is_loop, IsWhile, is_while, is_until, Direct, direct_end, direct_item, direct_call, direct_dip, direct_if, direct_loop, direct_while}
 use Rattle.fac_carry.proofs.WholeValueLemmas.{cells_whole, more_whole}
 use Rattle.fac_expand.specs.declared.plan.Use.{Use}
 use Rattle.fac_expand.specs.DirectInPlace.{UsesAre, KeepsDirect}
 use Rattle.fac_expand.specs.inner.Calls.{has_tail}
-use Rattle.fac_expand.specs.inner.DirectPlaces.{is_called, is_other, DirectAt, at_end, at_last, at_item, at_call, at_last_call, at_dip, at_if, at_last_if}
+use Rattle.fac_expand.specs.inner.DirectPlaces.{is_called, is_other, DirectAt, at_end, at_last, at_item, at_call, at_last_call, at_dip, at_if, at_last_if, at_loop, at_last_loop, at_while, at_last_while}
 use Rattle.fac_expand.specs.inner.DirectImages.{IsDirectOf}
 use Rattle.fac_expand.proofs.RunMoves.{template_stands, values_whole}
 
@@ -47,6 +47,8 @@ module _ (P : Program) where
     shaped_dip : {s u : Shape} {b t : Phrase} {p q : Place} (w : ℕ) → sort_of P w ≡ Some (core_sort w_dip) → Shaped s b → Shaped u t → Shaped (two s u) (then (quot b) p (then (word w) q t))
     shaped_if :
         {s u v : Shape} {b c t : Phrase} {p q r : Place} (w : ℕ) → sort_of P w ≡ Some (core_sort w_if) → Shaped s b → Shaped u c → Shaped v t → Shaped (three s u v) (then (quot b) p (then (quot c) q (then (word w) r t)))
+    shaped_loop : {s u : Shape} {b t : Phrase} {p q : Place} (w : ℕ) → IsLoop P w → Shaped s b → Shaped u t → Shaped (two s u) (then (quot b) p (then (word w) q t))
+    shaped_while : {s u v : Shape} {b c t : Phrase} {p q r : Place} (w : ℕ) → IsWhile P w → Shaped s b → Shaped u c → Shaped v t → Shaped (three s u v) (then (quot b) p (then (quot c) q (then (word w) r t)))
 
   has_shape : (t : Phrase) → Direct P t → (s : Shape) × Shaped s t
   has_shape _ direct_end = (flat, shaped_end)
@@ -54,6 +56,8 @@ module _ (P : Program) where
   has_shape _ (direct_call w e b d) = let r = has_shape _ b in let u = has_shape _ d in (two r.0 u.0, shaped_call w e r.1 u.1)
   has_shape _ (direct_dip w e b d) = let r = has_shape _ b in let u = has_shape _ d in (two r.0 u.0, shaped_dip w e r.1 u.1)
   has_shape _ (direct_if w e b c d) = let r = has_shape _ b in let s = has_shape _ c in let u = has_shape _ d in (three r.0 s.0 u.0, shaped_if w e r.1 s.1 u.1)
+  has_shape _ (direct_loop w e b d) = let r = has_shape _ b in let u = has_shape _ d in (two r.0 u.0, shaped_loop w e r.1 u.1)
+  has_shape _ (direct_while w e b c d) = let r = has_shape _ b in let s = has_shape _ c in let u = has_shape _ d in (three r.0 s.0 u.0, shaped_while w e r.1 s.1 u.1)
 
   local_other : (v : Value) (y : ℕ) (b : Bool) → IsOther P (elim b [ true ↦ held v | false ↦ local y ])
   local_other v y true = tt
@@ -86,6 +90,8 @@ module _ (P : Program) where
   put_shaped x v _ _ (shaped_call w e b d) = shaped_call w e (put_shaped x v _ _ b) (put_shaped x v _ _ d)
   put_shaped x v _ _ (shaped_dip w e b d) = shaped_dip w e (put_shaped x v _ _ b) (put_shaped x v _ _ d)
   put_shaped x v _ _ (shaped_if w e b c d) = shaped_if w e (put_shaped x v _ _ b) (put_shaped x v _ _ c) (put_shaped x v _ _ d)
+  put_shaped x v _ _ (shaped_loop w e b d) = shaped_loop w e (put_shaped x v _ _ b) (put_shaped x v _ _ d)
+  put_shaped x v _ _ (shaped_while w e b c d) = shaped_while w e (put_shaped x v _ _ b) (put_shaped x v _ _ c) (put_shaped x v _ _ d)
 
 -- A quotation can be done, and so can what applies one.
 abbrev blank_world : World Value
@@ -124,6 +130,25 @@ module _ (P : Program) where
   stuck_applies w_if w e stuck = absurd (let no : runs nothing (blank []) [] ≡ wrong = stuck_core w_if w (blank (fun nothing ∷ fun nothing ∷ plain_value yes ∷ [])) e stuck in cc)
   stuck_applies _ w e stuck = tt
 
+  -- a word that is defined by a phrase is called
+  kernel_sort : (name : List ℕ) (w : ℕ) → (k : IsKernelWord P name w) → sort_of P w ≡ Some (body_sort k.phrase)
+  kernel_sort name w k = ap (λ (o : Option WordDef). elim o [ Some d ↦ Some d.sort | None ↦ None ]) k.there ∙ ap Some k.sort_is
+
+  loop_sort : (w : ℕ) → IsLoop P w → (t : Phrase) × (sort_of P w ≡ Some (body_sort t))
+  loop_sort w (is_loop k) = (k.phrase, kernel_sort (codes "loop") w k)
+
+  while_sort : (w : ℕ) → IsWhile P w → (t : Phrase) × (sort_of P w ≡ Some (body_sort t))
+  while_sort w (is_while k) = (k.phrase, kernel_sort (codes "while") w k)
+  while_sort w (is_until k) = (k.phrase, kernel_sort (codes "until") w k)
+
+  stuck_body : {A : Type 0} (w : ℕ) (t : Phrase) → sort_of P w ≡ Some (body_sort t) → IsStuck P (word w) → A
+  stuck_body w t e stuck = absurd (let no : runs (of_phrase t) (blank []) [] ≡ wrong = subst (λ (o : Option Sort). sort_act P w o (blank []) ≡ wrong) e (stuck any_fits no_height (blank [])) in cc)
+
+  accessor_body : {A : Type 0} (x : Accessor) (s : List ℕ) (t : Phrase) → Some (body_sort t) ≡ Some (accessor_sort x s) → A
+  accessor_body getting s t e = absurd (cc)
+  accessor_body setting s t e = absurd (cc)
+  accessor_body putting s t e = absurd (cc)
+
   same_core : (o : Option Sort) (c d : CoreWord) → o ≡ Some (core_sort c) → o ≡ Some (core_sort d) → d ≡ c
   same_core o c d e f = let both : Some (core_sort d) ≡ Some (core_sort c) = sym f ∙ e in cc
 
@@ -150,6 +175,24 @@ module _ (P : Program) where
     translates_applies F w c x e (t_stuck stuck) = stuck_applies c w e stuck
     translates_applies F w c x e (t_calling calls) = calling_applies false w c x e calls
 
+  module _ (N : Image) where
+    calling_body : (tail : Bool) (w : ℕ) (t : Phrase) (x : Instr) → sort_of P w ≡ Some (body_sort t) → Calling P N tail (word w) x → x ≡ Callw w tail
+    calling_body tail w t x e (l_word _ a code) = refl
+    calling_body tail w t x e (l_call _ f) = absurd (let no = sym e ∙ f in cc)
+    calling_body tail w t x e (l_if _ f) = absurd (let no = sym e ∙ f in cc)
+    calling_body tail w t x e (l_execute _ f) = absurd (let no = sym e ∙ f in cc)
+    calling_body tail w t x e (l_generic _ n r f er ew same) = absurd (let no = sym e ∙ f in cc)
+
+    translates_body : (F : List MValue) (w : ℕ) (t : Phrase) (x : Instr) → sort_of P w ≡ Some (body_sort t) → Translates P N (template_phrases P) F (word w) x → x ≡ Callw w false
+    translates_body F w t x e (t_symbol _ r pushes none ew) = absurd (subst PushesItself e pushes)
+    translates_body F w t x e (t_prim _ k f built ew) = absurd (let no = sym e ∙ f in cc)
+    translates_body F w t x e (t_accessor y _ k s f et ew) = accessor_body y s t (sym e ∙ f)
+    translates_body F w t x e (t_isa _ d k f same) = absurd (let no = sym e ∙ f in cc)
+    translates_body F w t x e (t_dip _ f) = absurd (let no = sym e ∙ f in cc)
+    translates_body F w t x e (t_boa _ f) = absurd (let no = sym e ∙ f in cc)
+    translates_body F w t x e (t_stuck stuck) = stuck_body w t e stuck
+    translates_body F w t x e (t_calling calls) = calling_body false w t x e calls
+
 has_definition : (o : Option WordDef) → RunsPhrase (elim o [ Some d ↦ Some d.sort | None ↦ None ]) → (d : WordDef) × (o ≡ Some d)
 has_definition None h = absurd h
 has_definition (Some d) h = (d, refl)
@@ -157,7 +200,7 @@ has_definition (Some d) h = (d, refl)
 module _ (P : Program) (N : Image) (uses : List Use) (plain : PlainCode P N) (are : UsesAre P uses) where
   -- another item's instruction
   calling_other : (tail : Bool) (i : Item) (x : Instr) → IsOther P i → Calling P N tail i x → (is_other uses x ≡ true) × (has_tail x ≡ tail)
-  calling_other tail _ _ o (l_word w a code) = let d = has_definition (slice_get P.words w) code.runs in (ap is_called (are w d.0 d.1 (o.1 d.0 d.1)), refl)
+  calling_other tail _ _ o (l_word w a code) = let d = has_definition (slice_get P.words w) code.runs in (ap is_called (are.called w d.0 d.1 (o.1 d.0 d.1)), refl)
   calling_other tail _ _ o (l_call w e) = absurd (subst (AppliesNothing P) e o.0)
   calling_other tail _ _ o (l_if w e) = absurd (subst (AppliesNothing P) e o.0)
   calling_other tail _ _ o (l_execute w e) = (refl, refl)
@@ -249,6 +292,30 @@ module _ (P : Program) (N : Image) (uses : List Use) (plain : PlainCode P N) (ar
       Stands P N (template_phrases P) last F (a + 1) (then (quot c) p (then (word w) q t)) → DirectAt N uses a
   two_quoted last F a x w p q c t ends whole e h es other go (s_item z f tr st) = if_there last F a x z w q t ends whole e h f (quoted F c z whole other tr) es go st
 
+  loop_there : (last : Instr) (F : List MValue) (a : ℕ) (x : Instr) (w : ℕ) (p : Place) (t : Phrase) → ends_phrase last ≡ true → AllWhole P N F → slice_get N.code a ≡ Some x → HasDirectTemplate x → IsLoop P w → There t →
+      Stands P N (template_phrases P) last F (a + 1) (then (word w) p t) → DirectAt N uses a
+  loop_there last F a x w p t ends whole e h is go (s_item y f tr st) =
+      let sort = loop_sort P w is in
+      at_loop h.number w h.row (is_at a x (Quot h.number) e h.made) h.there (is_at (a + 1) y (Callw w false) f (translates_body P N F w sort.0 y sort.1 tr)) (are.loops w is) h.direct (two_on a (go last F (a + 1 + 1) ends whole st))
+  loop_there last F a x w p _ ends whole e h is go (s_tail y same f c) =
+      let sort = loop_sort P w is in
+      at_last_loop h.number w h.row (is_at a x (Quot h.number) e h.made) h.there (is_at (a + 1) y (Callw w true) f (calling_body P N true w sort.0 y sort.1 c)) (are.loops w is) h.direct
+
+  while_there : (last : Instr) (F : List MValue) (a : ℕ) (x z : Instr) (w : ℕ) (p : Place) (t : Phrase) → ends_phrase last ≡ true → AllWhole P N F → slice_get N.code a ≡ Some x → HasDirectTemplate x → slice_get N.code (a + 1) ≡ Some z → HasDirectTemplate z →
+      IsWhile P w → There t → Stands P N (template_phrases P) last F (a + 1 + 1) (then (word w) p t) → DirectAt N uses a
+  while_there last F a x z w p t ends whole e h ez k is go (s_item y f tr st) =
+      let sort = while_sort P w is in
+      at_while h.number k.number w h.row k.row (is_at a x (Quot h.number) e h.made) h.there (is_at (a + 1) z (Quot k.number) ez k.made) k.there (second_at a (Callw w false) (is_at (a + 1 + 1) y (Callw w false) f (translates_body P N F w sort.0 y sort.1 tr))) (are.whiles w is)
+      h.direct k.direct (three_on a (go last F (a + 1 + 1 + 1) ends whole st))
+  while_there last F a x z w p _ ends whole e h ez k is go (s_tail y same f c) =
+      let sort = while_sort P w is in
+      at_last_while h.number k.number w h.row k.row (is_at a x (Quot h.number) e h.made) h.there (is_at (a + 1) z (Quot k.number) ez k.made) k.there (second_at a (Callw w true) (is_at (a + 1 + 1) y (Callw w true) f (calling_body P N true w sort.0 y sort.1 c))) (are.whiles w is)
+      h.direct k.direct
+
+  two_looped : (last : Instr) (F : List MValue) (a : ℕ) (x : Instr) (w : ℕ) (p q : Place) (c t : Phrase) → ends_phrase last ≡ true → AllWhole P N F → slice_get N.code a ≡ Some x → HasDirectTemplate x → IsWhile P w → There c → There t →
+      Stands P N (template_phrases P) last F (a + 1) (then (quot c) p (then (word w) q t)) → DirectAt N uses a
+  two_looped last F a x w p q c t ends whole e h is other go (s_item z f tr st) = while_there last F a x z w q t ends whole e h f (quoted F c z whole other tr) is go st
+
   abbrev any_value : MValue
   any_value = m_plain yes
 
@@ -267,6 +334,10 @@ module _ (P : Program) (N : Image) (uses : List Use) (plain : PlainCode P N) (ar
       dip_there last F a x w q t ends whole e (quoted F b x whole (λ l G k z g h. shaped_there s b body l G k z g h) tr) es (λ l G k z g h. shaped_there u t d l G k z g h) st
   shaped_there (three s u v) _ (shaped_if {b = b} {c = c} {t = t} {q = q} {r = r} w es body other d) last F a ends whole (s_item x e tr st) =
       two_quoted last F a x w q r c t ends whole e (quoted F b x whole (λ l G k z g h. shaped_there s b body l G k z g h) tr) es (λ l G k z g h. shaped_there u c other l G k z g h) (λ l G k z g h. shaped_there v t d l G k z g h) st
+  shaped_there (two s u) _ (shaped_loop {b = b} {t = t} {q = q} w is body d) last F a ends whole (s_item x e tr st) =
+      loop_there last F a x w q t ends whole e (quoted F b x whole (λ l G k z g h. shaped_there s b body l G k z g h) tr) is (λ l G k z g h. shaped_there u t d l G k z g h) st
+  shaped_there (three s u v) _ (shaped_while {b = b} {c = c} {t = t} {q = q} {r = r} w is body other d) last F a ends whole (s_item x e tr st) =
+      two_looped last F a x w q r c t ends whole e (quoted F b x whole (λ l G k z g h. shaped_there s b body l G k z g h) tr) is (λ l G k z g h. shaped_there u c other l G k z g h) (λ l G k z g h. shaped_there v t d l G k z g h) st
 
   pub direct_there : (t : Phrase) → Direct P t → There t
   direct_there t d = let shape = has_shape P t d in shaped_there shape.0 t shape.1
@@ -276,7 +347,7 @@ pub keeps_direct : (top : ℕ) (N : Image) (uses : List Use) (M : Image) → IsD
 keeps_direct top N uses M h P is plain are = record {
   words = λ w b c d.
       h.words w (subst (λ (n : ℕ). w < n) is c.below) c.row c.there b c.does
-      (λ a r e f. direct_there P N uses plain are (word_phrase P w) d Ret [] a refl tt (plain.coded.words w a (record { below = c.below; runs = c.runs; row = r; there = e; does = f })));
-  top = λ d. h.start (direct_there P N uses plain are (word_phrase P P.top) d Halt [] N.start refl tt plain.phrase);
+      (λ a r e f. direct_there P N uses plain are (word_phrase P w) d Ret [] a refl tt (plain.coded.words w a (record { below = c.below; runs = c.runs; row = r; there = e; does = f }))) P are;
+  top = λ d. h.start (direct_there P N uses plain are (word_phrase P P.top) d Halt [] N.start refl tt plain.phrase) P are;
   tails = h.tails;
 }

@@ -1,8 +1,8 @@
 //! Whether the code of a direct phrase begins at a place of plain code.
-ghost use Rattle.std.specs.Prelude.{◌≡◌, ◌+◌, ◌++◌, List, None, Some, false, slice_get, IfOk, OnOk, MatchOption};
+ghost use Rattle.std.specs.Prelude.{◌≡◌, ◌+◌, ◌++◌, None, Some, false, slice_get, IfOk, OnOk, MatchOption};
 ghost use Rattle.fac_code.specs.declared.image.Image.{Image as Code};
-ghost use Rattle.fac_expand.specs.declared.plan.Use.{Use as Becomes};
-ghost use Rattle.fac_expand.specs.inner.DirectPlaces.{DirectAt, LeadsTo, Passes, entry_in, is_called, is_other, listed, made_quotation, stands_behind, tail_of_if};
+ghost use Rattle.fac_expand.specs.DirectInPlace.{takes_one, takes_two};
+ghost use Rattle.fac_expand.specs.inner.DirectPlaces.{DirectAt, LeadsTo, Passes, applied_if, entry_in, flag_if, is_called, is_other, listed, made_quotation, stands_behind, tail_of_two};
 
 use crate::coming::is_tailed;
 use crate::growing::Growing;
@@ -32,24 +32,67 @@ enum Group {
     Leads(Option<u32>, Option<u32>, Option<u32>),
 }
 
+// Whether a word goes on with one quotation.
+fn is_loop(uses: &[Use], word: u32) -> bool
+    ensures { result ≡ takes_one (slice_get uses.now word) }
+{
+    match uses.get(word as usize) {
+        Some(Use::Loop) => true,
+        _ => false,
+    }
+}
+
+// Whether it goes on with two.
+fn is_while(uses: &[Use], word: u32) -> bool
+    ensures { result ≡ takes_two (slice_get uses.now word) }
+{
+    match uses.get(word as usize) {
+        Some(Use::While) => true,
+        Some(Use::Until) => true,
+        _ => false,
+    }
+}
+
+// What a word that goes on with one quotation is behind it.
+fn loop_behind(uses: &[Use], word: u32, tail: bool) -> Behind
+    ensures { result ≡ applied_if (takes_one (slice_get uses.now word)) tail }
+{
+    match is_loop(uses, word) {
+        true => Behind::Applied(tail),
+        false => Behind::Nothing,
+    }
+}
+
+// The flag of a word that goes on with two.
+fn while_tail(uses: &[Use], word: u32, tail: bool) -> Option<bool>
+    ensures { result ≡ flag_if (takes_two (slice_get uses.now word)) tail }
+{
+    match is_while(uses, word) {
+        true => Some(tail),
+        false => None,
+    }
+}
+
 // What stands at a place, which is that behind a quotation.
-fn standing_at(plain: &Image, place: usize) -> Behind
-    ensures { result ≡ stands_behind (slice_get plain.now.code place) }
+fn standing_at(plain: &Image, uses: &[Use], place: usize) -> Behind
+    ensures { result ≡ stands_behind uses.now (slice_get plain.now.code place) }
 {
     match plain.code.get(place) {
         Some(Instr::Call { tail }) => Behind::Applied(*tail),
         Some(Instr::Dip) => Behind::Applied(false),
+        Some(Instr::Callw { word, tail }) => loop_behind(uses, *word, *tail),
         Some(Instr::Quot(quotation)) => Behind::Quotation(*quotation),
         _ => Behind::Nothing,
     }
 }
 
-// Whether the `if` at a place is the last item, where there is one.
-fn if_at(plain: &Image, place: usize) -> Option<bool>
-    ensures { result ≡ tail_of_if (slice_get plain.now.code place) }
+// Whether what applies two quotations at a place is the last item, where that stands there.
+fn tail_at(plain: &Image, uses: &[Use], place: usize) -> Option<bool>
+    ensures { result ≡ tail_of_two uses.now (slice_get plain.now.code place) }
 {
     match plain.code.get(place) {
         Some(Instr::If { tail }) => Some(*tail),
+        Some(Instr::Callw { word, tail }) => while_tail(uses, *word, *tail),
         _ => None,
     }
 }
@@ -85,23 +128,23 @@ fn next_place(place: u32, count: u32, is_last: bool) -> Option<u32>
 }
 
 // A quotation that is applied where it stands.
-fn applied(plain: &Image, place: u32, quotation: u32, is_last: bool) -> Group
+fn applied(plain: &Image, uses: &[Use], place: u32, quotation: u32, is_last: bool) -> Group
     requires there { slice_get plain.now.code place ≡ Some (Instr.Quot quotation) }
-    requires behind { stands_behind (slice_get plain.now.code (place + 1)) ≡ Behind.Applied is_last }
-    ensures { (uses : List Becomes) → LeadsTo plain.now uses place result }
+    requires behind { stands_behind uses.now (slice_get plain.now.code (place + 1)) ≡ Behind.Applied is_last }
+    ensures { LeadsTo plain.now uses.now place result }
 {
     let entry = entry_of(plain, quotation);
     let next = next_place(place, 2, is_last);
     Group::Leads(entry, next, None)
 }
 
-// Two quotations, which are direct before an `if` alone.
-fn branched(plain: &Image, place: u32, first: u32, second: u32) -> Group
+// Two quotations, which are direct before what applies two alone.
+fn branched(plain: &Image, uses: &[Use], place: u32, first: u32, second: u32) -> Group
     requires there { slice_get plain.now.code place ≡ Some (Instr.Quot first) }
-    requires behind { stands_behind (slice_get plain.now.code (place + 1)) ≡ Behind.Quotation second }
-    ensures { (uses : List Becomes) → LeadsTo plain.now uses place result }
+    requires behind { stands_behind uses.now (slice_get plain.now.code (place + 1)) ≡ Behind.Quotation second }
+    ensures { LeadsTo plain.now uses.now place result }
 {
-    match if_at(plain, place as usize + 2) {
+    match tail_at(plain, uses, place as usize + 2) {
         Some(is_last) => {
             let one = entry_of(plain, first);
             let other = entry_of(plain, second);
@@ -113,19 +156,19 @@ fn branched(plain: &Image, place: u32, first: u32, second: u32) -> Group
 }
 
 // A quotation.
-fn quoted(plain: &Image, place: u32, quotation: u32) -> Group
+fn quoted(plain: &Image, uses: &[Use], place: u32, quotation: u32) -> Group
     requires { slice_get plain.now.code place ≡ Some (Instr.Quot quotation) }
-    ensures { (uses : List Becomes) → LeadsTo plain.now uses place result }
+    ensures { LeadsTo plain.now uses.now place result }
 {
-    match standing_at(plain, place as usize + 1) {
+    match standing_at(plain, uses, place as usize + 1) {
         Behind::Nothing => Group::Indirect,
-        Behind::Applied(is_last) => applied(plain, place, quotation, is_last),
-        Behind::Quotation(second) => branched(plain, place, quotation, second),
+        Behind::Applied(is_last) => applied(plain, uses, place, quotation, is_last),
+        Behind::Quotation(second) => branched(plain, uses, place, quotation, second),
     }
 }
 
-// Whether a use of a word becomes a call.
-fn is_call(uses: &[Use], word: u32) -> bool
+/// Whether a use of a word becomes a call.
+pub fn is_call(uses: &[Use], word: u32) -> bool
     ensures { result ≡ is_called (slice_get uses.now word) }
 {
     match uses.get(word as usize) {
@@ -172,7 +215,7 @@ fn group_at(plain: &Image, uses: &[Use], place: u32) -> Group
 {
     match plain.code.get(place as usize) {
         Some(instr) => match quotation_of(*instr) {
-            Some(quotation) => quoted(plain, place, quotation),
+            Some(quotation) => quoted(plain, uses, place, quotation),
             None => unquoted(uses, place, *instr),
         },
         None => Group::Indirect,

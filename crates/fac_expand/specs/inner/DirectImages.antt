@@ -4,8 +4,9 @@ use Rattle.fac_code.specs.declared.image.Action.{Action}
 use Rattle.fac_code.specs.declared.image.Action.TheVariants as action
 use Rattle.fac_code.specs.declared.image.WordRow.{WordRow}
 use Rattle.fac_code.specs.declared.image.Image.{Image}
-use Rattle.fac_carry.specs.Direct.{HasDirectCode, TailsLeaveNone}
+use Rattle.fac_carry.specs.Direct.{TailsLeaveNone}
 use Rattle.fac_expand.specs.declared.plan.Use.{Use}
+use Rattle.fac_expand.specs.inner.Bodies.{IsDirectBody}
 use Rattle.fac_expand.specs.inner.DirectPlaces.{DirectAt}
 
 module _ (N : Image) (uses : List Use) (M : Image) where
@@ -15,7 +16,7 @@ module _ (N : Image) (uses : List Use) (M : Image) where
 
   -- what a word does has direct code, where that of the plain image is that of a direct phrase
   abbrev pub HasDirectAction : ℕ → Action → Type 0
-  HasDirectAction w x = (b : ℕ) → x ≡ action.Code b → IsDirectWord w → HasDirectCode M b
+  HasDirectAction w x = (b : ℕ) → x ≡ action.Code b → IsDirectWord w → IsDirectBody uses M b
 
   -- so it is of each word below a number
   abbrev pub HaveDirectActions : ℕ → Type 0
@@ -25,5 +26,5 @@ module _ (N : Image) (uses : List Use) (M : Image) where
   -- entry before a `ret`.
   pub record IsDirectOf (top : ℕ) : Type 0 where
     pub words : HaveDirectActions top
-    pub start : DirectAt N uses N.start → HasDirectCode M M.start
+    pub start : DirectAt N uses N.start → IsDirectBody uses M M.start
     pub tails : TailsLeaveNone M

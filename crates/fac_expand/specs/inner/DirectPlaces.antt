@@ -11,6 +11,7 @@ use Rattle.fac_expand.specs.declared.direct_places.Group.{Group}
 use Rattle.fac_expand.specs.declared.direct_places.Group.TheVariants.{Indirect, Leads}
 use Rattle.fac_expand.specs.declared.plan.Use.{Use}
 use Rattle.fac_expand.specs.declared.plan.Use.TheVariants.{Called}
+use Rattle.fac_expand.specs.DirectInPlace.{takes_one, takes_two}
 use Rattle.fac_expand.specs.inner.Calls.{has_tail}
 
 -- what a use of a word is to become, where it isn't inline
@@ -46,18 +47,40 @@ module _ (N : Image) (uses : List Use) where
     at_last_if :
         {a : ℕ} (q s : ℕ) (r u : TemplateRow) → slice_get N.code a ≡ Some (Quot q) → slice_get N.templates q ≡ Some r → slice_get N.code (a + 1) ≡ Some (Quot s) → slice_get N.templates s ≡ Some u → slice_get N.code (a + 2) ≡ Some (If true) →
         DirectAt r.entry → DirectAt u.entry → DirectAt a
+    at_loop :
+        {a : ℕ} (q w : ℕ) (r : TemplateRow) → slice_get N.code a ≡ Some (Quot q) → slice_get N.templates q ≡ Some r → slice_get N.code (a + 1) ≡ Some (Callw w false) → takes_one (slice_get uses w) ≡ true → DirectAt r.entry → DirectAt (a + 2) → DirectAt a
+    at_last_loop : {a : ℕ} (q w : ℕ) (r : TemplateRow) → slice_get N.code a ≡ Some (Quot q) → slice_get N.templates q ≡ Some r → slice_get N.code (a + 1) ≡ Some (Callw w true) → takes_one (slice_get uses w) ≡ true → DirectAt r.entry → DirectAt a
+    at_while :
+        {a : ℕ} (q s w : ℕ) (r u : TemplateRow) → slice_get N.code a ≡ Some (Quot q) → slice_get N.templates q ≡ Some r → slice_get N.code (a + 1) ≡ Some (Quot s) → slice_get N.templates s ≡ Some u → slice_get N.code (a + 2) ≡ Some (Callw w false) → takes_two (slice_get uses w) ≡ true →
+        DirectAt r.entry → DirectAt u.entry → DirectAt (a + 3) → DirectAt a
+    at_last_while :
+        {a : ℕ} (q s w : ℕ) (r u : TemplateRow) → slice_get N.code a ≡ Some (Quot q) → slice_get N.templates q ≡ Some r → slice_get N.code (a + 1) ≡ Some (Quot s) → slice_get N.templates s ≡ Some u → slice_get N.code (a + 2) ≡ Some (Callw w true) → takes_two (slice_get uses w) ≡ true →
+        DirectAt r.entry → DirectAt u.entry → DirectAt a
 
--- what stands behind a quotation: what applies it, and whether it is the last item; another quotation; or neither
-abbrev pub stands_behind : Option Instr → Behind
-stands_behind (Some (Call t)) = Applied t
-stands_behind (Some Dip) = Applied false
-stands_behind (Some (Quot q)) = Quotation q
-stands_behind _ = Nothing
+-- where a word goes on with one quotation, it applies it
+abbrev pub applied_if : Bool → Bool → Behind
+applied_if true t = Applied t
+applied_if false t = Nothing
 
--- whether an `if` is the last item, where there is one
-abbrev pub tail_of_if : Option Instr → Option Bool
-tail_of_if (Some (If t)) = Some t
-tail_of_if _ = None
+-- a flag, where there is one
+abbrev pub flag_if : Bool → Bool → Option Bool
+flag_if true t = Some t
+flag_if false t = None
+
+module _ (uses : List Use) where
+  -- what stands behind a quotation: what applies it, and whether it is the last item; another quotation; or neither
+  abbrev pub stands_behind : Option Instr → Behind
+  stands_behind (Some (Call t)) = Applied t
+  stands_behind (Some Dip) = Applied false
+  stands_behind (Some (Callw w t)) = applied_if (takes_one (slice_get uses w)) t
+  stands_behind (Some (Quot q)) = Quotation q
+  stands_behind _ = Nothing
+
+  -- whether what applies two quotations is the last item, where that stands there
+  abbrev pub tail_of_two : Option Instr → Option Bool
+  tail_of_two (Some (If t)) = Some t
+  tail_of_two (Some (Callw w t)) = flag_if (takes_two (slice_get uses w)) t
+  tail_of_two _ = None
 
 -- the quotation that an instruction makes
 abbrev pub made_quotation : Instr → Option ℕ
