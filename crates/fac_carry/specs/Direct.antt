@@ -1,6 +1,6 @@
 -- Direct phrases, all of whose literal quotations are applied where they stand or are those of loops, and what the code of a body has whose phrase is direct;
 -- and which calls leave no return entry.
-use Rattle.std.specs.Prelude.{◌≡◌, ◌<◌, ◌≤◌, ◌+◌, ℕ, List, length, Bool, true, false, Option, Some, None, slice_get, codes}
+use Rattle.std.specs.Prelude.{◌≡◌, ◌<◌, ◌≤◌, ◌+◌, ◌⊎◌, ℕ, suc, List, length, Bool, true, false, Option, Some, None, slice_get, codes}
 use Rattle.fac_base.specs.declared.place.Place.{Place}
 use Rattle.fac_lang.specs.declared.program.Program.{Program}
 use Rattle.fac_lang.specs.declared.program.WordDef.{WordDef}
@@ -17,6 +17,11 @@ use Rattle.fac_code.specs.declared.image.GenericRow.{GenericRow}
 use Rattle.fac_code.specs.declared.image.MethodRow.{MethodRow}
 use Rattle.fac_code.specs.declared.image.Image.{Image}
 use Rattle.fac_carry.specs.Stands.{HasCode}
+
+-- the depth in a phrase, and in a quotation of it
+pub data Within : Option ℕ → Option ℕ → Type 0 where
+  within_any : Within None None
+  within_some : {n : ℕ} → Within (Some (suc n)) (Some n)
 
 module _ (P : Program) where
   -- a word whose definition isn't inline
@@ -57,15 +62,21 @@ module _ (P : Program) where
 
   -- A direct phrase: each literal quotation stands directly before `call`, `dip` or `loop`, or two stand directly before `if`, `while` or `until`, each of these is
   -- direct itself, and no fry and no other inline word is in it. What applies quotations isn't in it for itself either; in an accepted program there would be no
-  -- quotation for it there.
-  pub data Direct : Phrase → Type 0 where
-    direct_end : Direct end
-    direct_item : {i : Item} {p : Place} {t : Phrase} → IsOther i → Direct t → Direct (then i p t)
-    direct_call : {b t : Phrase} {p q : Place} (w : ℕ) → sort_of P w ≡ Some (core_sort w_call) → Direct b → Direct t → Direct (then (quot b) p (then (word w) q t))
-    direct_dip : {b t : Phrase} {p q : Place} (w : ℕ) → sort_of P w ≡ Some (core_sort w_dip) → Direct b → Direct t → Direct (then (quot b) p (then (word w) q t))
-    direct_if : {b c t : Phrase} {p q r : Place} (w : ℕ) → sort_of P w ≡ Some (core_sort w_if) → Direct b → Direct c → Direct t → Direct (then (quot b) p (then (quot c) q (then (word w) r t)))
-    direct_loop : {b t : Phrase} {p q : Place} (w : ℕ) → IsLoop w → Direct b → Direct t → Direct (then (quot b) p (then (word w) q t))
-    direct_while : {b c t : Phrase} {p q r : Place} (w : ℕ) → IsWhile w → Direct b → Direct c → Direct t → Direct (then (quot b) p (then (quot c) q (then (word w) r t)))
+  -- quotation for it there. With no depth there is no loop in it, and with one its quotations are at most so many in one another.
+  pub data Direct : Option ℕ → Phrase → Type 0 where
+    direct_end : {m : Option ℕ} → Direct m end
+    direct_item : {m : Option ℕ} {i : Item} {p : Place} {t : Phrase} → IsOther i → Direct m t → Direct m (then i p t)
+    direct_call : {m k : Option ℕ} {b t : Phrase} {p q : Place} (w : ℕ) → Within m k → sort_of P w ≡ Some (core_sort w_call) → Direct k b → Direct m t → Direct m (then (quot b) p (then (word w) q t))
+    direct_dip : {m k : Option ℕ} {b t : Phrase} {p q : Place} (w : ℕ) → Within m k → sort_of P w ≡ Some (core_sort w_dip) → Direct k b → Direct m t → Direct m (then (quot b) p (then (word w) q t))
+    direct_if :
+        {m k : Option ℕ} {b c t : Phrase} {p q r : Place} (w : ℕ) → Within m k → sort_of P w ≡ Some (core_sort w_if) → Direct k b → Direct k c → Direct m t → Direct m (then (quot b) p (then (quot c) q (then (word w) r t)))
+    direct_loop : {n : ℕ} {b t : Phrase} {p q : Place} (w : ℕ) → IsLoop w → Direct (Some n) b → Direct (Some (suc n)) t → Direct (Some (suc n)) (then (quot b) p (then (word w) q t))
+    direct_while :
+        {n : ℕ} {b c t : Phrase} {p q r : Place} (w : ℕ) → IsWhile w → Direct (Some n) b → Direct (Some n) c → Direct (Some (suc n)) t → Direct (Some (suc n)) (then (quot b) p (then (quot c) q (then (word w) r t)))
+
+  -- a direct phrase without loops, or with quotations at most 256 in one another, which is as deep as the grammar lets them be
+  abbrev pub IsDirectPhrase : Phrase → Type 0
+  IsDirectPhrase t = Direct None t ⊎ Direct (Some 256) t
 
 module _ (M : Image) where
   -- a place where the code of a word, of a method or of the top-level phrase begins
@@ -128,6 +139,6 @@ module _ (M : Image) where
 -- The code of each body of a program whose phrase is direct makes and applies no callable and calls no inline word, and so no row word; and no call leaves a return
 -- entry before a `ret`.
 pub record DirectIsInPlace (P : Program) (M : Image) : Type 0 where
-  pub words : (w a : ℕ) → HasCode P M w a → Direct P (word_phrase P w) → HasDirectCode P M a
-  pub top : Direct P (word_phrase P P.top) → HasDirectCode P M M.start
+  pub words : (w a : ℕ) → HasCode P M w a → IsDirectPhrase P (word_phrase P w) → HasDirectCode P M a
+  pub top : IsDirectPhrase P (word_phrase P P.top) → HasDirectCode P M M.start
   pub tails : TailsLeaveNone M

@@ -2,7 +2,7 @@
 ghost use Rattle.std.specs.Prelude.{◌≡◌, true, IfOk};
 ghost use Rattle.fac_expand.specs.inner.Bodies.{AreBegins, IsDirectBody};
 ghost use Rattle.fac_expand.specs.inner.DirectImages.{HasDirectAction, HaveDirectActions, IsDirectOf};
-ghost use Rattle.fac_expand.specs.inner.DirectPlaces.{DirectAt};
+ghost use Rattle.fac_expand.specs.inner.DirectPlaces.{IsDirectPlace};
 ghost use Rattle.fac_expand.specs.inner.Steps.{FindsEntry};
 
 use crate::bodies::{begins_of, has_direct_body};
@@ -38,7 +38,7 @@ fn is_direct_place(
     to: u32,
 ) -> Result<bool, Memory>
     requires { AreBegins image.now flags.now }
-    ensures { IfOk result (λ direct. direct ≡ true → DirectAt plain.now uses.now from → IsDirectBody uses.now image.now to) }
+    ensures { IfOk result (λ direct. direct ≡ true → IsDirectPlace plain.now uses.now from → IsDirectBody uses.now image.now to) }
 {
     if !is_direct(alloc, plain, uses, from)? {
         return Ok(true);

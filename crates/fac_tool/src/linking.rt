@@ -63,6 +63,7 @@ fn is_of_kernel(word: &WordDef, name: &str) -> bool
 }
 
 // What a use of a word is to become. An inline word has its phrase in place of its calls, and one that calls itself has code of its own.
+#[tactic(auto, using(crate::proofs::DirectUses::suits_call, crate::proofs::DirectUses::suits_loop, crate::proofs::DirectUses::suits_while, crate::proofs::DirectUses::suits_until, crate::proofs::DirectUses::suits_other))]
 fn use_of(word: &WordDef) -> Use
     ensures { SuitsUse word.now result }
 {
