@@ -1,5 +1,5 @@
 -- Where direct phrases lead, by what begins at a place.
-use Rattle.std.proofs.Common.{◌≡◌, ◌+◌, ◌++◌, ◌∷◌, [], ℕ, zero, suc, List, Bool, true, false, Option, Some, None, refl, ap, sym, subst, ◌∙◌, inl, inr}
+use Rattle.std.proofs.Common.{◌≡◌, ◌+◌, ◌++◌, ◌∷◌, [], ℕ, zero, suc, List, Bool, true, false, Option, Some, None, refl, ap, sym, subst, ◌∙◌, arith, inl, inr}
 use Rattle.std.proofs.lemmas.List.{append-nil}
 use Rattle.std.specs.Prelude.{slice_get, MatchOption}
 use Rattle.fac_code.specs.declared.image.Instr.{Instr}
@@ -32,7 +32,7 @@ none_within _ _ h within_some = absurd (cc)
 
 depth_within : (m k : Option ℕ) → Within m k → k ≡ inner_depth m
 depth_within _ _ within_any = refl
-depth_within _ _ within_some = refl
+depth_within _ _ (within_some {n = n}) = ap Some (omega arith)
 
 module _ (N : Image) (uses : List Use) where
   pub waits : (xs new : List Waiting) (m o : Option ℕ) → new ≡ xs ++ listed m o → AreDirect N uses xs → IsDirectThere N uses m o → AreDirect N uses new

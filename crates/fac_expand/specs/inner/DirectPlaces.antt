@@ -1,5 +1,5 @@
 -- Places of plain code where direct phrases begin: each quotation stands directly before what applies it.
-use Rattle.std.specs.Prelude.{◌≡◌, ◌⊎◌, ◌+◌, ◌∷◌, [], ℕ, zero, suc, List, Bool, true, false, Option, Some, None, slice_get}
+use Rattle.std.specs.Prelude.{◌≡◌, ◌⊎◌, ◌+◌, ◌-◌, ◌∷◌, [], ℕ, List, Bool, true, false, nat_eq, Option, Some, None, slice_get}
 use Rattle.fac_code.specs.declared.image.Instr.{Instr}
 use Rattle.fac_code.specs.declared.image.Instr.TheVariants.{Halt, Quot, Fry, Callw, Call, Dip, If, Ret}
 use Rattle.fac_code.specs.declared.image.TemplateRow.{TemplateRow}
@@ -91,14 +91,12 @@ module _ (N : Image) (uses : List Use) where
 -- the depth in a quotation
 abbrev pub inner_depth : Option ℕ → Option ℕ
 inner_depth None = None
-inner_depth (Some zero) = Some zero
-inner_depth (Some (suc n)) = Some n
+inner_depth (Some n) = Some (n - 1)
 
 -- no quotation may stand at this depth
 abbrev pub is_deepest : Option ℕ → Bool
 is_deepest None = false
-is_deepest (Some zero) = true
-is_deepest (Some (suc n)) = false
+is_deepest (Some n) = nat_eq n 0
 
 -- a place and its depth as a list, where there is one
 abbrev pub listed : Option ℕ → Option ℕ → List Waiting
