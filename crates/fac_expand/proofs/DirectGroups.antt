@@ -27,8 +27,8 @@ more_waiting Q (y ∷ xs) x all h (suc k) a e = more_waiting Q xs x (λ j b f. a
 
 -- nothing stands within the deepest, and the depth within another one
 pub none_within : {A : Type 0} (m k : Option ℕ) → is_deepest m ≡ true → Within m k → A
-none_within _ _ h within_any = absurd (cc)
-none_within _ _ h within_some = absurd (cc)
+none_within _ _ h within_any = absurd (let no : false ≡ true = h in cc)
+none_within _ _ h (within_some {n = n}) = let same : suc n ≡ 0 = grind (arith) in absurd (omega (arith, same))
 
 depth_within : (m k : Option ℕ) → Within m k → k ≡ inner_depth m
 depth_within _ _ within_any = refl

@@ -1,5 +1,5 @@
 -- Where plain code stands for a direct phrase, the code of a direct phrase begins.
-use Rattle.std.proofs.Common.{◌≡◌, ◌<◌, ◌+◌, ◌++◌, ℕ, suc, List, [], ◌∷◌, length, Bool, true, false, Option, Some, None, refl, ap, sym, subst, ◌∙◌, arith, inl, inr}
+use Rattle.std.proofs.Common.{◌≡◌, ◌<◌, ◌+◌, ◌++◌, ℕ, suc, List, [], ◌∷◌, length, Bool, true, false, Option, Some, None, Result, Ok, Err, IfOk, refl, ap, sym, subst, ◌∙◌, arith, inl, inr}
 use Rattle.std.specs.Prelude.{nat_eq, slice_get, codes}
 use Rattle.fac_base.specs.declared.height.Height.{Height}
 use Rattle.fac_base.specs.declared.place.Place.{Place}
@@ -14,6 +14,9 @@ use Rattle.fac_lang.specs.Substitution.{binds_local, put_local, put_local_item}
 use Rattle.fac_lang.specs.World.{World, State}
 use Rattle.fac_lang.specs.Eval.{wrong, goes, runs}
 use Rattle.fac_lang.specs.Meaning.{sort_of, sort_act, word_phrase}
+use Rattle.fac_base.specs.declared.memory.Memory.{Memory}
+use Rattle.fac_code.specs.declared.image.Action.{Action}
+use Rattle.fac_code.specs.declared.image.Action.TheVariants as action
 use Rattle.fac_code.specs.declared.image.Instr.{Instr}
 use Rattle.fac_code.specs.declared.image.Instr.TheVariants.{Quot, Callw, Call, Dip, If, Ret, Halt, Bind, Boa}
 use Rattle.fac_code.specs.declared.image.TemplateRow.{TemplateRow}
@@ -30,7 +33,9 @@ use Rattle.fac_expand.specs.DirectInPlace.{UsesAre, KeepsDirect}
 use Rattle.fac_expand.specs.inner.Calls.{has_tail}
 use Rattle.fac_expand.specs.inner.DirectPlaces.{is_called, is_other, DirectAt, at_end, at_last, at_item, at_applied, at_branched, stands_behind, tail_of_two, applied_if, flag_if, entry_in, IsDirectPlace}
 use Rattle.fac_expand.specs.declared.direct_places.Behind.TheVariants as Behind
-use Rattle.fac_expand.specs.inner.DirectImages.{IsDirectOf}
+use Rattle.fac_expand.specs.inner.Bodies.{IsDirectBody}
+use Rattle.fac_expand.specs.inner.DirectImages.{IsDirectOf, HasDirectAction}
+use Rattle.fac_expand.specs.inner.Steps.{HasEntry, FindsEntry}
 use Rattle.fac_expand.proofs.RunMoves.{template_stands, values_whole, same_found}
 
 -- Direct phrases with their shapes, which stay where values are put in.
@@ -367,3 +372,16 @@ keeps_direct top N uses M h P is plain are = record {
   top = λ d. h.start (place_there P N uses plain are (word_phrase P P.top) d Halt [] N.start refl tt plain.phrase) P are;
   tails = h.tails;
 }
+
+-- the code of what a word does is direct, where its plain code is found and that of the image was tested
+code_direct : (N : Image) (uses : List Use) (M : Image) (w : ℕ) (x : Action) (from to : ℕ) → x ≡ action.Code to → (IsDirectPlace N uses from → IsDirectBody uses M to) → HasEntry N w from → HasDirectAction N uses M w x
+code_direct N uses M w x from to is body entry b other direct =
+    let same : action.Code to ≡ action.Code b = sym is ∙ other in
+    let place : to ≡ b = cc in
+    subst (IsDirectBody uses M) place (body (direct from entry.0 entry.1 entry.2))
+
+pub action_direct :
+    (N : Image) (uses : List Use) (M : Image) (w : ℕ) (x : Action) (from to : ℕ) → x ≡ action.Code to → (o : Option ℕ) → o ≡ Some from → FindsEntry N w o →
+    (r : Result Bool Memory) → IfOk r (λ direct. direct ≡ true → IsDirectPlace N uses from → IsDirectBody uses M to) → IfOk r (λ direct. direct ≡ true → HasDirectAction N uses M w x)
+action_direct N uses M w x from to is o found entry (Ok d) h = λ yes. code_direct N uses M w x from to is (h yes) (subst (FindsEntry N w) found entry)
+action_direct N uses M w x from to is o found entry (Err e) h = tt
