@@ -18,11 +18,12 @@
 //!     @output N M       the write of this number to the output fails after M bytes, in each call
 //!     @note N M         the write of this number to the notes fails after M bytes, in each call
 //!     @room N           the output and the notes take so many bytes each, in place of 1,000
+//!     @last N           of each output the last N lines are told, in place of all
 //!     @tokens N         no call: the source is a file of this number, and its tokens are told
 //!
 //! There are the files of these sources and no others. What a call left of its input is told too.
 use crate::fronts::tell_fronts;
-use crate::telling::{tell_bytes, tell_end, tell_left, tell_loads, tell_stack, tell_tokens};
+use crate::telling::{last_lines, tell_bytes, tell_end, tell_left, tell_loads, tell_stack, tell_tokens};
 use fac_base::{Bytes, Duplicate, List, Memory, Text};
 use fac_io::{Files, MemFiles, MemSink, MemSource, Sink, Source};
 use fac_lines::Channels;
@@ -51,6 +52,8 @@ pub struct Case {
     output: List<(u64, u64)>,
     note: List<(u64, u64)>,
     room: u64,
+    // How many lines of each output are told, the last ones. None where all are.
+    last: Option<u32>,
     // The number of the file whose tokens are told.
     tokens: Option<u32>,
 }
@@ -131,7 +134,7 @@ fn tell_call(
     ended: &Ended,
     files: &MemFiles,
     before: usize,
-    output: &MemSink,
+    output: &[u8],
     note: &MemSink,
 ) -> Result<(), Memory> {
     tell_end(alloc, told, ended.status, ended.ticks)?;
@@ -143,7 +146,7 @@ fn tell_call(
         tell_stack(told, texts.as_slice())?;
     }
     told.push_str("\n")?;
-    tell_bytes(told, "  writes ", output.taken())?;
+    tell_bytes(told, "  writes ", output)?;
     tell_bytes(told, "  notes ", note.taken())
 }
 
@@ -155,10 +158,12 @@ fn called(
     files: &mut MemFiles,
     channels: &mut Channels<MemSource, MemSink>,
     note: &mut MemSink,
+    last: Option<u32>,
 ) -> Result<(), Memory> {
     let before = files.asked().as_slice().len();
     let ended = call(alloc, words, files, channels, note);
-    tell_call(alloc, told, &ended, files, before, channels.output(), note)?;
+    let output = last_lines(channels.output().taken(), last);
+    tell_call(alloc, told, &ended, files, before, output, note)?;
     tell_left(alloc, told, channels)
 }
 
@@ -183,6 +188,7 @@ impl Case {
             output: List::new(alloc),
             note: List::new(alloc),
             room: ROOM,
+            last: None,
             tokens: None,
         })
     }
@@ -259,6 +265,10 @@ impl Case {
                 }
                 Err(_) => Ok(false),
             },
+            "last" => {
+                self.last = text.parse::<u32>().ok();
+                Ok(self.last.is_some())
+            }
             "tokens" => {
                 self.tokens = text.parse::<u32>().ok();
                 Ok(self.tokens.is_some())
@@ -305,7 +315,15 @@ impl Case {
         let output = sink(alloc, self.room, &self.output)?;
         let mut channels = Channels::new(alloc, source, output);
         let mut note = sink(alloc, self.room, &self.note)?;
-        called(alloc, told, words, files, &mut channels, &mut note)
+        called(
+            alloc,
+            told,
+            words,
+            files,
+            &mut channels,
+            &mut note,
+            self.last,
+        )
     }
 
     // Makes the calls, and tells how each ended.

@@ -67,6 +67,25 @@ fn tell_text(told: &mut Text, text: &str) -> Result<(), Memory> {
     Ok(())
 }
 
+/// The last lines of these bytes, so many, or all of them where there is no number.
+pub fn last_lines(bytes: &[u8], count: Option<u32>) -> &[u8] {
+    let Some(count) = count else {
+        return bytes;
+    };
+    let mut left = count;
+    let mut front = bytes;
+    while let Some((last, earlier)) = front.split_last() {
+        if *last == b'\n' && front.len() < bytes.len() {
+            if left <= 1 {
+                return bytes.get(front.len()..).unwrap_or(&[]);
+            }
+            left -= 1;
+        }
+        front = earlier;
+    }
+    bytes
+}
+
 /// Tells bytes on a line of their own, where there are any.
 pub fn tell_bytes(told: &mut Text, what: &str, bytes: &[u8]) -> Result<(), Memory> {
     if bytes.is_empty() {

@@ -1,17 +1,31 @@
 -- Flags for the places where bodies begin, and the code of a body.
-use Rattle.std.proofs.Common.{◌≡◌, ◌<◌, ◌≤◌, ◌∷◌, [], ◌+◌, ◌++◌, ℕ, zero, suc, List, length, Bool, true, false, Some, refl, ap, sym, subst, ◌∙◌, arith, inl, inr}
+use Rattle.std.proofs.Common.{◌≡◌, ◌<◌, ◌≤◌, ◌∷◌, [], ◌+◌, ◌++◌, ℕ, zero, suc, List, length, Bool, true, false, Option, Some, None, refl, ap, sym, subst, ◌∙◌, arith, inl, inr}
 use Rattle.std.proofs.lemmas.Bool.{cases_lt}
 use Rattle.std.specs.Prelude.{◌&&◌, nat_le, nat_lt, slice_get, slice_set}
 use Rattle.fac_code.specs.declared.image.Action.{Action}
 use Rattle.fac_code.specs.declared.image.Action.TheVariants as action
 use Rattle.fac_code.specs.declared.image.Instr.{Instr}
-use Rattle.fac_code.specs.declared.image.Instr.TheVariants.{Quot, Fry, Callp, Call, Dip, If, Jump, Branch}
+use Rattle.fac_code.specs.declared.image.Instr.TheVariants.{Quot, Fry, Callw, Callp, Call, Dip, If, Jump, Branch}
 use Rattle.fac_code.specs.declared.image.WordRow.{WordRow}
 use Rattle.fac_code.specs.declared.image.GenericRow.{GenericRow}
 use Rattle.fac_code.specs.declared.image.MethodRow.{MethodRow}
 use Rattle.fac_code.specs.declared.image.Image.{Image}
-use Rattle.fac_carry.specs.Direct.{Begins, begins_word, begins_method, begins_top, InBody, IsDirect, HasDirectCode}
+use Rattle.fac_carry.specs.Direct.{IsNotInline, Begins, begins_word, begins_method, begins_top, InBody, IsDirect, HasDirectCode}
+use Rattle.fac_lang.specs.declared.program.Program.{Program}
+use Rattle.fac_expand.specs.declared.plan.Use.{Use}
+use Rattle.fac_expand.specs.declared.plan.Use.TheVariants.{Called, InPlace, Specialised, Loop, While, Until}
+use Rattle.fac_expand.specs.DirectInPlace.{UsesAre}
+use Rattle.fac_expand.specs.inner.DirectPlaces.{is_called}
 use Rattle.fac_expand.specs.inner.Bodies.{HasNoFlag, FlagIs, was, own, IsFlagged, ActionFlagIs, action_was, action_own, IsActionFlagged, MethodFlagIs, method_was, method_own, AreMethodsFlagged, HasActionFlag, HaveWordFlags, HaveGenericFlags, OnlyBegin, AreBegins, EndsAt, is_direct_between}
+
+use_called : (o : Option Use) → is_called o ≡ true → o ≡ Some Called
+use_called (Some Called) h = refl
+use_called None h = absurd (cc)
+use_called (Some InPlace) h = absurd (cc)
+use_called (Some Specialised) h = absurd (cc)
+use_called (Some Loop) h = absurd (cc)
+use_called (Some While) h = absurd (cc)
+use_called (Some Until) h = absurd (cc)
 
 flag_lifted : (x : Bool) (xs : List Bool) (k b : ℕ) → FlagIs xs k b → FlagIs (x ∷ xs) (suc k) (suc b)
 flag_lifted x xs k b (was e) = was e
@@ -83,7 +97,7 @@ module _ (M : Image) where
   are_begins flags only words generics start = record { only = only; all = all_flagged flags words generics start }
 
   -- Between its beginning and its end a place is in the body.
-  module _ (flags : List Bool) (a e : ℕ) (begins : AreBegins M flags) (ends : EndsAt flags a (length M.code) e) where
+  module _ (P : Program) (uses : List Use) (are : UsesAre P uses) (flags : List Bool) (a e : ℕ) (begins : AreBegins M flags) (ends : EndsAt flags a (length M.code) e) where
     in_body : (b : ℕ) → a ≤ b → b < e → InBody M a b
     in_body b from lt = record {
       from = from;
@@ -94,7 +108,10 @@ module _ (M : Image) where
     bounds : (b : ℕ) → (nat_le a b && nat_lt b e) ≡ true → InBody M a b
     bounds b h = let both : (a ≤ b) × (b < e) = grind (arith) in in_body b both.0 both.1
 
-    direct_instr : (i : Instr) → is_direct_between a e i ≡ true → IsDirect M a i
+    is_ordinary : (w : ℕ) → is_called (slice_get uses w) ≡ true → IsNotInline P w
+    is_ordinary w h d there = are.not_inline w d there (use_called (slice_get uses w) h)
+
+    direct_instr : (i : Instr) → is_direct_between uses a e i ≡ true → IsDirect P M a i
     direct_instr (Quot q) h = absurd (cc)
     direct_instr (Fry q) h = absurd (cc)
     direct_instr (Call t) h = absurd (cc)
@@ -103,6 +120,7 @@ module _ (M : Image) where
     direct_instr (Jump b) h = bounds b h
     direct_instr (Branch b) h = bounds b h
     direct_instr (Callp b t) h = bounds b h
+    direct_instr (Callw w t) h = is_ordinary w h
     direct_instr _ h = tt
 
     before_end : (pc : ℕ) → InBody M a pc → pc < e
@@ -114,5 +132,5 @@ module _ (M : Image) where
           absurd (h.before_next e (begins.only e (ends.next inside)) (ends.ahead inside) past))
     ]
 
-    pub body_is_direct : ((pc : ℕ) → pc < e → a ≤ pc → (i : Instr) → slice_get M.code pc ≡ Some i → is_direct_between a e i ≡ true) → HasDirectCode M a
+    pub body_is_direct : ((pc : ℕ) → pc < e → a ≤ pc → (i : Instr) → slice_get M.code pc ≡ Some i → is_direct_between uses a e i ≡ true) → HasDirectCode P M a
     body_is_direct each pc i h there = direct_instr i (each pc (before_end pc h) h.from i there)

@@ -1,11 +1,12 @@
 //! Bodies of code: where they begin and end, and whether one has direct code.
 ghost use Rattle.std.specs.Prelude.{◌≡◌, ◌<◌, ◌≤◌, ◌&&◌, ℕ, nat_le, nat_lt, true, Some, slice_get, IfOk, MatchOption};
 ghost use Rattle.fac_code.specs.declared.image.Instr.{Instr as Instruction};
-ghost use Rattle.fac_carry.specs.Direct.{HasDirectCode};
-ghost use Rattle.fac_expand.specs.inner.Bodies.{AreBegins, AreMethodsFlagged, EndsAt, HasActionFlag, HasNoFlag, HaveGenericFlags, HaveMethodFlags, HaveWordFlags, IsActionFlagged, IsFlagged, OnlyBegin};
+ghost use Rattle.fac_expand.specs.inner.Bodies.{AreBegins, AreMethodsFlagged, EndsAt, HasActionFlag, HasNoFlag, HaveGenericFlags, HaveMethodFlags, HaveWordFlags, IsActionFlagged, IsDirectBody, IsFlagged, OnlyBegin};
 ghost use Rattle.fac_expand.specs.inner.Bodies.{is_direct_between as stays_between};
 
+use crate::direct_places::is_call;
 use crate::growing::Growing;
+use crate::plan::Use;
 use fac_base::{List, Memory};
 use fac_code::{Action, GenericRow, Image, Instr, MethodRow, WordRow};
 use std::alloc::Global;
@@ -201,9 +202,9 @@ fn is_between(first: u32, second: u32, place: u32) -> bool
     first <= place && place < second
 }
 
-// Whether an instruction makes no quotation, applies no callable, and leads to places between these alone.
-fn is_direct_between(first: u32, second: u32, instr: Instr) -> bool
-    ensures { result ≡ stays_between first second instr }
+// Whether an instruction makes no quotation, applies no callable, calls no inline word, and leads to places between these alone.
+fn is_direct_between(uses: &[Use], first: u32, second: u32, instr: Instr) -> bool
+    ensures { result ≡ stays_between uses.now first second instr }
 {
     match instr {
         Instr::Quot(_) => false,
@@ -214,17 +215,18 @@ fn is_direct_between(first: u32, second: u32, instr: Instr) -> bool
         Instr::Jump(place) => is_between(first, second, place),
         Instr::Branch(place) => is_between(first, second, place),
         Instr::Callp { place, .. } => is_between(first, second, place),
+        Instr::Callw { word, .. } => is_call(uses, word),
         _ => true,
     }
 }
 
 // Whether all instructions between two places do so.
-fn are_direct_between(code: &List<Instr>, first: u32, second: u32) -> bool
-    ensures { result ≡ true → (pc : ℕ) → pc < second → first ≤ pc → (i : Instruction) → slice_get code.now pc ≡ Some i → stays_between first second i ≡ true }
+fn are_direct_between(code: &List<Instr>, uses: &[Use], first: u32, second: u32) -> bool
+    ensures { result ≡ true → (pc : ℕ) → pc < second → first ≤ pc → (i : Instruction) → slice_get code.now pc ≡ Some i → stays_between uses.now first second i ≡ true }
 {
     for at in first..second {
         match code.get(at as usize) {
-            Some(instr) => match is_direct_between(first, second, *instr) {
+            Some(instr) => match is_direct_between(uses, first, second, *instr) {
                 true => {}
                 false => return false,
             },
@@ -235,10 +237,10 @@ fn are_direct_between(code: &List<Instr>, first: u32, second: u32) -> bool
 }
 
 /// Whether the body that begins at a place has direct code.
-pub fn has_direct_body(image: &Image, flags: &Growing<bool>, place: u32) -> bool
+pub fn has_direct_body(image: &Image, uses: &[Use], flags: &Growing<bool>, place: u32) -> bool
     requires { AreBegins image.now flags.now }
-    ensures { result ≡ true → HasDirectCode image.now place }
+    ensures { result ≡ true → IsDirectBody uses.now image.now place }
 {
     let end = end_of(flags, place, image.code.len());
-    are_direct_between(&image.code, place, end)
+    are_direct_between(&image.code, uses, place, end)
 }

@@ -161,6 +161,7 @@ impl<'a> Plan<'a> {
     fn is_in_place(&self, word: u32, entry: u32) -> bool {
         match self.uses.get(word as usize) {
             Some(Use::InPlace) => true,
+            Some(Use::Until) => true,
             Some(Use::Called) => self.is_small(entry),
             _ => false,
         }

@@ -1,9 +1,8 @@
 //! Whether an image has direct code for each direct phrase of the plain image that it is made of.
 ghost use Rattle.std.specs.Prelude.{◌≡◌, true, IfOk};
-ghost use Rattle.fac_carry.specs.Direct.{HasDirectCode};
-ghost use Rattle.fac_expand.specs.inner.Bodies.{AreBegins};
+ghost use Rattle.fac_expand.specs.inner.Bodies.{AreBegins, IsDirectBody};
 ghost use Rattle.fac_expand.specs.inner.DirectImages.{HasDirectAction, HaveDirectActions, IsDirectOf};
-ghost use Rattle.fac_expand.specs.inner.DirectPlaces.{DirectAt};
+ghost use Rattle.fac_expand.specs.inner.DirectPlaces.{IsDirectPlace};
 ghost use Rattle.fac_expand.specs.inner.Steps.{FindsEntry};
 
 use crate::bodies::{begins_of, has_direct_body};
@@ -39,12 +38,12 @@ fn is_direct_place(
     to: u32,
 ) -> Result<bool, Memory>
     requires { AreBegins image.now flags.now }
-    ensures { IfOk result (λ direct. direct ≡ true → DirectAt plain.now uses.now from → HasDirectCode image.now to) }
+    ensures { IfOk result (λ direct. direct ≡ true → IsDirectPlace plain.now uses.now from → IsDirectBody uses.now image.now to) }
 {
     if !is_direct(alloc, plain, uses, from)? {
         return Ok(true);
     }
-    Ok(has_direct_body(image, flags, to))
+    Ok(has_direct_body(image, uses, flags, to))
 }
 
 // So for what a word does.

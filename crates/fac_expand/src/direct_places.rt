@@ -1,8 +1,8 @@
 //! Whether the code of a direct phrase begins at a place of plain code.
-ghost use Rattle.std.specs.Prelude.{◌≡◌, ◌+◌, ◌++◌, List, None, Some, false, slice_get, IfOk, OnOk, MatchOption};
+ghost use Rattle.std.specs.Prelude.{◌≡◌, ◌+◌, ◌++◌, None, Some, false, slice_get, IfOk, OnOk, MatchOption};
 ghost use Rattle.fac_code.specs.declared.image.Image.{Image as Code};
-ghost use Rattle.fac_expand.specs.declared.plan.Use.{Use as Becomes};
-ghost use Rattle.fac_expand.specs.inner.DirectPlaces.{DirectAt, LeadsTo, Passes, entry_in, is_called, is_other, listed, made_quotation, stands_behind, tail_of_if};
+ghost use Rattle.fac_expand.specs.DirectInPlace.{takes_one, takes_two};
+ghost use Rattle.fac_expand.specs.inner.DirectPlaces.{AreDirect, DirectAt, IsDirectPlace, LeadsTo, Passes, applied_if, entry_in, flag_if, inner_depth, is_called, is_deepest, is_other, listed, made_quotation, stands_behind, tail_of_two, with_loops};
 
 use crate::coming::is_tailed;
 use crate::growing::Growing;
@@ -11,6 +11,16 @@ use crate::plan::Use;
 use fac_base::Memory;
 use fac_code::{Image, Instr};
 use std::alloc::Global;
+
+// How deep quotations of a direct phrase may be in one another where there are loops in it.
+const MOST_DEPTH: u32 = 256;
+
+// A place where a direct phrase may begin, and how deep quotations may be in one another there. There are no loops where there is no bound.
+#[derive(Clone, Copy)]
+struct Waiting {
+    place: u32,
+    depth: Option<u32>,
+}
 
 // What stands behind a quotation.
 #[derive(Clone, Copy)]
@@ -32,24 +42,73 @@ enum Group {
     Leads(Option<u32>, Option<u32>, Option<u32>),
 }
 
+// Whether a word goes on with one quotation, where there are loops.
+fn is_loop(uses: &[Use], depth: Option<u32>, word: u32) -> bool
+    ensures { result ≡ with_loops depth (takes_one (slice_get uses.now word)) }
+{
+    match depth {
+        None => false,
+        Some(_) => match uses.get(word as usize) {
+            Some(Use::Loop) => true,
+            _ => false,
+        },
+    }
+}
+
+// Whether it goes on with two.
+fn is_while(uses: &[Use], depth: Option<u32>, word: u32) -> bool
+    ensures { result ≡ with_loops depth (takes_two (slice_get uses.now word)) }
+{
+    match depth {
+        None => false,
+        Some(_) => match uses.get(word as usize) {
+            Some(Use::While) => true,
+            Some(Use::Until) => true,
+            _ => false,
+        },
+    }
+}
+
+// What a word that goes on with one quotation is behind it.
+fn loop_behind(uses: &[Use], depth: Option<u32>, word: u32, tail: bool) -> Behind
+    ensures { result ≡ applied_if (with_loops depth (takes_one (slice_get uses.now word))) tail }
+{
+    match is_loop(uses, depth, word) {
+        true => Behind::Applied(tail),
+        false => Behind::Nothing,
+    }
+}
+
+// The flag of a word that goes on with two.
+fn while_tail(uses: &[Use], depth: Option<u32>, word: u32, tail: bool) -> Option<bool>
+    ensures { result ≡ flag_if (with_loops depth (takes_two (slice_get uses.now word))) tail }
+{
+    match is_while(uses, depth, word) {
+        true => Some(tail),
+        false => None,
+    }
+}
+
 // What stands at a place, which is that behind a quotation.
-fn standing_at(plain: &Image, place: usize) -> Behind
-    ensures { result ≡ stands_behind (slice_get plain.now.code place) }
+fn standing_at(plain: &Image, uses: &[Use], depth: Option<u32>, place: usize) -> Behind
+    ensures { result ≡ stands_behind uses.now depth (slice_get plain.now.code place) }
 {
     match plain.code.get(place) {
         Some(Instr::Call { tail }) => Behind::Applied(*tail),
         Some(Instr::Dip) => Behind::Applied(false),
+        Some(Instr::Callw { word, tail }) => loop_behind(uses, depth, *word, *tail),
         Some(Instr::Quot(quotation)) => Behind::Quotation(*quotation),
         _ => Behind::Nothing,
     }
 }
 
-// Whether the `if` at a place is the last item, where there is one.
-fn if_at(plain: &Image, place: usize) -> Option<bool>
-    ensures { result ≡ tail_of_if (slice_get plain.now.code place) }
+// Whether what applies two quotations at a place is the last item, where that stands there.
+fn tail_at(plain: &Image, uses: &[Use], depth: Option<u32>, place: usize) -> Option<bool>
+    ensures { result ≡ tail_of_two uses.now depth (slice_get plain.now.code place) }
 {
     match plain.code.get(place) {
         Some(Instr::If { tail }) => Some(*tail),
+        Some(Instr::Callw { word, tail }) => while_tail(uses, depth, *word, *tail),
         _ => None,
     }
 }
@@ -85,23 +144,37 @@ fn next_place(place: u32, count: u32, is_last: bool) -> Option<u32>
 }
 
 // A quotation that is applied where it stands.
-fn applied(plain: &Image, place: u32, quotation: u32, is_last: bool) -> Group
+fn applied(
+    plain: &Image,
+    uses: &[Use],
+    depth: Option<u32>,
+    place: u32,
+    quotation: u32,
+    is_last: bool,
+) -> Group
     requires there { slice_get plain.now.code place ≡ Some (Instr.Quot quotation) }
-    requires behind { stands_behind (slice_get plain.now.code (place + 1)) ≡ Behind.Applied is_last }
-    ensures { (uses : List Becomes) → LeadsTo plain.now uses place result }
+    requires behind { stands_behind uses.now depth (slice_get plain.now.code (place + 1)) ≡ Behind.Applied is_last }
+    ensures { LeadsTo plain.now uses.now depth place result }
 {
     let entry = entry_of(plain, quotation);
     let next = next_place(place, 2, is_last);
-    Group::Leads(entry, next, None)
+    Group::Leads(entry, None, next)
 }
 
-// Two quotations, which are direct before an `if` alone.
-fn branched(plain: &Image, place: u32, first: u32, second: u32) -> Group
+// Two quotations, which are direct before what applies two alone.
+fn branched(
+    plain: &Image,
+    uses: &[Use],
+    depth: Option<u32>,
+    place: u32,
+    first: u32,
+    second: u32,
+) -> Group
     requires there { slice_get plain.now.code place ≡ Some (Instr.Quot first) }
-    requires behind { stands_behind (slice_get plain.now.code (place + 1)) ≡ Behind.Quotation second }
-    ensures { (uses : List Becomes) → LeadsTo plain.now uses place result }
+    requires behind { stands_behind uses.now depth (slice_get plain.now.code (place + 1)) ≡ Behind.Quotation second }
+    ensures { LeadsTo plain.now uses.now depth place result }
 {
-    match if_at(plain, place as usize + 2) {
+    match tail_at(plain, uses, depth, place as usize + 2) {
         Some(is_last) => {
             let one = entry_of(plain, first);
             let other = entry_of(plain, second);
@@ -112,20 +185,34 @@ fn branched(plain: &Image, place: u32, first: u32, second: u32) -> Group
     }
 }
 
-// A quotation.
-fn quoted(plain: &Image, place: u32, quotation: u32) -> Group
-    requires { slice_get plain.now.code place ≡ Some (Instr.Quot quotation) }
-    ensures { (uses : List Becomes) → LeadsTo plain.now uses place result }
+// Whether no quotation may stand at a depth.
+fn is_deepest(depth: Option<u32>) -> bool
+    ensures { result ≡ is_deepest depth }
 {
-    match standing_at(plain, place as usize + 1) {
-        Behind::Nothing => Group::Indirect,
-        Behind::Applied(is_last) => applied(plain, place, quotation, is_last),
-        Behind::Quotation(second) => branched(plain, place, quotation, second),
+    match depth {
+        None => false,
+        Some(count) => count == 0,
     }
 }
 
-// Whether a use of a word becomes a call.
-fn is_call(uses: &[Use], word: u32) -> bool
+// A quotation.
+#[tactic(auto, using(crate::proofs::DirectGroups::quoted_deepest))]
+fn quoted(plain: &Image, uses: &[Use], depth: Option<u32>, place: u32, quotation: u32) -> Group
+    requires { slice_get plain.now.code place ≡ Some (Instr.Quot quotation) }
+    ensures { LeadsTo plain.now uses.now depth place result }
+{
+    if is_deepest(depth) {
+        return Group::Indirect;
+    }
+    match standing_at(plain, uses, depth, place as usize + 1) {
+        Behind::Nothing => Group::Indirect,
+        Behind::Applied(is_last) => applied(plain, uses, depth, place, quotation, is_last),
+        Behind::Quotation(second) => branched(plain, uses, depth, place, quotation, second),
+    }
+}
+
+/// Whether a use of a word becomes a call.
+pub fn is_call(uses: &[Use], word: u32) -> bool
     ensures { result ≡ is_called (slice_get uses.now word) }
 {
     match uses.get(word as usize) {
@@ -152,9 +239,9 @@ fn is_item(uses: &[Use], instr: Instr) -> bool
 }
 
 // What is no quotation.
-fn unquoted(uses: &[Use], place: u32, instr: Instr) -> Group
+fn unquoted(uses: &[Use], depth: Option<u32>, place: u32, instr: Instr) -> Group
     requires { made_quotation instr ≡ None }
-    ensures { (N : Code) → slice_get N.code place ≡ Some instr → LeadsTo N uses.now place result }
+    ensures { (N : Code) → slice_get N.code place ≡ Some instr → LeadsTo N uses.now depth place result }
 {
     if is_end(instr) {
         return Group::Leads(None, None, None);
@@ -163,67 +250,93 @@ fn unquoted(uses: &[Use], place: u32, instr: Instr) -> Group
         return Group::Indirect;
     }
     let next = next_place(place, 1, is_tailed(instr));
-    Group::Leads(next, None, None)
+    Group::Leads(None, None, next)
 }
 
 // What begins at a place.
-fn group_at(plain: &Image, uses: &[Use], place: u32) -> Group
-    ensures { LeadsTo plain.now uses.now place result }
+fn group_at(plain: &Image, uses: &[Use], depth: Option<u32>, place: u32) -> Group
+    ensures { LeadsTo plain.now uses.now depth place result }
 {
     match plain.code.get(place as usize) {
         Some(instr) => match quotation_of(*instr) {
-            Some(quotation) => quoted(plain, place, quotation),
-            None => unquoted(uses, place, *instr),
+            Some(quotation) => quoted(plain, uses, depth, place, quotation),
+            None => unquoted(uses, depth, place, *instr),
         },
         None => Group::Indirect,
     }
 }
 
+// The depth in a quotation.
+fn inner_depth(depth: Option<u32>) -> Option<u32>
+    ensures { result ≡ inner_depth depth }
+{
+    match depth {
+        None => None,
+        Some(count) => Some(count.saturating_sub(1)),
+    }
+}
+
 // A place is to wait, where there is one.
-fn add(waiting: &mut Growing<u32>, place: Option<u32>) -> Result<(), Memory>
-    ensures { OnOk result (waiting.new ≡ waiting.old ++ listed place) }
+fn add(
+    waiting: &mut Growing<Waiting>,
+    depth: Option<u32>,
+    place: Option<u32>,
+) -> Result<(), Memory>
+    ensures { OnOk result (waiting.new ≡ waiting.old ++ listed depth place) }
 {
     match place {
-        Some(place) => waiting.push(place),
+        Some(place) => waiting.push(Waiting { place, depth }),
         None => Ok(()),
     }
 }
 
 // Passes the items at a place where a direct phrase may begin. Otherwise there is none.
-fn pass(waiting: &mut Growing<u32>, plain: &Image, uses: &[Use], place: u32) -> Result<bool, Memory>
-    ensures { IfOk result (Passes plain.now uses.now place waiting.old waiting.new) }
+fn pass(
+    waiting: &mut Growing<Waiting>,
+    plain: &Image,
+    uses: &[Use],
+    depth: Option<u32>,
+    place: u32,
+) -> Result<bool, Memory>
+    ensures { IfOk result (Passes plain.now uses.now depth place waiting.old waiting.new) }
 {
-    match group_at(plain, uses, place) {
+    match group_at(plain, uses, depth, place) {
         Group::Indirect => Ok(false),
         Group::Leads(first, second, third) => {
-            add(waiting, first)?;
-            add(waiting, second)?;
-            add(waiting, third)?;
+            let inside = inner_depth(depth);
+            add(waiting, inside, first)?;
+            add(waiting, inside, second)?;
+            add(waiting, depth, third)?;
             Ok(true)
         }
     }
 }
 
 // The place of this number that waits.
-fn waiting_at(waiting: &Growing<u32>, index: u32) -> Option<u32>
+fn waiting_at(waiting: &Growing<Waiting>, index: u32) -> Option<Waiting>
     ensures { result ≡ slice_get waiting.now index }
 {
     match waiting.get(index as usize) {
-        Some(place) => Some(*place),
+        Some(next) => Some(*next),
         None => None,
     }
 }
 
-/// Whether the code of a direct phrase begins at a place. It is none where the answer is false. Where one place is come to again and again, the answer may be
-/// true of another phrase too. Want of memory is the one error.
-pub fn is_direct(alloc: Global, plain: &Image, uses: &[Use], place: u32) -> Result<bool, Memory>
-    ensures { IfOk result (λ direct. direct ≡ false → DirectAt plain.now uses.now place → ⊥) }
+// Whether the code of a direct phrase begins at a place, with loops where there is a bound on the depth.
+fn is_direct_at(
+    alloc: Global,
+    plain: &Image,
+    uses: &[Use],
+    depth: Option<u32>,
+    place: u32,
+) -> Result<bool, Memory>
+    ensures { IfOk result (λ direct. direct ≡ false → DirectAt plain.now uses.now depth place → ⊥) }
 {
     let mut waiting = Growing::new(alloc);
-    waiting.push(place)?;
+    waiting.push(Waiting { place, depth })?;
     for index in 0..plain.code.len() {
         match waiting_at(&waiting, index) {
-            Some(next) => match pass(&mut waiting, plain, uses, next)? {
+            Some(next) => match pass(&mut waiting, plain, uses, next.depth, next.place)? {
                 true => {}
                 false => return Ok(false),
             },
@@ -231,4 +344,19 @@ pub fn is_direct(alloc: Global, plain: &Image, uses: &[Use], place: u32) -> Resu
         }
     }
     Ok(true)
+}
+
+/// Whether the code of a direct phrase begins at a place. It is none where the answer is false. Where one place is come to again and again, the answer may be
+/// true of another phrase too. Want of memory is the one error.
+#[tactic(auto, using(crate::proofs::DirectGroups::no_place))]
+pub fn is_direct(alloc: Global, plain: &Image, uses: &[Use], place: u32) -> Result<bool, Memory>
+    ensures { IfOk result (λ direct. direct ≡ false → IsDirectPlace plain.now uses.now place → ⊥) }
+{
+    match is_direct_at(alloc, plain, uses, None, place)? {
+        true => Ok(true),
+        false => match is_direct_at(alloc, plain, uses, Some(MOST_DEPTH), place)? {
+            true => Ok(true),
+            false => Ok(false),
+        },
+    }
 }

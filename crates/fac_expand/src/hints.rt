@@ -9,6 +9,13 @@ use std::alloc::Global;
 /// How many items one piece of code may have. Beyond them it is left plain.
 pub const MOST_ITEMS: u32 = 100_000;
 
+// How many quotations and words may be run inside one another.
+const MOST_NESTED: u32 = 200;
+
+// How many may be in a direct phrase with loops: at most 256 quotations are in one another, and six of these are run for each, those of the loop's own phrase
+// among them. Each takes about a thousand bytes of the stack.
+const MOST_NESTED_DIRECT: u32 = 2_000;
+
 // How many times a word may have code of its own within its own code, for other callables each time.
 const MOST_LOOPS: u32 = 24;
 
@@ -40,6 +47,8 @@ pub struct Hints {
     pub passed: u32,
     /// Whether the piece can't be made so at all.
     pub hopeless: bool,
+    /// Whether the piece is that of a direct phrase. Each quotation of it is run once, so there is no bound on its items and loops.
+    pub direct: bool,
 }
 
 // The key of a place behind these calls.
@@ -60,7 +69,24 @@ impl Hints {
             calls: 0,
             passed: 0,
             hopeless: false,
+            direct: false,
         }
+    }
+
+    // How many items the piece may have.
+    fn most_items(&self) -> u32 {
+        if self.direct {
+            return u32::MAX;
+        }
+        MOST_ITEMS
+    }
+
+    /// How many quotations and words may be run inside one another.
+    pub fn most_nested(&self) -> u32 {
+        if self.direct {
+            return MOST_NESTED_DIRECT;
+        }
+        MOST_NESTED
     }
 
     /// Whether the quotation at this place is made.
@@ -97,7 +123,7 @@ impl Hints {
 
     /// Counts an item. Whether it was one too many.
     pub fn count(&mut self) -> bool {
-        if self.passed >= MOST_ITEMS {
+        if self.passed >= self.most_items() {
             self.hopeless = true;
             return true;
         }
@@ -107,7 +133,8 @@ impl Hints {
 
     /// Counts so many items more. Whether they were too many.
     pub fn count_more(&mut self, count: usize) -> bool {
-        if count > (MOST_ITEMS - self.passed.min(MOST_ITEMS)) as usize {
+        let most = self.most_items();
+        if count > (most - self.passed.min(most)) as usize {
             self.hopeless = true;
             return true;
         }
@@ -125,6 +152,9 @@ impl Hints {
 
     /// Whether a word has code of its own within its own code so often that it has no more.
     pub fn is_deep(&self, word: u32) -> bool {
+        if self.direct {
+            return false;
+        }
         let mut count: u32 = 0;
         for own in self.loop_words.as_slice() {
             if *own == word {

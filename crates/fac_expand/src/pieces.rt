@@ -11,7 +11,6 @@ use crate::growing::Growing;
 use crate::hints::Hints;
 use crate::plan::{Plan, Use};
 use crate::reach::{Reach, reach_of};
-use crate::running::MOST_NESTED;
 use crate::stopped::Stopped;
 use fac_base::{List, Memory};
 use fac_code::{Image, Instr};
@@ -95,7 +94,8 @@ impl<'a> Plan<'a> {
     {
         let mut draft = empty_draft(self.alloc, cells);
         let env = numbers(self.alloc, cells)?;
-        self.phrase(&mut draft, hints, MOST_NESTED, start, env, Some(last))?;
+        let depth = hints.most_nested();
+        self.phrase(&mut draft, hints, depth, start, env, Some(last))?;
         let Draft { code, .. } = draft;
         Ok(code)
     }
@@ -195,9 +195,9 @@ impl Expander {
         self.left -= self.left.min(self.hints.passed as u64);
     }
 
-    /// Code for a piece that begins with this place of plain code, and is to begin at a place: under a frame of so many cells, and with this instruction at its end. None where
-    /// the plain code is to stay.
-    pub fn piece(
+    // Code for a piece that begins with this place of plain code, and is to begin at a place: under a frame of so many cells, and with this instruction at its end. None where
+    // the plain code is to stay.
+    fn attempt(
         &mut self,
         alloc: Global,
         plain: &Image,
@@ -210,9 +210,6 @@ impl Expander {
         requires { ends_phrase last ≡ true }
         ensures { MadePiece plain.now last cells start base result }
     {
-        if self.left == 0 || !self.is_wanted(start) {
-            return Ok(None);
-        }
         let lenient = Plan {
             alloc,
             plain,
@@ -237,5 +234,46 @@ impl Expander {
                 Stopped::Memory => Err(Memory),
             },
         }
+    }
+
+    /// Code for a piece that begins with this place of plain code, and is to begin at a place: under a frame of so many cells, and with this instruction at its end. None where
+    /// the plain code is to stay.
+    pub fn piece(
+        &mut self,
+        alloc: Global,
+        plain: &Image,
+        uses: &[Use],
+        last: Instr,
+        cells: u32,
+        start: u32,
+        base: u32,
+    ) -> Result<Option<Growing<Instr>>, Memory>
+        requires { ends_phrase last ≡ true }
+        ensures { MadePiece plain.now last cells start base result }
+    {
+        if self.left == 0 || !self.is_wanted(start) {
+            return Ok(None);
+        }
+        self.attempt(alloc, plain, uses, last, cells, start, base)
+    }
+
+    /// The same for a direct phrase, whatever it has of items and loops.
+    pub fn direct_piece(
+        &mut self,
+        alloc: Global,
+        plain: &Image,
+        uses: &[Use],
+        last: Instr,
+        cells: u32,
+        start: u32,
+        base: u32,
+    ) -> Result<Option<Growing<Instr>>, Memory>
+        requires { ends_phrase last ≡ true }
+        ensures { MadePiece plain.now last cells start base result }
+    {
+        self.hints.direct = true;
+        let made = self.attempt(alloc, plain, uses, last, cells, start, base);
+        self.hints.direct = false;
+        made
     }
 }

@@ -6,7 +6,7 @@ ghost use Rattle.fac_expand.specs.inner.PieceCode.{StandsFor};
 ghost use Rattle.fac_expand.specs.inner.Pieces.{to_end};
 
 use crate::direct::direct_code;
-use crate::direct_places::is_direct;
+use crate::direct_places::{is_call, is_direct};
 use crate::growing::Growing;
 use crate::pieces::Expander;
 use crate::plan::Use;
@@ -43,8 +43,8 @@ fn copied(alloc: Global, plain: &Image, start: u32) -> Result<Growing<Instr>, Me
     Ok(code)
 }
 
-// Whether code makes no quotation and applies none.
-fn applies_none(code: &[Instr]) -> bool {
+// Whether code makes no quotation, applies none and calls no inline word.
+fn applies_none(code: &[Instr], uses: &[Use]) -> bool {
     for instr in code {
         match instr {
             Instr::Quot(_) => return false,
@@ -52,6 +52,11 @@ fn applies_none(code: &[Instr]) -> bool {
             Instr::Call { .. } => return false,
             Instr::Dip => return false,
             Instr::If { .. } => return false,
+            Instr::Callw { word, .. } => {
+                if !is_call(uses, *word) {
+                    return false;
+                }
+            }
             _ => {}
         }
     }
@@ -80,7 +85,32 @@ fn plain_piece(
     }
 }
 
-/// A piece of code for the plain code at a place, which ends in this instruction and whose frame has so many cells. Want of memory is the one error.
+// The same for a body, which may have loops too where it is direct.
+#[tactic(auto, using(crate::proofs::CopiedCode::copied_by))]
+fn body_piece(
+    expander: &mut Expander,
+    alloc: Global,
+    plain: &Image,
+    uses: &[Use],
+    last: Instr,
+    cells: u32,
+    start: u32,
+    base: u32,
+) -> Result<Growing<Instr>, Memory>
+    requires { ends_phrase last ≡ true }
+    ensures { IfOk result (StandsFor plain.now last cells start base) }
+{
+    let piece = plain_piece(alloc, plain, last, cells, start, base)?;
+    if applies_none(piece.as_slice(), uses) || !is_direct(alloc, plain, uses, start)? {
+        return Ok(piece);
+    }
+    match expander.direct_piece(alloc, plain, uses, last, cells, start, base)? {
+        Some(code) => Ok(code),
+        None => Ok(piece),
+    }
+}
+
+/// The piece of a body, for the plain code at a place, which ends in this instruction and whose frame has so many cells. Want of memory is the one error.
 #[tactic(auto, using(crate::proofs::CopiedCode::copied_by))]
 pub fn piece_of(
     expander: &mut Expander,
@@ -100,12 +130,34 @@ pub fn piece_of(
     }
     match expander.piece(alloc, plain, uses, last, cells, start, base)? {
         Some(code) => {
-            if applies_none(code.as_slice()) || !is_direct(alloc, plain, uses, start)? {
+            if applies_none(code.as_slice(), uses) || !is_direct(alloc, plain, uses, start)? {
                 return Ok(code);
             }
-            plain_piece(alloc, plain, last, cells, start, base)
+            body_piece(expander, alloc, plain, uses, last, cells, start, base)
         }
-        None => plain_piece(alloc, plain, last, cells, start, base),
+        None => body_piece(expander, alloc, plain, uses, last, cells, start, base),
+    }
+}
+
+// That of a template, which ends in `ret`.
+#[tactic(auto, using(crate::proofs::CopiedCode::copied_by))]
+fn inner_piece(
+    expander: &mut Expander,
+    alloc: Global,
+    plain: &Image,
+    uses: &[Use],
+    cells: u32,
+    start: u32,
+    base: u32,
+) -> Result<Growing<Instr>, Memory>
+    ensures { IfOk result (StandsFor plain.now Ret cells start base) }
+{
+    if !expander.is_wanted(start) {
+        return copied(alloc, plain, start);
+    }
+    match expander.piece(alloc, plain, uses, Instr::Ret, cells, start, base)? {
+        Some(code) => Ok(code),
+        None => plain_piece(alloc, plain, Instr::Ret, cells, start, base),
     }
 }
 
@@ -122,16 +174,7 @@ pub fn template_piece(
     ensures { IfOk result (StandsFor plain.now Ret (length template.now.cells + template.now.holes) template.now.entry base) }
 {
     match template.cells.len().checked_add(template.holes) {
-        Some(cells) => piece_of(
-            expander,
-            alloc,
-            plain,
-            uses,
-            Instr::Ret,
-            cells,
-            template.entry,
-            base,
-        ),
+        Some(cells) => inner_piece(expander, alloc, plain, uses, cells, template.entry, base),
         None => copied(alloc, plain, template.entry),
     }
 }

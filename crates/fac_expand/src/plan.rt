@@ -11,6 +11,12 @@ pub enum Use {
     InPlace,
     /// A call of code of its own, where something is put off, and else a call of its code.
     Specialised,
+    /// The same, of `kernel:loop`.
+    Loop,
+    /// The same, of `kernel:while`.
+    While,
+    /// Its phrase, in place, of `kernel:until`.
+    Until,
 }
 
 /// What code is made of, and how.

@@ -5,3 +5,4 @@ pub mod FormsTaken
 pub mod ImageSteps
 pub mod ListedStacks
 pub mod Tasks
+pub mod Uses

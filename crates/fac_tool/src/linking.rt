@@ -8,6 +8,7 @@ ghost use Rattle.fac_emit.specs.CarriedPrograms.{AgreesEach, StandsForEach};
 ghost use Rattle.fac_emit.specs.ProgramCode.{IsPlain};
 ghost use Rattle.fac_expand.specs.DirectInPlace.{UsesAre};
 ghost use Rattle.fac_tool.specs.Saved.{HasEffects};
+ghost use Rattle.fac_tool.specs.inner.Uses.{IsOfKernel, SuitsUse};
 ghost use Rattle.fac_tool.specs.inner.Stops.{Carried, StandsForSafe};
 ghost use Rattle.fac_tool.specs.inner.ImageSteps.{AreEffectsIfAsked, CarriedWhole, IsLinked, IsShort};
 
@@ -50,12 +51,33 @@ struct Plain {
     uses: List<Use>,
 }
 
+// Whether a word has this name in the vocabulary `kernel`.
+fn is_of_kernel(word: &WordDef, name: &str) -> bool
+    ensures yes { IsOfKernel word.now name.now → result ≡ true }
+    ensures no { result ≡ true → IsOfKernel word.now name.now }
+{
+    if word.name.vocab.as_str() == "kernel" {
+        return word.name.name.as_str() == name;
+    }
+    false
+}
+
 // What a use of a word is to become. An inline word has its phrase in place of its calls, and one that calls itself has code of its own.
+#[tactic(auto, using(crate::proofs::DirectUses::suits_call, crate::proofs::DirectUses::suits_loop, crate::proofs::DirectUses::suits_while, crate::proofs::DirectUses::suits_until, crate::proofs::DirectUses::suits_other))]
 fn use_of(word: &WordDef) -> Use
-    ensures { word.now.inline ≡ false → result ≡ Use.Called }
+    ensures { SuitsUse word.now result }
 {
     if !word.inline {
         return Use::Called;
+    }
+    if is_of_kernel(word, "loop") {
+        return Use::Loop;
+    }
+    if is_of_kernel(word, "while") {
+        return Use::While;
+    }
+    if is_of_kernel(word, "until") {
+        return Use::Until;
     }
     if word.recursive {
         return Use::Specialised;

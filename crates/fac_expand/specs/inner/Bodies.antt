@@ -3,12 +3,20 @@ use Rattle.std.specs.Prelude.{◌≡◌, ◌<◌, ◌≤◌, ℕ, List, Bool, tr
 use Rattle.fac_code.specs.declared.image.Action.{Action}
 use Rattle.fac_code.specs.declared.image.Action.TheVariants as action
 use Rattle.fac_code.specs.declared.image.Instr.{Instr}
-use Rattle.fac_code.specs.declared.image.Instr.TheVariants.{Quot, Fry, Callp, Call, Dip, If, Jump, Branch}
+use Rattle.fac_code.specs.declared.image.Instr.TheVariants.{Quot, Fry, Callw, Callp, Call, Dip, If, Jump, Branch}
 use Rattle.fac_code.specs.declared.image.WordRow.{WordRow}
 use Rattle.fac_code.specs.declared.image.GenericRow.{GenericRow}
 use Rattle.fac_code.specs.declared.image.MethodRow.{MethodRow}
 use Rattle.fac_code.specs.declared.image.Image.{Image}
-use Rattle.fac_carry.specs.Direct.{Begins}
+use Rattle.fac_lang.specs.declared.program.Program.{Program}
+use Rattle.fac_carry.specs.Direct.{Begins, HasDirectCode}
+use Rattle.fac_expand.specs.declared.plan.Use.{Use}
+use Rattle.fac_expand.specs.DirectInPlace.{UsesAre}
+use Rattle.fac_expand.specs.inner.DirectPlaces.{is_called}
+
+-- the body at a place has direct code, for each program with whose words these uses agree
+abbrev pub IsDirectBody : List Use → Image → ℕ → Type 0
+IsDirectBody uses M a = (P : Program) → UsesAre P uses → HasDirectCode P M a
 
 -- no place has a flag
 abbrev pub HasNoFlag : List Bool → Type 0
@@ -71,14 +79,15 @@ pub record EndsAt (flags : List Bool) (a size e : ℕ) : Type 0 where
   pub next : e < size → slice_get flags e ≡ Some true
   pub none : (b : ℕ) → a < b → b < e → slice_get flags b ≡ Some true → ⊥
 
--- an instruction that makes no quotation and applies no callable, and that leads to places from the first one on and before the second one alone
-abbrev pub is_direct_between : ℕ → ℕ → Instr → Bool
-is_direct_between a e (Quot q) = false
-is_direct_between a e (Fry q) = false
-is_direct_between a e (Call t) = false
-is_direct_between a e Dip = false
-is_direct_between a e (If t) = false
-is_direct_between a e (Jump b) = nat_le a b && nat_lt b e
-is_direct_between a e (Branch b) = nat_le a b && nat_lt b e
-is_direct_between a e (Callp b t) = nat_le a b && nat_lt b e
-is_direct_between a e i = true
+-- an instruction that makes no quotation, applies no callable and calls no inline word, and that leads to places from the first one on and before the second one alone
+abbrev pub is_direct_between : List Use → ℕ → ℕ → Instr → Bool
+is_direct_between uses a e (Quot q) = false
+is_direct_between uses a e (Fry q) = false
+is_direct_between uses a e (Call t) = false
+is_direct_between uses a e Dip = false
+is_direct_between uses a e (If t) = false
+is_direct_between uses a e (Jump b) = nat_le a b && nat_lt b e
+is_direct_between uses a e (Branch b) = nat_le a b && nat_lt b e
+is_direct_between uses a e (Callp b t) = nat_le a b && nat_lt b e
+is_direct_between uses a e (Callw w t) = is_called (slice_get uses w)
+is_direct_between uses a e i = true

@@ -10,8 +10,8 @@ loop-at-init c = λ k lt from. absurd (omega (arith, lt, from))
 
 pub loop-at-preserved : goal.loop-at-preserved
 loop-at-preserved c =
-    below_more (λ (k : ℕ). c.args.first ≤ k → (i : Instr) → slice_get c.args.code.now k ≡ Some i → stays_between c.args.first c.args.second i ≡ true) c.loop-at.at c.loop-at.invariant
-    (λ from i e. subst (λ (j : Instr). stays_between c.args.first c.args.second j ≡ true) (same_found (slice_get c.args.code.now c.loop-at.at) c.in-Some.instr.now i (sym c.in-Some.ensures) e) (sym c.is_direct_between.ensures ∙ c.in-true.is))
+    below_more (λ (k : ℕ). c.args.first ≤ k → (i : Instr) → slice_get c.args.code.now k ≡ Some i → stays_between c.args.uses.now c.args.first c.args.second i ≡ true) c.loop-at.at c.loop-at.invariant
+    (λ from i e. subst (λ (j : Instr). stays_between c.args.uses.now c.args.first c.args.second j ≡ true) (same_found (slice_get c.args.code.now c.loop-at.at) c.in-Some.instr.now i (sym c.in-Some.ensures) e) (sym c.is_direct_between.ensures ∙ c.in-true.is))
 
 pub returns : goal.returns
 returns c =

@@ -5,4 +5,4 @@ use Rattle.fac_expand.specs.inner.Bodies.{is_direct_between}
 use Rattle.fac_expand.proofs.bodies.are_direct_between.Given as goal
 
 abbrev pub invariant-loop-at : goal.invariant-loop-at
-invariant-loop-at l = (pc : ℕ) → pc < l.at → l.first ≤ pc → (i : Instr) → slice_get l.code pc ≡ Some i → is_direct_between l.first l.second i ≡ true
+invariant-loop-at l = (pc : ℕ) → pc < l.at → l.first ≤ pc → (i : Instr) → slice_get l.code pc ≡ Some i → is_direct_between l.uses l.first l.second i ≡ true

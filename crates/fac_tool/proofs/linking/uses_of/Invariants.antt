@@ -1,6 +1,6 @@
 use Rattle.std.proofs.Common.{take}
 use Rattle.std.specs.List.{AllZip}
-use Rattle.fac_tool.proofs.DirectUses.{SuitsUse}
+use Rattle.fac_tool.specs.inner.Uses.{SuitsUse}
 use Rattle.fac_tool.proofs.linking.uses_of.Given as goal
 
 abbrev pub invariant-loop-word : goal.invariant-loop-word
