@@ -71,7 +71,7 @@ ROWS = [
     Row(
         "A primitive word (`bitnot`)",
         r"\bBitNot\b|\bbitnot\b|\bbit_not\b|\bbit_not_makes\b",
-        also=[r"\bReadLine\b", r"\b(Writing|Storing)(::|\.)(Print|New|Equal)\b", r"\bLength\b", r"\bSetNth\b", r"model\.READLN"],
+        also=[r"\bReadLine\b", r"\b(Writing|Storing)(::|\.)(Print|New|Equal)\b", r"\bLength\b", r"\bSimple::Multiply\b", r"\bSetNth\b", r"model\.READLN"],
         # how many primitives there are, and the numbers of words behind those with which small programs begin
         by_hand=rf"\b0: {PRIMITIVES - 1},",
     ),

@@ -31,6 +31,7 @@ BODIES = [
     ("`+` of two literals, and `drop`", "1 2 + drop", "", 4),
     ("`*` of two literals, and `drop`", "3 2 * drop", "", 4),
     ("`/i` of two literals, and `drop`", "7 2 /i drop", "", 4),
+    ("`mod` of two literals, and `drop`", "7 2 mod drop", "", 4),
     ("`<` of two literals, and `drop`", "1 2 < drop", "", 4),
     ("`=` of two literals, and `drop`", "1 2 = drop", "", 4),
     ("a call of a word with nothing in it", "none", ": none ( -- ) ; ", 2),
@@ -53,6 +54,9 @@ TUPLE_BODIES = [
     ("a class test", "over box? drop", 1),
     ("a tuple that is made of two literals, and `drop`", "over drop 1 2 box boa drop", 5),
 ]
+
+# A turn of a generator of random numbers, whose three operations are on integers of up to 128 bits.
+WIDE = ": turn ( seed n -- ) dup 0 = [ 2drop ] [ [ 6364136223846793005 * 1442695040888963407 + 18446744073709551616 mod ] dip 1 - turn ] if ; recursive "
 
 
 def built(folder, text):
@@ -109,6 +113,7 @@ def main():
         for what, body, count in TUPLE_BODIES:
             took = turns(folder, TUPLE + WITH_TUPLE % body, box) - none
             print(f"| {what} | {took:.0f} | {took / count:.1f} |", flush=True)
+        print(f"| a turn with three operations on integers of 127 bits | {turns(folder, WIDE, '12345'):.0f} | |", flush=True)
 
 
 main()
