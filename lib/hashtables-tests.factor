@@ -86,6 +86,12 @@ table { { "a" 9 } { "c" 3 } } assoc-union! [ "a" of . ] [ assoc-size . ] bi
 "z" table ?at . .
 table assoc-empty? .
 
+! Keys of one code
+
+0 <hashtable> 300 <iota> [ 1073741758 * dup pick set-at ] each 299 1073741758 * over delete-at 1073741758 over at . assoc-size .
+1073741758 hashcode 2147483516 hashcode = .
+0 <hashtable> { 0 1 2 } [ 1073741758 * "x" swap pick set-at ] each 1073741758 over delete-at [ 0 of . ] [ 1073741758 of . ] [ 2147483516 of . ] tri
+
 ! Hash codes
 
 "ab" hashcode "ab" hashcode = .

@@ -18,8 +18,14 @@ GENERIC: hashcode* ( depth obj -- code )
 
 <PRIVATE
 
-! A code of 30 bits in which each bit depends on many of the integer: it is multiplied modulo a prime. The product has 59 bits.
-: (mixed) ( n -- code ) 1000000007 mod 387420489 * 1000000007 mod 1073741823 bitand ;
+! The greatest prime of 30 bits.
+CONSTANT: (prime) 1073741789
+
+! A code of 30 bits in which each bit depends on the whole integer: what a division by the prime leaves, with the quotient, is multiplied
+! modulo the prime. The product has 59 bits. A program can make integers of one code, and finds them one after another then.
+: (mixed) ( n -- code )
+    dup (prime) mod swap (prime) /i 31 * + (prime) mod
+    387420489 * (prime) mod 1073741823 bitand ;
 
 ! The code of what has this code and of one more behind it.
 : (next-code) ( code n -- newcode ) swap 31 * + 2147483647 bitand ;
