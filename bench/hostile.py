@@ -20,8 +20,8 @@ are these; with `--only` one of them is done alone.
   default, gives the same sources.
 
 All but the damaged ones have a stack of one mebibyte. Where a source is only checked, it may take 40 bytes of memory for each of its bytes, above
-1 MiB and what an empty one takes, and an image that is executed 10, but for those of KNOWN. The script ends with status 1 where anything is otherwise, or a run takes too long or is ended by a
-signal. Sources that were damaged and failed are kept in a folder, which is named.
+1 MiB and what an empty one takes, and an image that is executed 10, but for those of KNOWN. The script ends with status 1 where anything is
+otherwise, or a run takes too long or is ended by a signal. Sources that were damaged and failed are kept in a folder, which is named.
 """
 
 import argparse
