@@ -1,4 +1,4 @@
-"""Runs a program, with a stack of one mebibyte, under a library that counts its allocations and refuses some of them, and that tells how much memory it had."""
+"""Runs a program, with a stack of one mebibyte, under a library that counts its allocations and refuses some of them, and tells its most memory."""
 
 import dataclasses
 import os
