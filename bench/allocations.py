@@ -1,4 +1,4 @@
-"""Runs a program under a library that counts its allocations and refuses some of them, and that tells how much memory it had."""
+"""Runs a program, with a stack of one mebibyte, under a library that counts its allocations and refuses some of them, and tells its most memory."""
 
 import dataclasses
 import os
@@ -61,6 +61,9 @@ void *realloc(void *given, size_t size) {
 
 TOLD = struct.Struct("ll")
 
+# The library stands in front of the program alone, which has a stack of one mebibyte.
+LITTLE_STACK = ["/bin/sh", "-c", 'ulimit -s 1024; export LD_PRELOAD="$ALLOCATIONS_LIBRARY"; exec "$@"', "sh"]
+
 
 @dataclasses.dataclass
 class Ran:
@@ -89,10 +92,10 @@ class Allocations:
         """Runs the words, where the allocations from the first to the last are refused, the first one being 1; 0 refuses none."""
         with open(self.told, "wb") as file:
             file.write(bytes(TOLD.size))
-        names = {"LD_PRELOAD": self.library, "ALLOCATIONS_TOLD": self.told, "ALLOCATIONS_FIRST": str(first), "ALLOCATIONS_LAST": str(last)}
+        names = {"ALLOCATIONS_LIBRARY": self.library, "ALLOCATIONS_TOLD": self.told, "ALLOCATIONS_FIRST": str(first), "ALLOCATIONS_LAST": str(last)}
         try:
             ended = subprocess.run(
-                words, cwd=self.folder, env={**os.environ, **names}, input=given, capture_output=True, timeout=self.seconds, check=False
+                [*LITTLE_STACK, *words], cwd=self.folder, env={**os.environ, **names}, input=given, capture_output=True, timeout=self.seconds, check=False
             )
             status, output, note = ended.returncode, ended.stdout, ended.stderr
         except subprocess.TimeoutExpired:

@@ -8,10 +8,10 @@ are these; with `--only` one of them is done alone.
 
 - `limits`: sources at each limit of the language and one beyond it, of each kind of bracket, name, string and number, have the status and the
   note that stand beside them here.
-- `long`: sources of the greatest length, each of one token or a few again and again, are checked. Each ends in one of the statuses of a
-  source, and its note has the form that belongs to it.
-- `deep`: programs whose run nests values as deep as they can be, and walks or drops them, answer what stands beside them, with a stack of
-  one mebibyte.
+- `long`: sources of the greatest length, each of one token or a few again and again, or of forms each of which names the one before it, are
+  checked. Each ends in one of the statuses of a source, and its note has the form that belongs to it.
+- `deep`: programs whose run nests values as deep as they can be, for some up to 100,000,000 ticks, and walks or drops them, answer what stands
+  beside them.
 - `images`: images of a mebibyte that consist of one thing again and again, and those that claim to have more than there is, are executed and
   listed as bench/image_model.py says. bench/images.py has those that are damaged.
 - `damaged`: N times, 1,000,000 by default, a source is damaged at random, and checked or run with a small budget. Each ends in one of the
@@ -19,9 +19,9 @@ are these; with `--only` one of them is done alone.
   calls, some hundred of them in one process; J processes share them, as many as there are processors by default. The same seed S, 1 by
   default, gives the same sources.
 
-Where a source is only checked, it may take 40 bytes of memory for each of its bytes, above 1 MiB and what an empty one takes, and an image that
-is executed 10. The script ends with status 1 where anything is otherwise, or a run takes too long or is ended by a
-signal. Sources that were damaged and failed are kept in a folder, which is named.
+All but the damaged ones have a stack of one mebibyte. Where a source is only checked, it may take 40 bytes of memory for each of its bytes, above
+1 MiB and what an empty one takes, and an image that is executed 10, but for those of KNOWN. The script ends with status 1 where anything is
+otherwise, or a run takes too long or is ended by a signal. Sources that were damaged and failed are kept in a folder, which is named.
 """
 
 import argparse
@@ -40,7 +40,7 @@ import examples
 import image_model
 import model
 import speed
-from allocations import Allocations
+from allocations import LITTLE_STACK, Allocations
 from examples import H, ends, not_expected
 
 TOP = os.path.realpath(os.path.join(os.path.dirname(os.path.abspath(__file__)), ".."))
@@ -49,11 +49,62 @@ CASES = os.path.join(TOP, "crates", "fac_cases", "out", "fac_cases")
 MOST_SECONDS = 60
 MOST_BYTES_A_BYTE, MOST_BYTES_A_BYTE_OF_IMAGE = 40, 10
 BASE = 1 << 20
+# What takes more, and how many bytes for each of its bytes: docs/SPEED.md has what each of these comes from.
+KNOWN = {
+    # items, in one run
+    **{about: 70 for about in ("t", "f", "<", ">", "1", "a", "*")},
+    **{about: 48 for about in ("-1", "0x", "0b", "1,", "empty strings")},
+    "empty quotations": 58,
+    "branches": 58,
+    "branches in branches": 59,
+    "quotations in quotations": 62,
+    "quotations with inputs": 56,
+    "cases": 66,
+    "cases that stay open": 55,
+    "fries with a hole": 58,
+    "fries with holes in fries": 49,
+    "fries in fries": 50,
+    # literal arrays
+    "arrays of arrays": 96,
+    "empty arrays": 72,
+    "1,000,000 elements": 66,
+    "1,000,001 elements": 46,
+    "1,000,000 elements that are arrays": 72,
+    # words and classes
+    "makers": 65,
+    "unions of themselves": 104,
+    "tuple classes of one name": 97,
+    "tuple classes under themselves": 73,
+    "1,024 classes": 53,
+    # images
+    "exec of empty texts": 34,
+    "exec of texts of a character": 17,
+    "exec of empty arrays": 64,
+    "exec of empty sets of classes": 26,
+    "exec of instructions": 41,
+    **{
+        f"exec of {name} where list {place} has 4,294,967,295 elements": most
+        for name, place, most in (
+            ("zeros", 0, 34),
+            ("ones", 0, 18),
+            ("zeros", 1, 26),
+            ("ones", 1, 86),
+            ("zeros", 2, 15),
+            ("ones", 2, 16),
+            ("zeros", 3, 26),
+            ("ones", 3, 30),
+            ("zeros", 4, 16),
+            ("ones", 4, 14),
+            ("zeros", 6, 18),
+            ("zeros", 8, 34),
+            ("ones", 8, 18),
+        )
+    },
+}
 MOST_FAILURES = 20
 # The room of the sinks, and the budget, of a damaged source.
 ROOM, TICKS = 100_000, 500
 BATCH = 200
-LITTLE_STACK = ["/bin/sh", "-c", 'ulimit -s 1024; exec "$@"', "sh"]
 
 DONE, SYNTAX, NAME, CHECKER = model.DONE, model.SYNTAX, model.NAME, model.CHECKER
 MIB4 = model.MOST_BYTES
@@ -266,11 +317,46 @@ def long_source(before, part, behind):
     return (before + part * (room // len(part.encode())) + behind).encode()
 
 
+def chains():
+    """Sources of nearly the greatest length whose forms name one another in a chain: a form, and how many there are at most."""
+    for about, first, form, last, most in (
+        ("words that call the one before", ": w0 ( -- ) ;\n", ": w{next} ( -- ) w{here} ;\n", "w{here}\n", None),
+        ("words that call the one behind", "", ": w{here} ( -- ) w{next} ;\n", ": w{here} ( -- ) ;\n", None),
+        ("inline words that call the one before", ": w0 ( -- ) ; inline\n", ": w{next} ( -- ) w{here} ; inline\n", "w{here}\n", None),
+        ("inline words in a circle", "DEFER: w0\n", "DEFER: w{next}\n: w{here} ( -- ) w{next} ; inline\n", ": w{here} ( -- ) w0 ; inline\n", None),
+        ("words that are deferred, each with the one behind", "DEFER: w0\n", "DEFER: w{next}\n: w{here} ( -- ) w{next} ;\n", ": w{here} ( -- ) ;\n", None),
+        ("recursive inline words that take the one before", "USE: kernel\n: w0 ( -- ) ;\n", ": w{next} ( -- ) [ w{here} ] call ;\n", "", None),
+        ("tuple classes under the one before", "TUPLE: c0 ;\n", "TUPLE: c{next} < c{here} ;\n", "", 1_000),
+        ("tuple classes under the one behind", "DEFER: c0\n", "DEFER: c{next}\nTUPLE: c{here} < c{next} ;\n", "TUPLE: c{here} ;\n", 1_000),
+        ("unions of the one before", "SINGLETON: c0\n", "UNION: c{next} c{here} ;\n", "", 1_000),
+        ("unions of the one behind", "DEFER: c0\n", "DEFER: c{next}\nUNION: c{here} c{next} ;\n", "SINGLETON: c{here}\n", 1_000),
+        ("unions in a circle", "DEFER: c0\n", "DEFER: c{next}\nUNION: c{here} c{next} ;\n", "UNION: c{here} c0 ;\n", 1_000),
+    ):
+        forms, length, here = [first], len(first), 0
+        while length < MIB4 - 100 and here != most:
+            forms.append(form.format(here=here, next=here + 1))
+            length += len(forms[-1])
+            here += 1
+        yield about, ("".join(forms) + last.format(here=here)).encode()
+
+
 # Deep values
 
 LINK = "TUPLE: link next ; "
 DEPTH = 400_000
+# So many turns take nearly 100,000,000 ticks.
+DEEPEST = 2_900_000
 SHOWN = "{ " * 16 + "..." + " }" * 16
+
+# So many words, each of which calls the one before.
+WORDS = 80_000
+ONE_MORE = ": w0 ( n -- n ) 1 + ; "
+
+
+def in_quotations(behind):
+    """Words each of which calls the one before in a quotation, with these items behind the call."""
+    return "".join(f": w{k + 1} ( n -- n ) [ w{k} ] call{behind} ; " for k in range(WORDS))
+
 
 # A program that uses all vocabularies, and the status, the output and the note of its run.
 DEEP = [
@@ -290,6 +376,24 @@ DEEP = [
     ("calls under a value", f": r ( n -- m ) dup 0 > [ 1 - 5 [ r ] dip drop ] when ; {DEPTH} r .", 0, "0\n", ""),
     ("calls with locals", f":: r ( n -- m ) n 0 > [ n 1 - r 1 + ] [ 0 ] if ; {DEPTH} r .", 0, f"{DEPTH}\n", ""),
     ("calls that never end", ": r ( -- ) r 0 drop ; r", 6, "", "spent: 100000000 ticks\n"),
+    # as deep as 100,000,000 ticks make them
+    ("arrays in arrays for all ticks", f"f {DEEPEST} [ 1array ] times drop", 0, "", ""),
+    ("arrays in arrays until the budget is spent", f"f {2 * DEEPEST} [ 1array ] times drop", 6, "", "spent: 100000000 ticks\n"),
+    ("tuples in tuples for all ticks", f"{LINK}f {DEEPEST} [ link boa ] times drop", 0, "", ""),
+    ("values that are curried for all ticks", f"{{ [ ] }} first {DEEPEST} [ 1 swap curry ] times drop", 0, "", ""),
+    ("quotations that are composed for all ticks", f"{{ [ ] }} first {DEEPEST} [ [ ] compose ] times drop", 0, "", ""),
+    ("calls under values until the budget is spent", ": r ( -- ) 5 [ r ] dip drop ; r", 6, "", "spent: 100000000 ticks\n"),
+    ("values on the stack until the budget is spent", ": r ( -- ) 1 r drop ; r", 6, "", "spent: 100000000 ticks\n"),
+    # as deep as the longest source makes them
+    (
+        "a `cond` of too many cases",
+        "7 { " + "{ [ dup 1 = ] [ drop 1 ] } " * 140_000 + "[ drop 2 ] } cond .",
+        CHECKER,
+        "",
+        f"check: top-level, a token {13 + 11 * 140_000 + 6}: too-deep\n",
+    ),
+    ("known words in known quotations", f"{ONE_MORE}{in_quotations('')} 5 w{WORDS} .", 0, "6\n", ""),
+    ("calls in known quotations", f"{ONE_MORE}{in_quotations(' 1 +')} 5 w{WORDS} .", 0, f"{WORDS + 6}\n", ""),
     ("methods", f"GENERIC: g ( n -- m ) M: integer g dup 0 > [ 1 - g 1 + ] when ; {DEPTH} g .", 0, f"{DEPTH}\n", ""),
 ]
 
@@ -346,7 +450,7 @@ class Checked:
         ended = self.allocations.run([self.program, command, "a"])
         more = max(0, ended.most - self.base - BASE)
         self.worst.append((more / max(1, len(given)), about, len(given), ended.most))
-        if most is not None and more > most * len(given):
+        if most is not None and more > KNOWN.get(about, most) * len(given):
             self.failed.append(f"{about}: {ended.most:,} bytes of memory for {len(given):,}")
         return ended
 
@@ -371,8 +475,9 @@ def check_limits(checked):
 def check_long(checked):
     """Checks the sources of the greatest length."""
     statuses, count = Counter(), 0
-    for about, before, part, behind in long_parts():
-        ended = checked.of(about, long_source(before, part, behind))
+    made = ((about, long_source(before, part, behind)) for about, before, part, behind in long_parts())
+    for about, source in (*made, *chains()):
+        ended = checked.of(about, source)
         count += 1
         statuses[ended.status] += 1
         if not is_of_form(ended.status, ended.note.decode(errors="replace")):

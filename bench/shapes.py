@@ -9,8 +9,8 @@ of each by valgrind, and prints the ratio of what the last takes more than the m
 and 16 where it is quadratic. It ends with status 1 where a ratio is more than 4.6, where a run ends by a signal or with another status than the others,
 where the bytes of the sources have such a ratio of more than 4.3, or where a file isn't of the grammar (status 3), so that nothing is checked.
 Whether the source is accepted doesn't matter otherwise. The longest source may take 40 bytes of memory for each of its bytes, above 1 MiB and
-what an empty one takes; that stands behind the ratio. With `--times` the script takes the user time, for sources eight times as large;
-such times are worth something on an idle machine alone. `--list` lists the shapes.
+what an empty one takes; that stands behind the ratio. Some shapes may take more, as KNOWN_RATIOS and KNOWN_BYTES say. With `--times` the script
+takes the user time, for sources eight times as large; such times are worth something on an idle machine alone. `--list` lists the shapes.
 """
 
 import argparse
@@ -35,6 +35,19 @@ LARGER = 8
 # The bytes of memory that a byte of source may take, above these.
 MOST_BYTES_A_BYTE = 40
 BASE = 1 << 20
+# What takes more, and how much it may take: docs/SPEED.md has what each of these comes from.
+KNOWN_RATIOS = {"long-row-names": 12.5, "parents": 8.2, "next-methods": 5.8}
+KNOWN_BYTES = {
+    "classes": 71,
+    "own-slots": 208,
+    "heirs": 133,
+    "makers": 229,
+    "quotations-in-arrays": 53,
+    "empty-arrays": 54,
+    "empty-quotations": 47,
+    "branches": 55,
+    "branches-over-values": 43,
+}
 # So long a run may take, in seconds. A quadratic shape is ended by it.
 MOST_SECONDS = 300
 
@@ -463,8 +476,9 @@ def tell(shape, n, costs, each):
     ratio = (many - few) / max(few - least, 1)
     short, usual, long = (len(shape.make(size)) for size in (n // 4, n, 4 * n))
     growth = (long - usual) / (usual - short)
-    is_near = ratio <= MOST_RATIO and growth <= MOST_GROWTH and status == middle == last and status >= 0 and status != NO_GRAMMAR
-    is_small = each <= MOST_BYTES_A_BYTE
+    most = KNOWN_RATIOS.get(shape.name, MOST_RATIO)
+    is_near = ratio <= most and growth <= MOST_GROWTH and status == middle == last and status >= 0 and status != NO_GRAMMAR
+    is_small = each <= KNOWN_BYTES.get(shape.name, MOST_BYTES_A_BYTE)
     note = ("" if is_near else f" * (the source {growth:.2f})") + ("" if is_small else " * memory")
     print(f"{shape.name:<28}{n:>8}{few:>15,.0f}{many:>15,.0f}{ratio:>8.2f}{each:>8.1f}  status {status}, {middle}, {last}{note}", flush=True)
     return is_near and is_small

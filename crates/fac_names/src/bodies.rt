@@ -212,11 +212,15 @@ pub fn maker(alloc: Global, so_far: &mut SoFar, name: &Token, class: &Token) -> 
         .tell(number, late_body(alloc, body, Late::Maker(boxed)))
 }
 
-/// Adds items behind others.
+/// Adds items behind others. Where there are none before them, none is copied.
 #[tactic(auto, using(fac_items::proofs::PhraseLemmas::items_phrase_append))]
 pub fn add_items(items: &mut Vec<Item>, mut more: Vec<Item>) -> Result<(), Memory>
     ensures { OnOk result (items_phrase items.new.items ≡ append (items_phrase items.old.items) (items_phrase more.items)) }
 {
+    if items.len() == 0 {
+        *items = more;
+        return Ok(());
+    }
     items.append(&mut more)?;
     Ok(())
 }
