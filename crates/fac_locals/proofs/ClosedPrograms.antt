@@ -4,7 +4,7 @@ use Rattle.std.specs.Prelude.{map, slice_get}
 use Rattle.std.proofs.lemmas.Bool.{cases_eq, cases_lt}
 use Rattle.std.proofs.lemmas.Option.{get_or_from_slice_get, slice_get_within}
 use Rattle.fac_lang.specs.Phrases.{Literal, Phrase, end, then, Item, lit, lit_arr, quot, word, bind, local, fry, hole, call_effect, execute_effect, next_method}
-use Rattle.fac_lang.specs.Meaning.{nowhere, array_method}
+use Rattle.fac_lang.specs.Meaning.{nowhere, array_method, sort_phrase, word_phrase}
 use Rattle.fac_base.specs.declared.place.Place.{Place}
 use Rattle.fac_lang.specs.declared.phrase.Template.{Template}
 use Rattle.fac_lang.specs.declared.program.Lit.{Lit}
@@ -19,10 +19,10 @@ use Rattle.fac_locals.specs.declared.cell.Cell.{Cell}
 use Rattle.fac_locals.specs.declared.cell.Cell.TheVariants.{Local, Hole}
 use Rattle.fac_locals.specs.Cells.{cells_behind, captured, inner_phrase, inner_cells, hole_count}
 use Rattle.fac_locals.specs.declared.closing.ArrayStart.{ArrayStart}
-use Rattle.fac_locals.specs.Literals.{Quoted, element_item, first_of_word, first_of_literal, first_in_array, behind, literal_or, literal_numbered}
+use Rattle.fac_locals.specs.Literals.{Quoted, StandsIn, it_is, in_quotation, in_fry, in_array, further, StandsAt, array_phrase, element_item, first_of_word, first_of_literal, first_in_array, behind, literal_or, literal_numbered}
 use Rattle.fac_locals.specs.Closed.{IsMadeBy, Closes, CloseWords, ClosesSort, ClosesPhrase, ClosesItem, ClosesLiteral, CloseLiterals, ClosesElement, CloseElements, CloseArrays}
 use Rattle.fac_locals.specs.inner.Numbering.{put_all, start_of, plain_item, plain_phrase, phrase_of, method_of, next_in, cell_or, phrase_behind, item_behind, closed_item, closed_phrase, closed_template, phrase_templates, item_templates, phrase_starts, item_starts, closed_element, closed_elements, closed_sort, closed_word, closed_words, words_behind, words_templates, words_starts, counts_from, Stage, start_at, elements_at, array_closed, arrays_closed, PartsClosed}
-use Rattle.fac_locals.proofs.LiteralArrays.{HasBuiltPhrase, HaveBuiltPhrases, built_phrases, IsClosable, IsClosableItem, AreClosable, program_closable, array_closable, closable_more, in_method, item_in, in_method_is, body_of}
+use Rattle.fac_locals.proofs.LiteralArrays.{HasBuiltPhrase, HaveBuiltPhrases, built_phrases, IsClosable, IsClosableItem, AreClosable, program_closable, array_closable, array_phrase_is, closable_more, in_method, item_in, in_method_is, body_of}
 use Rattle.fac_locals.proofs.AskedCells.{same_number, IsUnder, IsItemUnder, AreUnder, first_under, rest_under, quotation_under, fry_under, numbered_there, captured_in, quotation_cells_in, fry_cells_in, cells_behind_in, program_under, array_under}
 use Rattle.fac_locals.proofs.TemplateNumbers.{no_cells}
 use Rattle.fac_locals.proofs.PlacedLiterals.{Placed, placed_item, quoted_of, place_at, placed_in, placed_at, placed_words, array_placed, program_placed, placed_literals, placed_places, phrase_counted, item_counted, words_counted, array_unfolds, array_counted, found}
@@ -42,13 +42,24 @@ one_more xs x n e = rw (length-append xs (x ∷ [])) (omega (arith, e))
 
 -- the literal array of this number is closed where it stands
 abbrev pub IsClosedArray : Program → ℕ → List Lit → List Lit → Type 0
-IsClosedArray P a ls c = (at : Literal) × CloseElements P (array_method P (length P.arrays) a) (first_in_array at) ls c
+IsClosedArray P a ls c = (at : Literal) × CloseElements P (array_method P (length P.arrays) a) (first_in_array at) ls c × StandsAt P a at
 
 some_same : {A : Type 0} (x y : A) → Some x ≡ Some y → x ≡ y
 some_same x y e = cc
 
 both_places : (t : Template) (j : Placed) (ps qs : List Place) → t.place ≡ j.1 → ps ≡ qs → t.place ∷ ps ≡ j.1 ∷ qs
 both_places t j ps qs e f = rw (e, f) refl
+
+-- what stands in an array that stands there
+through : (P : Program) (here : Literal) (t : Phrase) (b : ℕ) (at : Literal) (q : Place) (a : ℕ) (there : Literal) → StandsIn P here t b at → StandsIn P (first_in_array at) (array_phrase P b q) a there → StandsIn P here t a there
+through P here t b at q a there (it_is h c p u) s = in_array h c p u q a there s
+through P here t b at q a there (in_quotation h v p u c x r) s = in_quotation h v p u a there (through P (first_of_literal h) v b at q a there r s)
+through P here t b at q a there (in_fry h v n p u c x r) s = in_fry h v n p u a there (through P (first_of_literal h) v b at q a there r s)
+through P here t b at q a there (in_array h d p u o c x r) s = in_array h d p u o a there (through P (first_in_array h) (array_phrase P d o) b at q a there r s)
+through P here t b at q a there (further h i p u c x r) s = further h i p u a there (through P (behind h i) u b at q a there r s)
+
+in_standing : (P : Program) (b : ℕ) (at : Literal) (q : Place) (a : ℕ) (there : Literal) → StandsAt P b at → StandsIn P (first_in_array at) (array_phrase P b q) a there → StandsAt P a there
+in_standing P b at q a there h s = record { word = h.word; stands = through P (first_of_word h.word) (word_phrase P h.word) b at q a there h.stands s }
 
 -- The literals of the program with their places are all of these. Where they are those before a phrase, those of the phrase and those behind it, the phrase is closed with numbers from there on.
 module _ (P : Program) (counts : List ℕ) (X : ℕ → Literal → Place → List Placed) (all : List Placed) (count : (b : ℕ) (at : Literal) (p : Place) → b < length P.arrays → length (X b at p) ≡ get_or counts b 0) (numbers : (k : ℕ) (l : Placed) → slice_get all k ≡ Some l → literal_numbered P k ≡ l.0) where
@@ -64,6 +75,7 @@ module _ (P : Program) (counts : List ℕ) (X : ℕ → Literal → Place → Li
     pub is : all ≡ before ++ (X b at m.place ++ after)
     pub number_is : length before ≡ m.number
     pub method_is : m.method ≡ array_method P (length P.arrays) b
+    pub named : StandsAt P b at
 
   first_part : (before xs ys after : List Placed) → all ≡ before ++ ((xs ++ ys) ++ after) → all ≡ before ++ (xs ++ (ys ++ after))
   first_part before xs ys after is = is ∙ ap (λ (ls : List Placed). before ++ ls) (append_assoc xs ys after)
@@ -163,28 +175,28 @@ module _ (P : Program) (counts : List ℕ) (X : ℕ → Literal → Place → Li
 
     -- the arrays that a phrase names
     mutual
-      starts_stand : (n : ℕ) (cells : List Cell) (before after : List Placed) (at : Literal) (t : Phrase) → IsClosable (length P.arrays) t → ((b : ℕ) → b < length P.arrays → 0 < times_in b (arrays_named t) → m ≡ array_method P (length P.arrays) b) → length before ≡ n → all ≡ before ++ (placed_in X cells at (in_method m t) ++ after) → AllOf Stands (phrase_starts counts m n t)
-      starts_stand n cells before after at end h own e is = tt
-      starts_stand n cells before after at (then i p t) h own e is =
+      starts_stand : (n : ℕ) (cells : List Cell) (before after : List Placed) (at : Literal) (t : Phrase) → IsClosable (length P.arrays) t → ((b : ℕ) → b < length P.arrays → 0 < times_in b (arrays_named t) → m ≡ array_method P (length P.arrays) b) → ((b : ℕ) (there : Literal) → StandsIn P at (in_method m t) b there → StandsAt P b there) → length before ≡ n → all ≡ before ++ (placed_in X cells at (in_method m t) ++ after) → AllOf Stands (phrase_starts counts m n t)
+      starts_stand n cells before after at end h own up e is = tt
+      starts_stand n cells before after at (then i p t) h own up e is =
           let j = item_in m i in
           let here = placed_at X cells at p j in
           let next = cells_behind cells j in
           let rest = placed_in X next (behind at j) (in_method m t) in
-          all_both Stands (item_starts counts m n p i) (phrase_starts counts m (item_behind counts n i) t) (item_stands n cells before (rest ++ after) at p i h.0 (λ b low some. own b low (let sum = times_both b (arrays_named_by i) (arrays_named t) in omega (arith, sum, some))) e (first_part before here rest after is)) (starts_stand (item_behind counts n i) next (before ++ here) after (behind at j) t h.1 (λ b low some. own b low (let sum = times_both b (arrays_named_by i) (arrays_named t) in omega (arith, sum, some))) (item_counted X counts (length P.arrays) count m n before cells at p i h.0 e) (second_part before here rest after is))
+          all_both Stands (item_starts counts m n p i) (phrase_starts counts m (item_behind counts n i) t) (item_stands n cells before (rest ++ after) at p i (in_method m t) h.0 (λ b low some. own b low (let sum = times_both b (arrays_named_by i) (arrays_named t) in omega (arith, sum, some))) up e (first_part before here rest after is)) (starts_stand (item_behind counts n i) next (before ++ here) after (behind at j) t h.1 (λ b low some. own b low (let sum = times_both b (arrays_named_by i) (arrays_named t) in omega (arith, sum, some))) (λ b there s. up b there (further at j p (in_method m t) b there s)) (item_counted X counts (length P.arrays) count m n before cells at p i h.0 e) (second_part before here rest after is))
 
-      item_stands : (n : ℕ) (cells : List Cell) (before after : List Placed) (at : Literal) (p : Place) (i : Item) → IsClosableItem (length P.arrays) i → ((b : ℕ) → b < length P.arrays → 0 < times_in b (arrays_named_by i) → m ≡ array_method P (length P.arrays) b) → length before ≡ n → all ≡ before ++ (placed_at X cells at p (item_in m i) ++ after) → AllOf Stands (item_starts counts m n p i)
-      item_stands n cells before after at p (quot t) h own e is =
+      item_stands : (n : ℕ) (cells : List Cell) (before after : List Placed) (at : Literal) (p : Place) (i : Item) (u : Phrase) → IsClosableItem (length P.arrays) i → ((b : ℕ) → b < length P.arrays → 0 < times_in b (arrays_named_by i) → m ≡ array_method P (length P.arrays) b) → ((b : ℕ) (there : Literal) → StandsIn P at (then (item_in m i) p u) b there → StandsAt P b there) → length before ≡ n → all ≡ before ++ (placed_at X cells at p (item_in m i) ++ after) → AllOf Stands (item_starts counts m n p i)
+      item_stands n cells before after at p (quot t) u h own up e is =
           let i = quot (in_method m t) in
           let x = placed_item cells at p i in
           let inner = inner_cells cells i in
-          starts_stand (suc n) inner (before ++ x ∷ []) after (first_of_literal at) t h own (one_more before x n e) (second_part before (x ∷ []) (placed_in X inner (first_of_literal at) (in_method m t)) after is)
-      item_stands n cells before after at p (fry t c) h own e is =
+          starts_stand (suc n) inner (before ++ x ∷ []) after (first_of_literal at) t h own (λ b there s. up b there (in_quotation at (in_method m t) p u b there s)) (one_more before x n e) (second_part before (x ∷ []) (placed_in X inner (first_of_literal at) (in_method m t)) after is)
+      item_stands n cells before after at p (fry t c) u h own up e is =
           let i = fry (in_method m t) c in
           let x = placed_item cells at p i in
           let inner = inner_cells cells i in
-          starts_stand (suc n) inner (before ++ x ∷ []) after (first_of_literal at) t h own (one_more before x n e) (second_part before (x ∷ []) (placed_in X inner (first_of_literal at) (in_method m t)) after is)
-      item_stands n cells before after at p (lit_arr a) h own e is = (record { at = at; before = before; after = after; is = is; number_is = e; method_is = own a h (entry_named ((a, m) ∷ []) a m (inl (refl, refl))) }, tt)
-      item_stands n cells before after at p _ h own e is = tt
+          starts_stand (suc n) inner (before ++ x ∷ []) after (first_of_literal at) t h own (λ b there s. up b there (in_fry at (in_method m t) c p u b there s)) (one_more before x n e) (second_part before (x ∷ []) (placed_in X inner (first_of_literal at) (in_method m t)) after is)
+      item_stands n cells before after at p (lit_arr a) u h own up e is = (record { at = at; before = before; after = after; is = is; number_is = e; method_is = own a h (entry_named ((a, m) ∷ []) a m (inl (refl, refl))); named = up a at (it_is at a p u) }, tt)
+      item_stands n cells before after at p _ u h own up e is = tt
 
     -- the elements of an array
     element_closes : (n : ℕ) (before after : List Placed) (at : Literal) (p : Place) (l : Lit) → IsClosableItem (length P.arrays) (plain_item l) → length before ≡ n → all ≡ before ++ (placed_at X [] at p (item_in m (plain_item l)) ++ after) → ClosesElement P m at l (closed_element counts n l)
@@ -251,15 +263,29 @@ module _ (P : Program) (counts : List ℕ) (X : ℕ → Literal → Place → Li
   abbrev OwnArrays : ℕ → List WordDef → Type 0
   OwnArrays w ds = (k v b : ℕ) (d : WordDef) → v ≡ w + k → slice_get ds k ≡ Some d → b < length P.arrays → 0 < times_in b (arrays_named (phrase_of d.sort)) → method_of v d.sort ≡ array_method P (length P.arrays) b
 
-  words_stand : (n w : ℕ) (before : List Placed) (ds : List WordDef) → AreClosable (length P.arrays) ds → OwnArrays w ds → length before ≡ n → all ≡ before ++ placed_words X w ds → AllOf Stands (words_starts counts w n ds)
-  words_stand n w before [] h own e is = tt
-  words_stand n w before (d ∷ ds) h own e is =
+  -- these words are the program's, from word w on
+  abbrev OwnWords : ℕ → List WordDef → Type 0
+  OwnWords w ds = (k v : ℕ) (d : WordDef) → v ≡ w + k → slice_get ds k ≡ Some d → slice_get P.words v ≡ Some d
+
+  word_phrase_is : (top w : ℕ) (d : WordDef) → slice_get P.words w ≡ Some d → HasBuiltPhrase top d.sort → IsClosable (length P.arrays) (phrase_of d.sort) → body_of w d.sort ≡ word_phrase P w
+  word_phrase_is top w d is b h = go d.sort b h ∙ ap (λ (o : Option WordDef). sort_phrase P w (elim o [ Some x ↦ Some x.sort | None ↦ None ])) (sym is)
+    where
+      go : (s : Sort) → HasBuiltPhrase top s → IsClosable (length P.arrays) (phrase_of s) → body_of w s ≡ sort_phrase P w (Some s)
+      go (body t) b h = in_method_is (length P.arrays) None t h
+      go (past t) b h = absurd b
+      go (method c g t) b h = in_method_is (length P.arrays) (Some w) t h
+      go _ b h = refl
+
+  words_stand : (top n w : ℕ) (before : List Placed) (ds : List WordDef) → HaveBuiltPhrases top ds → AreClosable (length P.arrays) ds → OwnArrays w ds → OwnWords w ds → length before ≡ n → all ≡ before ++ placed_words X w ds → AllOf Stands (words_starts counts w n ds)
+  words_stand top n w before [] b h own known e is = tt
+  words_stand top n w before (d ∷ ds) b h own known e is =
+      let up : (a : ℕ) (there : Literal) → StandsIn P (first_of_word w) (body_of w d.sort) a there → StandsAt P a there = λ (a : ℕ) (there : Literal) (s : StandsIn P (first_of_word w) (body_of w d.sort) a there). record { word = w; stands = subst (λ (u : Phrase). StandsIn P (first_of_word w) u a there) (word_phrase_is top w d (known 0 w d (omega arith) refl) b.0 h.0) s } in
       let t = phrase_of d.sort in
       let m = method_of w d.sort in
       let here = placed_in X [] (first_of_word w) (body_of w d.sort) in
       let rest = placed_words X (suc w) ds in
       let j = phrase_behind counts n t in
-      all_both Stands (phrase_starts counts m n t) (words_starts counts (suc w) j ds) (starts_stand m n [] before rest (first_of_word w) t h.0 (λ b low some. own 0 w b d (omega arith) refl low some) e is) (words_stand j (suc w) (before ++ here) ds h.1 (λ k v b x is at low some. own (suc k) v b x (omega (arith, is)) at low some) (phrase_counted X counts (length P.arrays) count m n before [] (first_of_word w) t h.0 e) (is ∙ sym (append_assoc before here rest)))
+      all_both Stands (phrase_starts counts m n t) (words_starts counts (suc w) j ds) (starts_stand m n [] before rest (first_of_word w) t h.0 (λ b low some. own 0 w b d (omega arith) refl low some) up e is) (words_stand top j (suc w) (before ++ here) ds b.1 h.1 (λ k v b x is at low some. own (suc k) v b x (omega (arith, is)) at low some) (λ k v x is at. known (suc k) v x (omega (arith, is)) at) (phrase_counted X counts (length P.arrays) count m n before [] (first_of_word w) t h.0 e) (is ∙ sym (append_assoc before here rest)))
 
   -- a stage at which this array is closed, where it starts here and has these elements
   abbrev closed_with : ℕ → Stage → ArrayStart → List Lit → Stage
@@ -287,7 +313,7 @@ module _ (P : Program) (counts : List ℕ) (X : ℕ → Literal → Place → Li
 
   module _ (once : (b : ℕ) → b < length P.arrays → by_words b P.words + by_arrays b P.arrays ≡ 1) (earlier : each_numbered names_earlier 0 P.arrays ≡ true) where
     -- One array more is closed.
-    module _ (a : ℕ) (s : Stage) (ls : List Lit) (m : ArrayStart) (is : slice_get P.arrays a ≡ Some ls) (within : a < length P.arrays) (closable : IsClosable a (plain_phrase m.place ls)) (under : IsUnder [] (plain_phrase m.place ls)) (stands_at : Stands a m) (unfolds : X a stands_at.at m.place ≡ placed_in X [] (first_in_array stands_at.at) (in_method m.method (plain_phrase m.place ls))) (noted : slice_get s.starts a ≡ Some m) (h : ClosedFrom (suc a) s) where
+    module _ (a : ℕ) (s : Stage) (ls : List Lit) (m : ArrayStart) (is : slice_get P.arrays a ≡ Some ls) (within : a < length P.arrays) (closable : IsClosable a (plain_phrase m.place ls)) (under : IsUnder [] (plain_phrase m.place ls)) (stands_at : Stands a m) (unfolds : X a stands_at.at m.place ≡ placed_in X [] (first_in_array stands_at.at) (in_method m.method (plain_phrase m.place ls))) (noted : slice_get s.starts a ≡ Some m) (phrase_is : in_method m.method (plain_phrase m.place ls) ≡ array_phrase P a m.place) (h : ClosedFrom (suc a) s) where
       abbrev t : Phrase
       t = plain_phrase m.place ls
 
@@ -313,7 +339,7 @@ module _ (P : Program) (counts : List ℕ) (X : ℕ → Literal → Place → Li
       fills = templates_fill m.method m.number [] stands_at.before stands_at.after at t wide under stands_at.number_is split
 
       stands : AllOf Stands ss
-      stands = starts_stand m.method m.number [] stands_at.before stands_at.after at t wide (λ b low some. stands_at.method_is ∙ array_array P once earlier a b ls low is (let same = ap (times_in b) (elements_names m.place ls) in omega (arith, same, some))) stands_at.number_is split
+      stands = starts_stand m.method m.number [] stands_at.before stands_at.after at t wide (λ b low some. stands_at.method_is ∙ array_array P once earlier a b ls low is (let same = ap (times_in b) (elements_names m.place ls) in omega (arith, same, some))) (λ b there s. in_standing P a stands_at.at m.place b there stands_at.named (subst (λ (u : Phrase). StandsIn P at u b there) phrase_is s)) stands_at.number_is split
 
       names : keys ss ≡ arrays_in ls
       names = phrase_names_noted counts a m.method m.number t closable ∙ elements_names m.place ls
@@ -376,7 +402,7 @@ module _ (P : Program) (counts : List ℕ) (X : ℕ → Literal → Place → Li
           let closed = closed_elements counts m.number ls in
           let here = set_here s.arrays a closed (omega (arith, within, h.many_arrays)) in
           let own : m.method ≡ array_method P (length P.arrays) b = stands_at.method_is ∙ sym (ap (array_method P (length P.arrays)) e) in
-          (closed, ap (slice_get u.arrays) e ∙ here, (stands_at.at, subst (λ (ys : List Lit). CloseElements P (array_method P (length P.arrays) b) at ys closed) (sym same) (subst (λ (o : Option ℕ). CloseElements P o at ls closed) own (elements_close m.method m.number stands_at.before stands_at.after at m.place ls wide stands_at.number_is split))))
+          (closed, ap (slice_get u.arrays) e ∙ here, (stands_at.at, subst (λ (ys : List Lit). CloseElements P (array_method P (length P.arrays) b) at ys closed) (sym same) (subst (λ (o : Option ℕ). CloseElements P o at ls closed) own (elements_close m.method m.number stands_at.before stands_at.after at m.place ls wide stands_at.number_is split)), subst (λ (n : ℕ). StandsAt P n stands_at.at) (sym e) stands_at.named))
       done_now b xs le is_b (inr other) =
           let before = h.done b xs (by_side (suc a ≤ b) (suc a) b (λ (lt : b < suc a). absurd (other (omega (arith, lt, le)))) (λ (more : suc a ≤ b). more) (cases_lt b (suc a))) is_b in
           (before.0, set_other s.arrays a b (closed_elements counts m.number ls) other ∙ before.1, before.2)
@@ -399,7 +425,7 @@ module _ (P : Program) (counts : List ℕ) (X : ℕ → Literal → Place → Li
           let ls = here.0 in
           let start = h.stand a within (not_named_below a 0 (suc a) P.arrays whole.arrays_earlier (omega arith)) in
           let m = start.0 in
-          let one = one_closed a s ls m here.1 within (array_closable P built whole a m.place ls here.1) (array_under P whole a m.place ls here.1) start.2 (unfolds a start.2.at m.place ls here.1 within ∙ ap (λ (o : Option ℕ). placed_in X [] (first_in_array start.2.at) (in_method o (plain_phrase m.place ls))) (sym start.2.method_is)) start.1 h in
+          let one = one_closed a s ls m here.1 within (array_closable P built whole a m.place ls here.1) (array_under P whole a m.place ls here.1) start.2 (unfolds a start.2.at m.place ls here.1 within ∙ ap (λ (o : Option ℕ). placed_in X [] (first_in_array start.2.at) (in_method o (plain_phrase m.place ls))) (sym start.2.method_is)) start.1 (ap (λ (o : Option ℕ). in_method o (plain_phrase m.place ls)) start.2.method_is ∙ sym (array_phrase_is P built whole a m.place ls here.1)) h in
           let start_is : start_at s a ≡ m = get_or_from_slice_get s.starts a m (start_of 0 nowhere None) start.1 in
           let elements_are : elements_at s a ≡ ls = get_or_from_slice_get s.arrays a ls [] (h.not_yet a (omega arith) ∙ here.1) in
           subst (ClosedFrom a) (sym (ap (λ (x : ArrayStart). closed_with a s x (elements_at s a)) start_is ∙ ap (closed_with a s m) elements_are)) one
@@ -429,7 +455,7 @@ module _ (P : Program) (counts : List ℕ) (X : ℕ → Literal → Place → Li
         words_filled = words_fill 0 0 [] P.words closable_words (program_under P (built_phrases P built) whole) refl all_is
 
         words_standing : AllOf Stands word_starts
-        words_standing = words_stand 0 0 [] P.words closable_words (λ k v b d is at low some. let here : k ≡ v = omega (arith, is) in word_array P once earlier v b d low (ap (slice_get P.words) (sym here) ∙ at) some) refl all_is
+        words_standing = words_stand P.top 0 0 [] P.words (built_phrases P built) closable_words (λ k v b d is at low some. let here : k ≡ v = omega (arith, is) in word_array P once earlier v b d low (ap (slice_get P.words) (sym here) ∙ at) some) (λ k v d is at. let here : k ≡ v = omega (arith, is) in ap (slice_get P.words) (sym here) ∙ at) refl all_is
 
         names_of_words : (b : ℕ) → times_in b (keys word_starts) ≡ times_in b (joined (map arrays_named (word_phrases P.words)))
         names_of_words b = ap (times_in b) (words_names_noted counts (length P.arrays) P.top 0 0 P.words (built_phrases P built) closable_words)
@@ -491,7 +517,7 @@ arrays_close P k (ls ∷ lss) [] many each = absurd (omega (arith, many))
 arrays_close P k (ls ∷ lss) (c ∷ cs) many each =
     let here = each 0 k ls (omega arith) refl in
     let same : c ≡ here.0 = some_same c here.0 here.1 in
-    (here.2.0, c, cs, refl, subst (λ (xs : List Lit). CloseElements P (array_method P (length P.arrays) k) (first_in_array here.2.0) ls xs) (sym same) here.2.1, arrays_close P (suc k) lss cs (omega (arith, many)) (λ (j a : ℕ) (xs : List Lit) (is : a ≡ suc k + j) (e : slice_get lss j ≡ Some xs). each (suc j) a xs (omega (arith, is)) e))
+    (here.2.0, c, cs, refl, subst (λ (xs : List Lit). CloseElements P (array_method P (length P.arrays) k) (first_in_array here.2.0) ls xs) (sym same) here.2.1, arrays_close P (suc k) lss cs (omega (arith, many)) (λ (j a : ℕ) (xs : List Lit) (is : a ≡ suc k + j) (e : slice_get lss j ≡ Some xs). each (suc j) a xs (omega (arith, is)) e), here.2.2)
 
 mapped_at : {A B : Type 0} (f : A → B) (xs : List A) (k : ℕ) (x : A) → slice_get xs k ≡ Some x → slice_get (map f xs) k ≡ Some (f x)
 mapped_at f [] k x e = absurd cc

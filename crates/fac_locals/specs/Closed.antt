@@ -13,7 +13,7 @@ use Rattle.fac_lang.specs.declared.program.Sort.TheVariants.{Body as body, Past 
 use Rattle.fac_locals.specs.declared.cell.Cell.{Cell}
 use Rattle.fac_locals.specs.declared.cell.Cell.TheVariants.{Local, Hole}
 use Rattle.fac_locals.specs.Cells.{cell_number, cells_behind, captured, inner_cells, hole_count}
-use Rattle.fac_locals.specs.Literals.{Quoted, quoted_phrase, behind, first_of_word, first_of_literal, first_in_array, element_item, literals, literal_places, literal_numbered}
+use Rattle.fac_locals.specs.Literals.{Quoted, StandsAt, quoted_phrase, behind, first_of_word, first_of_literal, first_in_array, element_item, literals, literal_places, literal_numbered}
 
 module _ (P : Program) where
   -- the template with this number makes the quotation or fry that stands here under these cells
@@ -81,10 +81,10 @@ module _ (P : Program) where
   CloseElements m at [] cs = cs ≡ []
   CloseElements m at (l ∷ ls) cs = (c : Lit) × (r : List Lit) × (cs ≡ c ∷ r) × ClosesElement m at l c × CloseElements m (behind at (element_item m l)) ls r
 
-  -- arrays for those of the program, from number a on: each stands somewhere
+  -- arrays for those of the program, from number a on, each for where it stands
   abbrev pub CloseArrays : ℕ → List (List Lit) → List (List Lit) → Type 0
   CloseArrays a [] cs = cs ≡ []
-  CloseArrays a (ls ∷ lss) cs = (at : Literal) × (c : List Lit) × (r : List (List Lit)) × (cs ≡ c ∷ r) × CloseElements (array_method P (length P.arrays) a) (first_in_array at) ls c × CloseArrays (suc a) lss r
+  CloseArrays a (ls ∷ lss) cs = (at : Literal) × (c : List Lit) × (r : List (List Lit)) × (cs ≡ c ∷ r) × CloseElements (array_method P (length P.arrays) a) (first_in_array at) ls c × CloseArrays (suc a) lss r × StandsAt P a at
 
   -- templates for literals, one by one
   abbrev pub CloseLiterals : List Quoted → List Template → Type 0

@@ -2,7 +2,7 @@
 use Rattle.std.specs.Prelude.{◌≡◌, ◌<◌, ◌⊎◌, ℕ, zero, suc, ◌+◌, List, [], ◌∷◌, ◌++◌, length, Option, Some, None, slice_get}
 use Rattle.fac_lang.specs.Phrases.{int, yes, no, str, wrd, Literal, Phrase, end, then, Item, lit, lit_arr, quot, fry, made}
 use Rattle.fac_lang.specs.Substitution.{of_method}
-use Rattle.fac_lang.specs.Meaning.{of_method_if, array_method, nowhere}
+use Rattle.fac_lang.specs.Meaning.{of_method_if, array_method, nowhere, word_phrase}
 use Rattle.fac_base.specs.declared.place.Place.{Place}
 use Rattle.fac_locals.specs.declared.cell.Cell.{Cell}
 use Rattle.fac_locals.specs.Cells.{cells_behind, inner_cells, inner_phrase}
@@ -174,3 +174,18 @@ literal_or P k None = record { at = record { word = length P.words; around = [];
 
 abbrev pub literal_numbered : Program → ℕ → Quoted
 literal_numbered P k = literal_or P k (slice_get (literals P) k)
+
+-- Where a literal array stands: at its number among the items of a phrase, or among the elements of another array.
+module _ (P : Program) where
+  -- In a phrase whose first item stands here the array of this number stands there: it is an item, or stands in a quotation, a fry or an array.
+  pub data StandsIn : Literal → Phrase → ℕ → Literal → Type 0 where
+    it_is : (here : Literal) (a : ℕ) (p : Place) (t : Phrase) → StandsIn here (then (lit_arr a) p t) a here
+    in_quotation : (here : Literal) (u : Phrase) (p : Place) (t : Phrase) (a : ℕ) (there : Literal) → StandsIn (first_of_literal here) u a there → StandsIn here (then (quot u) p t) a there
+    in_fry : (here : Literal) (u : Phrase) (n : ℕ) (p : Place) (t : Phrase) (a : ℕ) (there : Literal) → StandsIn (first_of_literal here) u a there → StandsIn here (then (fry u n) p t) a there
+    in_array : (here : Literal) (b : ℕ) (p : Place) (t : Phrase) (q : Place) (a : ℕ) (there : Literal) → StandsIn (first_in_array here) (array_phrase P b q) a there → StandsIn here (then (lit_arr b) p t) a there
+    further : (here : Literal) (i : Item) (p : Place) (t : Phrase) (a : ℕ) (there : Literal) → StandsIn (behind here i) t a there → StandsIn here (then i p t) a there
+
+  -- The literal array of this number stands there in the phrase of a word. In a whole program each is named once, so it stands nowhere else.
+  pub record StandsAt (a : ℕ) (there : Literal) : Type 0 where
+    pub word : ℕ
+    pub stands : StandsIn (first_of_word word) (word_phrase P word) a there

@@ -34,3 +34,4 @@ pub mod ExamplesOfLocals
 pub mod ExamplesOfCalls
 pub mod SignLemmas
 pub mod TextLemmas
+pub mod FoundNames

@@ -6,6 +6,7 @@ pub mod KnownWords
 pub mod Resolution
 pub mod TakenForms
 pub mod TakenTexts
+pub mod SearchOrder
 pub mod Signs
 pub mod Laws
 pub mod inner

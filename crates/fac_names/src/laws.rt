@@ -1,6 +1,7 @@
 //! Laws of names, each on the contract of a function that does nothing.
 ghost use Rattle.fac_names.specs.Laws.{FormsGrow, KnownStays};
 ghost use Rattle.fac_names.specs.Resolution.{ResolvedAreWhole};
+ghost use Rattle.fac_names.specs.SearchOrder.{FormsDefine, NamesAreFound, NamesKeepWords};
 ghost use Rattle.fac_names.specs.Signs.{PhrasesAreWrittenAsItems};
 
 /// A program that names resolve to is whole.
@@ -21,4 +22,21 @@ pub fn forms_keep_numbers()
 /// The words that are known before files are resolved stay as they are under their numbers, but for the top-level phrase.
 pub fn known_words_stay()
     ensures { KnownStays }
+{}
+
+/// Behind forms of a file of which none is refused, also in the phrase of the next word, a name finds what it finds among these forms, from the
+/// place on backwards: what the current vocabulary or its companion has, or else what was brought last, or else the one word that the
+/// vocabularies in use have.
+pub fn names_are_found()
+    ensures { NamesAreFound }
+{}
+
+/// Where a name is new in its vocabulary, the form that defines it gives it the first word that the form adds.
+pub fn forms_define_names()
+    ensures { FormsDefine }
+{}
+
+/// What a vocabulary has under a name it has for good.
+pub fn names_keep_words()
+    ensures { NamesKeepWords }
 {}
