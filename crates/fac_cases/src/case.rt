@@ -23,7 +23,9 @@
 //!
 //! There are the files of these sources and no others. What a call left of its input is told too.
 use crate::fronts::tell_fronts;
-use crate::telling::{last_lines, tell_bytes, tell_end, tell_left, tell_loads, tell_stack, tell_tokens};
+use crate::telling::{
+    last_lines, tell_bytes, tell_end, tell_left, tell_loads, tell_stack, tell_tokens,
+};
 use fac_base::{Bytes, Duplicate, List, Memory, Text};
 use fac_io::{Files, MemFiles, MemSink, MemSource, Sink, Source};
 use fac_lines::Channels;

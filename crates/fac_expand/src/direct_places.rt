@@ -277,11 +277,7 @@ fn inner_depth(depth: Option<u32>) -> Option<u32>
 }
 
 // A place is to wait, where there is one.
-fn add(
-    waiting: &mut Growing<Waiting>,
-    depth: Option<u32>,
-    place: Option<u32>,
-) -> Result<(), Memory>
+fn add(waiting: &mut Growing<Waiting>, depth: Option<u32>, place: Option<u32>) -> Result<(), Memory>
     ensures { OnOk result (waiting.new ≡ waiting.old ++ listed depth place) }
 {
     match place {

@@ -70,8 +70,8 @@ all_uses P ds i us same all so_far =
     let zipped = subst (λ (xs : List WordDef). AllZip SuitsUse xs us) whole so_far in
     uses_are P us
     (λ w d there.
-        let found = subst (λ (o : Option WordDef). MatchOption o (Unit {0}) (λ x. IsSomeAnd (slice_get us w) (SuitsUse x))) there (AllZip-left SuitsUse P.words us zipped w) in
-        use_there us w d (slice_get us w) refl found)
+    let found = subst (λ (o : Option WordDef). MatchOption o (Unit {0}) (λ x. IsSomeAnd (slice_get us w) (SuitsUse x))) there (AllZip-left SuitsUse P.words us zipped w) in
+    use_there us w d (slice_get us w) refl found)
 
 -- the words of a closed program and of one for which it stands are alike
 module _ (P C : Program) (templates : List Template) (closes : Closes P C templates) where

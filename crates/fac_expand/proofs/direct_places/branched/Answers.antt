@@ -11,9 +11,8 @@ returns-in-Some c = λ d.
     let N = c.args.plain.now in
     let uses = c.args.uses.now in
     let m = c.args.depth in
-    let leads = branched_leads N uses m c.args.place c.args.first c.args.second c.in-Some.is_last c.requires.there c.requires.behind (sym c.tail_at.ensures ∙ c.in-Some.is) d in
-    (
+    let leads = branched_leads N uses m c.args.place c.args.first c.args.second c.in-Some.is_last c.requires.there c.requires.behind (sym c.tail_at.ensures ∙ c.in-Some.is) d in (
       subst (λ (o : Option ℕ). IsDirectThere N uses (inner_depth m) o) (sym c.entry_of-one.ensures) leads.0,
       subst (λ (o : Option ℕ). IsDirectThere N uses (inner_depth m) o) (sym c.entry_of-other.ensures) leads.1,
-      goes N uses m c.next_place-next.result (c.args.place + 3) c.in-Some.is_last c.next_place-next.ensures leads.2
+      goes N uses m c.next_place-next.result (c.args.place + 3) c.in-Some.is_last c.next_place-next.ensures leads.2,
     )
