@@ -1,10 +1,11 @@
 -- A phrase that breaks a rule of the walk from some unknown values breaks one from fewer.
-use Rattle.std.proofs.Common.{◌≡◌, ℕ, zero, suc, ◌+◌, ◌≤◌, ◌-◌, List, [], ◌∷◌, ◌++◌, length, None, refl, sym, ap, ◌∙◌, subst, arith}
+use Rattle.std.proofs.Common.{◌≡◌, ℕ, zero, suc, ◌+◌, ◌≤◌, ◌-◌, List, [], ◌∷◌, ◌++◌, None, refl, sym, ap, ◌∙◌, subst, arith}
 use Rattle.fac_lang.specs.declared.program.Program.{Program}
 use Rattle.fac_lang.specs.Phrases.{Phrase, Mark, any}
 use Rattle.fac_abs.specs.Marks.{AbstractStack, dead, on, unknowns}
 use Rattle.fac_locals.specs.Literals.{first_of_word}
 use Rattle.fac_check.specs.Flow.{Walked, found, refused, walk, doing, most_steps, most_nested, most_walked}
+use Rattle.fac_check.specs.CallableEffects.{no_word}
 use Rattle.fac_check.specs.MarksBelow.{with_below}
 use Rattle.fac_check.specs.TemplateWalks.{walked_alone, found_height}
 use Rattle.fac_check.proofs.MarksBelowStay.{marks_below_stay}
@@ -17,7 +18,7 @@ more_unknowns (suc i) k = (let e : suc i + k ≡ suc (i + k) = omega arith in ap
 -- the walk of a phrase by itself
 alone_stays : (P : Program) (t : Phrase) (i k n : ℕ) (A : AbstractStack) → walked_alone P i t ≡ found A n → walked_alone P (i + k) t ≡ found (with_below (unknowns k []) A) n
 alone_stays P t i k n A e =
-    subst (λ (ms : List Mark). walk None (doing P None) most_steps (first_of_word (length P.words)) most_nested t None ms most_walked ≡ found (with_below (unknowns k []) A) n) (more_unknowns i k) (marks_below_stay P most_steps most_nested most_walked n (first_of_word (length P.words)) t None (unknowns i []) (unknowns k []) A e)
+    subst (λ (ms : List Mark). walk None (doing P None) most_steps (first_of_word no_word) most_nested t None ms most_walked ≡ found (with_below (unknowns k []) A) n) (more_unknowns i k) (marks_below_stay P most_steps most_nested most_walked n (first_of_word no_word) t None (unknowns i []) (unknowns k []) A e)
 
 is_found : (i : ℕ) (A : AbstractStack) (n : ℕ) → None ≡ found_height i (found A n) → ⊥
 is_found i dead n e = absurd cc

@@ -9,7 +9,7 @@ use Rattle.fac_lang.specs.Eval.{eval}
 use Rattle.fac_abs.specs.Marks.{AbstractStack, dead, on, unknowns}
 use Rattle.fac_locals.specs.Literals.{first_of_word}
 use Rattle.fac_check.specs.Flow.{Walked, found, refused, walked, most_walked, most_steps, most_nested}
-use Rattle.fac_check.specs.CallableEffects.{forgotten, least_height}
+use Rattle.fac_check.specs.CallableEffects.{forgotten, least_height, no_word}
 use Rattle.fac_base.specs.HeightArithmetic.{most_values}
 use Rattle.fac_check.specs.Promises.{Valid}
 use Rattle.fac_check.proofs.ValuesOfMarks.{EndsSo}
@@ -51,4 +51,4 @@ module _ (P : Program) where
   pub least_keeps : (f : ℕ) → ((s : List Value) → Known P f (on_values P s)) → (t : Phrase) (k i : ℕ) (h : Height) → least_height P k i (forgotten t) ≡ Some h → PhraseKeeps f h t
   least_keeps f known t zero i h e = absurd (no_height h e)
   least_keeps f known t (suc k) i h e =
-      by_walk f t i h (least_height P k (suc i) (forgotten t)) (walked P None None (length P.words) (forgotten t) None (unknowns i [])) (λ s st n le o v. known s most_steps (first_of_word (length P.words)) most_nested (forgotten t) t None (unknowns i []) most_walked st n le (forgotten_stands (λ j c. ⊥) t) (over_marks P s i st.stack o, v)) e (λ z. least_keeps f known t k (suc i) h z)
+      by_walk f t i h (least_height P k (suc i) (forgotten t)) (walked P None None no_word (forgotten t) None (unknowns i [])) (λ s st n le o v. known s most_steps (first_of_word no_word) most_nested (forgotten t) t None (unknowns i []) most_walked st n le (forgotten_stands (λ j c. ⊥) t) (over_marks P s i st.stack o, v)) e (λ z. least_keeps f known t k (suc i) h z)

@@ -21,7 +21,8 @@ use Rattle.fac_abs.specs.MarkTrees.{Naming}
 use Rattle.fac_abs.specs.Marks.{phrase_marks, mark_depth, deepest}
 use Rattle.fac_abs.proofs.EqualMarks.{and_first, and_second}
 use Rattle.fac_abs.proofs.SeenLemmas.{both, is_below, below_is}
-use Rattle.fac_check.specs.inner.Alone.{in_one_phrase, placed_by, placed_alone}
+use Rattle.fac_check.specs.CallableEffects.{no_word}
+use Rattle.fac_check.specs.inner.Alone.{in_one_phrase, placed_by}
 use Rattle.fac_check.specs.inner.UndeclaredRecursion.{NumbersFrom}
 use Rattle.fac_check.specs.inner.Walking.{NamesTemplate, items_of}
 use Rattle.fac_check.proofs.LiteralNumbers.{template_of_words}
@@ -64,20 +65,20 @@ data Named : Type 0 where
   in_none : Named
 
 -- Places that the walk has for those of the program.
-not_placed : (b : Bool) (words : ℕ) (first at other : Literal) → other.word < words → other ≡ placed_by b words first at → ⊥
-not_placed true words first at other l e =
-    let same : other.word ≡ words = ap (λ (x : Literal). x.word) e in
+not_placed : (b : Bool) (none : ℕ) (first at other : Literal) → other.word < none → other ≡ placed_by b none first at → ⊥
+not_placed true none first at other l e =
+    let same : other.word ≡ none = ap (λ (x : Literal). x.word) e in
     omega (arith, l, same)
-not_placed false words first at other l e =
-    let same : other.word ≡ suc (words + at.word) = ap (λ (x : Literal). x.word) e in
+not_placed false none first at other l e =
+    let same : other.word ≡ suc (none + at.word) = ap (λ (x : Literal). x.word) e in
     omega (arith, l, same)
 
-not_none : (b : Bool) (words n : ℕ) (first at : Literal) → placed_by b words first at ≡ record { word = words; around = 0 ∷ []; index = n } → ⊥
-not_none true words n first at e =
+not_none : (b : Bool) (none n : ℕ) (first at : Literal) → placed_by b none first at ≡ record { word = none; around = 0 ∷ []; index = n } → ⊥
+not_none true none n first at e =
     let same : 0 ≡ 1 = ap (λ (x : Literal). length x.around) e in
     omega (arith, same)
-not_none false words n first at e =
-    let same : suc (words + at.word) ≡ words = ap (λ (x : Literal). x.word) e in
+not_none false none n first at e =
+    let same : suc (none + at.word) ≡ none = ap (λ (x : Literal). x.word) e in
     omega (arith, same)
 
 one_place : (l m : Literal) → l.word ≡ m.word → l.around ≡ m.around → l.index ≡ m.index → l ≡ m
@@ -86,20 +87,20 @@ one_place l m w a i =
     ∙ ap (λ (x : List ℕ). let y : Literal = record { word = m.word; around = x; index = l.index } in y) a
     ∙ ap (λ (x : ℕ). let y : Literal = record { word = m.word; around = m.around; index = x } in y) i
 
-placed_apart : (words : ℕ) (first l m : Literal) (b c : Bool) → in_one_phrase first l ≡ b → in_one_phrase first m ≡ c → (in_one_phrase first l ≡ true → first.index ≤ l.index) → (in_one_phrase first m ≡ true → first.index ≤ m.index) → placed_by b words first l ≡ placed_by c words first m → l ≡ m
-placed_apart words first l m true true e f low high same =
+placed_apart : (none : ℕ) (first l m : Literal) (b c : Bool) → in_one_phrase first l ≡ b → in_one_phrase first m ≡ c → (in_one_phrase first l ≡ true → first.index ≤ l.index) → (in_one_phrase first m ≡ true → first.index ≤ m.index) → placed_by b none first l ≡ placed_by c none first m → l ≡ m
+placed_apart none first l m true true e f low high same =
     let index : l.index - first.index ≡ m.index - first.index = ap (λ (x : Literal). x.index) same in
     let one = low e in
     let other = high f in
     one_place l m (sym (same_words first l e) ∙ same_words first m f) (sym (same_arrays first l e) ∙ same_arrays first m f) (omega (arith, index, one, other))
-placed_apart words first l m false false e f low high same =
-    let word : suc (words + l.word) ≡ suc (words + m.word) = ap (λ (x : Literal). x.word) same in
+placed_apart none first l m false false e f low high same =
+    let word : suc (none + l.word) ≡ suc (none + m.word) = ap (λ (x : Literal). x.word) same in
     one_place l m (omega (arith, word)) (ap (λ (x : Literal). x.around) same) (ap (λ (x : Literal). x.index) same)
-placed_apart words first l m true false e f low high same =
-    let word : words ≡ suc (words + m.word) = ap (λ (x : Literal). x.word) same in
+placed_apart none first l m true false e f low high same =
+    let word : none ≡ suc (none + m.word) = ap (λ (x : Literal). x.word) same in
     absurd (omega (arith, word))
-placed_apart words first l m false true e f low high same =
-    let word : suc (words + l.word) ≡ words = ap (λ (x : Literal). x.word) same in
+placed_apart none first l m false true e f low high same =
+    let word : suc (none + l.word) ≡ none = ap (λ (x : Literal). x.word) same in
     absurd (omega (arith, word))
 
 -- a place of a phrase is at one of the same phrase or before it
@@ -174,7 +175,8 @@ module _ (P : Program) where
       in_word : (k : ℕ) → k < count → (literal_numbered P k).at.word < length P.words
       in_word k l = (let there = found templates k l in template_of_words P C templates closes k there.0 there.1)
 
-      module _ (inner : ℕ) (first : Literal) (low : (k : ℕ) → inner ≤ k → k < count → first.word ≡ (literal_numbered P k).at.word → first.around ≡ (literal_numbered P k).at.around → first.index ≤ (literal_numbered P k).at.index) where
+      -- for a number that no word has, which is that of no word where a phrase is walked by itself
+      module _ (none : ℕ) (few : length P.words ≤ none) (inner : ℕ) (first : Literal) (low : (k : ℕ) → inner ≤ k → k < count → first.word ≡ (literal_numbered P k).at.word → first.around ≡ (literal_numbered P k).at.around → first.index ≤ (literal_numbered P k).at.index) where
         -- what a number names: the literal of a template in its word, or in a phrase by itself, or none
         abbrev named_by : Bool → Bool → ℕ → Named
         named_by true b n = in_program n
@@ -214,10 +216,13 @@ module _ (P : Program) where
             ap (λ (b : Bool). named_by b (nat_le inner (n - count) && nat_lt (n - count) count) n) (le-ltb n count ge)
             ∙ ap (λ (b : Bool). named_by false (b && nat_lt (n - count) count) n) (lt-leb inner (n - count) (omega (arith, ge, l)))
 
+        below_none : (k : ℕ) → k < count → (literal_numbered P k).at.word < none
+        below_none k l = (let lower = in_word k l in omega (arith, lower, few))
+
         abbrev literal_by : Named → ℕ → Literal
         literal_by (in_program k) n = (literal_numbered P k).at
-        literal_by (by_itself k) n = placed_alone P first (literal_numbered P k).at
-        literal_by in_none n = record { word = length P.words; around = 0 ∷ []; index = n }
+        literal_by (by_itself k) n = let at : Literal = (literal_numbered P k).at in placed_by (in_one_phrase first at) none first at
+        literal_by in_none n = record { word = none; around = 0 ∷ []; index = n }
 
         abbrev phrase_by : Named → List Mark → Phrase
         phrase_by (in_program k) ms = named_phrase k ms
@@ -230,23 +235,23 @@ module _ (P : Program) where
         literals_apart : (j k : ℕ) (x y : Named) → IsNamed j x → IsNamed k y → literal_by x j ≡ literal_by y k → j ≡ k
         literals_apart j k (in_program v) (in_program w) h g e = h.0 ∙ literal_apart P v w e ∙ sym g.0
         literals_apart j k (in_program v) (by_itself w) h g e =
-            absurd (not_placed (in_one_phrase first (literal_numbered P w).at) (length P.words) first (literal_numbered P w).at (literal_numbered P v).at (in_word v h.1) e)
+            absurd (not_placed (in_one_phrase first (literal_numbered P w).at) none first (literal_numbered P w).at (literal_numbered P v).at (below_none v h.1) e)
         literals_apart j k (in_program v) in_none h g e =
-            let l = in_word v h.1 in
-            let same : (literal_numbered P v).at.word ≡ length P.words = ap (λ (x : Literal). x.word) e in
+            let l = below_none v h.1 in
+            let same : (literal_numbered P v).at.word ≡ none = ap (λ (x : Literal). x.word) e in
             absurd (omega (arith, l, same))
         literals_apart j k (by_itself v) (in_program w) h g e =
-            absurd (not_placed (in_one_phrase first (literal_numbered P v).at) (length P.words) first (literal_numbered P v).at (literal_numbered P w).at (in_word w g.1) (sym e))
+            absurd (not_placed (in_one_phrase first (literal_numbered P v).at) none first (literal_numbered P v).at (literal_numbered P w).at (below_none w g.1) (sym e))
         literals_apart j k (by_itself v) (by_itself w) h g e =
-            let one = placed_apart (length P.words) first (literal_numbered P v).at (literal_numbered P w).at (in_one_phrase first (literal_numbered P v).at) (in_one_phrase first (literal_numbered P w).at) refl refl (low_in v h.1 h.2) (low_in w g.1 g.2) e in
+            let one = placed_apart none first (literal_numbered P v).at (literal_numbered P w).at (in_one_phrase first (literal_numbered P v).at) (in_one_phrase first (literal_numbered P w).at) refl refl (low_in v h.1 h.2) (low_in w g.1 g.2) e in
             let same = literal_apart P v w one in
             omega (arith, h.0, g.0, same)
-        literals_apart j k (by_itself v) in_none h g e = absurd (not_none (in_one_phrase first (literal_numbered P v).at) (length P.words) k first (literal_numbered P v).at e)
+        literals_apart j k (by_itself v) in_none h g e = absurd (not_none (in_one_phrase first (literal_numbered P v).at) none k first (literal_numbered P v).at e)
         literals_apart j k in_none (in_program w) h g e =
-            let l = in_word w g.1 in
-            let same : length P.words ≡ (literal_numbered P w).at.word = ap (λ (x : Literal). x.word) e in
+            let l = below_none w g.1 in
+            let same : none ≡ (literal_numbered P w).at.word = ap (λ (x : Literal). x.word) e in
             absurd (omega (arith, l, same))
-        literals_apart j k in_none (by_itself w) h g e = absurd (not_none (in_one_phrase first (literal_numbered P w).at) (length P.words) j first (literal_numbered P w).at (sym e))
+        literals_apart j k in_none (by_itself w) h g e = absurd (not_none (in_one_phrase first (literal_numbered P w).at) none j first (literal_numbered P w).at (sym e))
         literals_apart j k in_none in_none h g e = ap (λ (x : Literal). x.index) e
 
         phrases_apart : (x : Named) (ms ns : List Mark) → phrase_by x ms ≡ phrase_by x ns → ms ≡ ns
@@ -276,24 +281,26 @@ module _ (P : Program) where
           other_is = λ ms other. (marks_phrase ms, same ms ∙ ap (λ (b : Bool). fit_or b k ms) (ne_eqb (length ms) (cell_count k) (λ one. other (one ∙ many k t e))));
         }
 
-        pub names_literals : ((at : Literal) → NumbersFrom P at inner → first.word ≡ at.word → first.around ≡ at.around → first.index ≤ at.index) → NamesLiterals P templates inner first
-        names_literals begins = record {
+        pub names_literals : ((k : ℕ) → inner ≤ k → k < count → none ≡ no_word) → ((at : Literal) → NumbersFrom P at inner → first.word ≡ at.word → first.around ≡ at.around → first.index ≤ at.index) → NamesLiterals P templates inner first
+        names_literals alone begins = record {
           naming = literal_naming;
           literal_is = λ k l. ap (λ (x : Named). literal_by x k) (named_program k l);
           template_is = λ k t e. names_template k k t e (λ ms. ap (λ (x : Named). phrase_by x ms) (named_program k (number_below templates k t e)));
           first_is = begins;
           literals_behind = low;
-          apart_is = λ k ge l. ap (λ (x : Named). literal_by x (count + k)) (named_alone k ge l);
+          apart_is = λ k ge l.
+              let at : Literal = (literal_numbered P k).at in
+              ap (λ (x : Named). literal_by x (count + k)) (named_alone k ge l) ∙ ap (λ (n : ℕ). placed_by (in_one_phrase first at) n first at) (alone k ge l);
           template_apart_is = λ k t ge e. names_template (count + k) k t e (λ ms. ap (λ (x : Named). phrase_by x ms) (named_alone k ge (number_below templates k t e)));
           none_is = λ n ge l ms. (marks_phrase ms, ap (λ (x : Named). phrase_by x ms) (named_none n ge l));
         }
 
       -- where no phrase is walked by itself
       pub words_named : (inner : ℕ) → inner ≡ count → NamesLiterals P templates inner (first_of_word (length P.words))
-      words_named inner none = names_literals inner (first_of_word (length P.words)) (λ k ge l w a. omega arith) (λ at numbers w a. omega arith)
+      words_named inner none = names_literals (length P.words) (omega arith) inner (first_of_word (length P.words)) (λ k ge l w a. omega arith) (λ k ge l. absurd (omega (arith, none, ge, l))) (λ at numbers w a. omega arith)
 
       -- where that of this template is
-      module _ (q : ℕ) where
+      module _ (few : length P.words ≤ no_word) (q : ℕ) where
         abbrev start : Literal
         start = (literal_numbered P q).at
 
@@ -312,4 +319,4 @@ module _ (P : Program) where
             by_order (inr le) = absurd (let more = numbers q (in_one_word at start (sym words) (sym around) le) in omega (arith, more))
 
         pub template_named : NamesLiterals P templates (suc q) (first_of_literal start)
-        template_named = names_literals (suc q) (first_of_literal start) behind_start starts
+        template_named = names_literals no_word few (suc q) (first_of_literal start) behind_start (λ k ge l. refl) starts

@@ -22,7 +22,7 @@ use Rattle.fac_abs.specs.MarkTrees.{Naming}
 use Rattle.fac_abs.specs.SeenMarks.{MarksSeen, frame_of, stack_of}
 use Rattle.fac_abs.proofs.MoveLemmas.{bytes_alike}
 use Rattle.fac_abs.proofs.SeenLemmas.{both}
-use Rattle.fac_check.specs.CallableEffects.{forgotten, forgotten_item}
+use Rattle.fac_check.specs.CallableEffects.{forgotten, forgotten_item, no_word}
 use Rattle.fac_check.specs.Flow.{most_steps}
 use Rattle.fac_check.specs.TemplateWalks.{walked_alone, found_height}
 use Rattle.fac_check.specs.declared.walker.Walked.{Walked}
@@ -118,11 +118,11 @@ itself : (n : ℕ) → nat_eq n n ≡ true
 itself n = grind arith
 
 -- the first place of a phrase by itself is that of no word
-starts_nowhere : (P : Program) (first : Literal) → first_of_word (length P.words) ≡ placed_alone P first first
-starts_nowhere P first =
+starts_nowhere : (first : Literal) → first_of_word no_word ≡ placed_alone first first
+starts_nowhere first =
     let none : 0 ≡ first.index - first.index = omega arith in
-    ap (λ (n : ℕ). let l : Literal = record { word = length P.words; around = []; index = n } in l) none
-    ∙ ap (λ (b : Bool). placed_by b (length P.words) first first) (sym (both (nat_eq first.word first.word) (bytes_eq first.around first.around) (itself first.word) (bytes_alike first.around)))
+    ap (λ (n : ℕ). let l : Literal = record { word = no_word; around = []; index = n } in l) none
+    ∙ ap (λ (b : Bool). placed_by b no_word first first) (sym (both (nat_eq first.word first.word) (bytes_eq first.around first.around) (itself first.word) (bytes_alike first.around)))
 
 -- a walk of a template by itself, as the code's calls tell it
 abbrev pub WalksAlone : Program → List Template → Option ℕ → ℕ → Phrase → MarksSeen → MarksSeen → ℕ → ℕ → Walked → Type 0
@@ -140,11 +140,11 @@ module _ (P C : Program) (templates : List Template) (closes : Closes P C templa
       let N = O.naming in
       let fs = frame_of N M frame in
       let walks_whole = subst (λ (k : ℕ). WalksAlone C templates None k t.body M K frame s W) next walks in
-      let start = first_of_word (length P.words) in
+      let start = first_of_word no_word in
       let phrase = template_phrase P q (items_of fs) in
       let as_many : length (items_of fs) ≡ length t.captures + t.holes = items_length fs ∙ ap length (cells N) ∙ many_unknown n ∙ count in
       let opens = O.opens.bodies q t (items_of fs) there (known_put (piled fs [])) as_many in
       found N
-      ∙ ap (found_height i) (walks_whole O first start phrase most_steps ((λ k e. let more = literal_behind P k q e in omega (arith, more)), starts_nowhere P first) opens (omega arith)
+      ∙ ap (found_height i) (walks_whole O first start phrase most_steps ((λ k e. let more = literal_behind P k q e in omega (arith, more)), starts_nowhere first) opens (omega arith)
       ∙ ap (λ (ms : List Mark). go_at O most_steps start 64 phrase None ms 200000) (stack N)
       ∙ ap (λ (u : Phrase). go_at O most_steps start 64 u None (unknowns i []) 200000) (ap (λ (xs : List Mark). template_phrase P q (items_of xs)) (cells N) ∙ phrase_forgotten P whole q n vs (many ∙ sym count)))

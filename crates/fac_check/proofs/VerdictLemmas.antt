@@ -47,7 +47,7 @@ pub record NamesLiterals (P : Program) (templates : List Template) (inner : ℕ)
   pub template_is : (k : ℕ) (t : Template) → slice_get templates k ≡ Some t → NamesTemplate P naming k k t
   pub first_is : (at : Literal) → NumbersFrom P at inner → first.word ≡ at.word → first.around ≡ at.around → first.index ≤ at.index
   pub literals_behind : (k : ℕ) → inner ≤ k → k < length templates → first.word ≡ (literal_numbered P k).at.word → first.around ≡ (literal_numbered P k).at.around → first.index ≤ (literal_numbered P k).at.index
-  pub apart_is : (k : ℕ) → inner ≤ k → k < length templates → naming.literal (length templates + k) ≡ placed_alone P first (literal_numbered P k).at
+  pub apart_is : (k : ℕ) → inner ≤ k → k < length templates → naming.literal (length templates + k) ≡ placed_alone first (literal_numbered P k).at
   pub template_apart_is : (k : ℕ) (t : Template) → inner ≤ k → slice_get templates k ≡ Some t → NamesTemplate P naming (length templates + k) k t
   pub none_is : (n : ℕ) → length templates ≤ n → n < length templates + inner → (ms : List Mark) → (rest : Phrase) × (naming.phrase n ms ≡ then (made 0) nowhere rest)
 

@@ -1,5 +1,5 @@
 -- The effect of a callable: how many values it takes and leaves. That of a literal is found by walks of its phrase, and those of what `curry` and `compose` made by arithmetic.
-use Rattle.std.specs.Prelude.{ℕ, zero, suc, [], length, true, false, nat_le, Option, Some, None}
+use Rattle.std.specs.Prelude.{ℕ, zero, suc, ◌^◌, [], length, true, false, nat_le, Option, Some, None}
 use Rattle.fac_base.specs.declared.limits.TheConstants.{MOST_TRIED_INPUTS}
 use Rattle.fac_base.specs.declared.height.Height.{Height}
 use Rattle.fac_lang.specs.declared.program.Program.{Program}
@@ -35,12 +35,17 @@ abbrev mutual
 abbrev pub most_inputs : ℕ
 most_inputs = MOST_TRIED_INPUTS
 
+-- the number of no word: no program has so many
+abbrev pub no_word : ℕ
+no_word = 2 ^ 32
+
 module _ (P : Program) where
-  -- The least number of inputs, from i on and in k tries, with which a phrase walks from unknown values over no base, and how many it leaves. The phrase is of no word, so its literals have the number behind the last word.
+  -- The least number of inputs, from i on and in k tries, with which a phrase walks from unknown values over no base, and how many it leaves. The phrase is of no word, so
+  -- its literals are those of no program, and they are the same in each.
   abbrev pub least_height : ℕ → ℕ → Phrase → Option Height
   least_height zero i t = None
   least_height (suc k) i t =
-      elim (walked P None None (length P.words) t None (unknowns i [])) [ found A n ↦ elim A [ dead ↦ Some (record { ins = i; outs = None }) | on b ms ↦ elim (nat_le (length ms) most_values) [ true ↦ Some (record { ins = i; outs = Some (length ms) }) | false ↦ None ] ] | refused r p ↦ least_height k (suc i) t ]
+      elim (walked P None None no_word t None (unknowns i [])) [ found A n ↦ elim A [ dead ↦ Some (record { ins = i; outs = None }) | on b ms ↦ elim (nat_le (length ms) most_values) [ true ↦ Some (record { ins = i; outs = Some (length ms) }) | false ↦ None ] ] | refused r p ↦ least_height k (suc i) t ]
 
   -- the effect of a callable, where it has one
   abbrev pub callable_height : Callable → Option Height

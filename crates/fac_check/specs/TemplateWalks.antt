@@ -8,12 +8,12 @@ use Rattle.fac_locals.specs.Frames.{template_phrase}
 use Rattle.fac_locals.specs.declared.closing.Closed.{Closed}
 use Rattle.fac_abs.specs.Marks.{AbstractStack, dead, on, unknowns}
 use Rattle.fac_check.specs.Flow.{Walked, found, refused, walked}
-use Rattle.fac_check.specs.CallableEffects.{forgotten}
+use Rattle.fac_check.specs.CallableEffects.{forgotten, no_word}
 use Rattle.fac_check.specs.Judged.{OfEach}
 
 -- the walk of a phrase of no word from so many unknown values over no base
 abbrev pub walked_alone : Program → ℕ → Phrase → Walked AbstractStack
-walked_alone P i t = walked P None None (length P.words) t None (unknowns i [])
+walked_alone P i t = walked P None None no_word t None (unknowns i [])
 
 -- so many values that it takes, and how many it leaves; none where it broke a rule
 abbrev pub found_height : ℕ → Walked AbstractStack → Option Height

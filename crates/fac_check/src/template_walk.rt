@@ -1,10 +1,11 @@
 //! Templates whose phrases are walked by themselves.
-ghost use Rattle.std.specs.Prelude.{◌≡◌, ◌<◌, [], true, length, None, IfOk};
+ghost use Rattle.std.specs.Prelude.{◌≡◌, ◌<◌, ◌≤◌, [], true, length, None, IfOk};
 ghost use Rattle.fac_base.specs.declared.limits.TheConstants.{MOST_APPLICATIONS, MOST_ITEMS};
 ghost use Rattle.fac_abs.specs.Marks.{unknowns};
 ghost use Rattle.fac_abs.specs.MarkTrees.{Naming};
 ghost use Rattle.fac_abs.specs.MarkPromises.{IsFrameOf};
 ghost use Rattle.fac_abs.specs.SeenMarks.{Grows, IsFrame};
+ghost use Rattle.fac_check.specs.CallableEffects.{no_word};
 ghost use Rattle.fac_check.specs.Judged.{StandsForWhole};
 ghost use Rattle.fac_check.specs.TemplateWalks.{IsFoundHeight, found_height};
 ghost use Rattle.fac_check.specs.inner.Walking.{IsWalked, walked_seen};
@@ -65,6 +66,13 @@ fn height_of(marks: &Marks, inputs: u32, walked: Walked) -> Option<Height>
     }
 }
 
+// No list of words is as long as the number of no word.
+fn few_words(closed: &Closed)
+    ensures { length closed.now.program.words ≤ no_word }
+{
+    let _count = closed.program.words.len();
+}
+
 /// How many values the phrase of a template takes and leaves by itself, where it starts on so many values on no base and nothing is known of
 /// them, nor of what its cells hold. None where it breaks a rule of the checker then. Its quotations are none of any word. It takes the time of
 /// one walk. Want of memory is the one error.
@@ -79,6 +87,7 @@ pub fn walk_template(
     ensures { IfOk result (IsFoundHeight closed.now template inputs) }
 {
     let _count = closed.templates.len();
+    few_words(closed);
     let Some(found) = closed.templates.get(template as usize) else {
         unreachable!()
     };

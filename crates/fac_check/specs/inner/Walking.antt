@@ -217,7 +217,7 @@ pub record Opened (C : Program) (templates : List Template) (own : Option ℕ) (
   pub first_is : (at : Literal) → NumbersFrom program at inner → first.word ≡ at.word → first.around ≡ at.around → first.index ≤ at.index
   pub literals_behind : (k : ℕ) → inner ≤ k → k < length templates → first.word ≡ (literal_numbered program k).at.word → first.around ≡ (literal_numbered program k).at.around → first.index ≤ (literal_numbered program k).at.index
   -- the literals of such a phrase
-  pub apart_is : (k : ℕ) → inner ≤ k → k < length templates → naming.literal (length templates + k) ≡ placed_alone program first (literal_numbered program k).at
+  pub apart_is : (k : ℕ) → inner ≤ k → k < length templates → naming.literal (length templates + k) ≡ placed_alone first (literal_numbered program k).at
   pub template_apart_is : (k : ℕ) (t : Template) → inner ≤ k → slice_get templates k ≡ Some t → NamesTemplate program naming (length templates + k) k t
   pub none_is : (n : ℕ) → length templates ≤ n → n < length templates + inner → (ms : List Mark) → (rest : Phrase) × (naming.phrase n ms ≡ then (made 0) nowhere rest)
   pub word : Option ℕ
