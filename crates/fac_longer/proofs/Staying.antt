@@ -34,10 +34,10 @@ same (forks l r b ms) = refl
 same (again w b ms) = refl
 same (uses e is b ms) = refl
 
-pub sort_found : (P : Program) (m : ℕ) (d : WordDef) → slice_get P.words m ≡ Some d → sort_of P m ≡ Some d.sort
+sort_found : (P : Program) (m : ℕ) (d : WordDef) → slice_get P.words m ≡ Some d → sort_of P m ≡ Some d.sort
 sort_found P m d e = rw (e, sort_of) refl
 
-pub no_sort : (P : Program) (m : ℕ) → slice_get P.words m ≡ None → sort_of P m ≡ None
+no_sort : (P : Program) (m : ℕ) → slice_get P.words m ≡ None → sort_of P m ≡ None
 no_sort P m e = rw (e, sort_of) refl
 
 module _ (P Q : Program) (F : GoesOn P Q) where
@@ -73,7 +73,7 @@ module _ (P Q : Program) (F : GoesOn P Q) where
     row_same false true w t e b ms = refl
     row_same false false w t e b ms = refl
 
-    pub inline_same : (i : Bool) (w : ℕ) (d : WordDef) (t : Phrase) (b : Option Row) (ms : List Mark) → inline_doing P own i w d t b ms ≡ inline_doing Q own i w d t b ms
+    inline_same : (i : Bool) (w : ℕ) (d : WordDef) (t : Phrase) (b : Option Row) (ms : List Mark) → inline_doing P own i w d t b ms ≡ inline_doing Q own i w d t b ms
     inline_same true w d t b ms = row_same _ _ w t d.effect b ms
     inline_same false w d t b ms = refl
 

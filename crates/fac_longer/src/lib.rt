@@ -1,6 +1,6 @@
-//! What stays in each program that goes on with another one: what the checker finds, and the effects of callables. Laws, with no code.
+//! What the checker finds in a program, it finds in each program that goes on with it: laws, with no code.
 #![tactic(auto)]
 
 mod laws;
 
-pub use laws::{effects_stay, found_stays};
+pub use laws::found_stays;
