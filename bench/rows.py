@@ -111,7 +111,7 @@ ROWS = [
     Row(
         "An item (`call-next-method`)",
         r"\b(What|Term|term|Spelling)(::|\.)NextMethod\b|(?<!::)\bNextMethod\b(?!s)|\bnext_method\b|\bnext_after\b|\bn_next\b",
-        also=[r"What(::|\.)(Hole|NextAfter)", r"`call-next-method`", r"abbrev pub AskedBy"],
+        also=[r"\b(What|term)(::|\.)(Hole|NextAfter)", r"`call-next-method`", r"abbrev pub AskedBy"],
     ),
     Row("A reserved token (`foldable`)", r"\bfoldable\b"),
     Row("A vocabulary (`fry`)", r"\"locals\", \"fry\"|codes \"locals\" ∷ codes \"fry\"|scratchpad locals fry"),
