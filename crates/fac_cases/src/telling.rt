@@ -73,15 +73,14 @@ pub fn last_lines(bytes: &[u8], count: Option<u32>) -> &[u8] {
         return bytes;
     };
     let mut left = count;
-    let mut front = bytes;
-    while let Some((last, earlier)) = front.split_last() {
-        if *last == b'\n' && front.len() < bytes.len() {
+    for back in 1..bytes.len() {
+        let end = bytes.len() - back;
+        if bytes[end - 1] == b'\n' {
             if left <= 1 {
-                return bytes.get(front.len()..).unwrap_or(&[]);
+                return bytes.get(end..).unwrap_or(&[]);
             }
             left -= 1;
         }
-        front = earlier;
     }
     bytes
 }
