@@ -220,7 +220,7 @@ ended_last : (x : Bool) (d : ℕ) (cs : List ℕ) → is_bang (d ∷ cs) ≡ x �
 ended_last true d cs e h = refl
 ended_last false d cs e h = both (true && list_all is_inner (d ∷ cs) && not (is_bang (d ∷ cs))) true (both (true && list_all is_inner (d ∷ cs)) (not (is_bang (d ∷ cs))) h (rw e refl)) refl
 
-end_known : (ps : List Lexeme) (m : Pending) (cs : List ℕ) → Always ps → PendingFits m → spelled ps ++ pending_chars m ≡ cs → Answers cs (at_end ps m)
+pub end_known : (ps : List Lexeme) (m : Pending) (cs : List ℕ) → Always ps → PendingFits m → spelled ps ++ pending_chars m ≡ cs → Answers cs (at_end ps m)
 end_known ps between cs a f e = record { fits = a []; spells = grind (arith, common_steps) }
 end_known ps (in_plain d ds) cs a f e = last_fits ps (ended d ds) cs a (ended_last (is_bang (d ∷ ds)) d ds refl f) (rw (ended-chars (is_bang (d ∷ ds)) d ds refl) e)
 end_known ps (in_comment ds) cs a f e = last_fits ps (comment ds) cs a (comment_fits ds [] f.0 f.1 refl) e

@@ -169,7 +169,7 @@ step_inner file n ps (in_string us) c e = step_backslash (c == 92) file n ps us 
 step_inner file n ps (in_escape us) c e = step_read_escape (escaped c) file ps us c refl
 step_inner file n ps (closed us) c e = rw e refl
 
-step_by : (x y : Bool) (file n : ℕ) (ps : List Lexeme) (m : Pending) (c : ℕ) → n ≡ size (spelled ps ++ pending_chars m) → cond x (hold_white file (tokens_of file ps) (pending_text m) (pending_mode (spelled ps) m) c) (cond y (hold_quote n (tokens_of file ps) (pending_text m) (pending_mode (spelled ps) m)) (hold_inner n (tokens_of file ps) (pending_text m) (pending_mode (spelled ps) m) c)) ≡ view_scan file (cond x (take_white ps m c) (cond y (take_quote ps m) (take_inner ps m c)))
+pub step_by : (x y : Bool) (file n : ℕ) (ps : List Lexeme) (m : Pending) (c : ℕ) → n ≡ size (spelled ps ++ pending_chars m) → cond x (hold_white file (tokens_of file ps) (pending_text m) (pending_mode (spelled ps) m) c) (cond y (hold_quote n (tokens_of file ps) (pending_text m) (pending_mode (spelled ps) m)) (hold_inner n (tokens_of file ps) (pending_text m) (pending_mode (spelled ps) m) c)) ≡ view_scan file (cond x (take_white ps m c) (cond y (take_quote ps m) (take_inner ps m c)))
 step_by true y file n ps m c e = step_white file ps m c
 step_by false true file n ps m c e = step_quote file n ps m e
 step_by false false file n ps m c e = step_inner file n ps m c e
@@ -179,7 +179,7 @@ last_plain true file ps d cs e = rw (bang_test (d ∷ cs), e) (ap listed (sym (n
 last_plain false file ps d cs e = rw (bang_test (d ∷ cs), e) (ap listed (sym (one_more file ps (plain (d ∷ cs) ∷ []) (Plain (encode_utf8_all (d ∷ cs))) refl)))
 
 -- at the end
-last_step : (file : ℕ) (ps : List Lexeme) (m : Pending) → hold_end file (tokens_of file ps) (pending_text m) (pending_mode (spelled ps) m) ≡ view_end file (at_end ps m)
+pub last_step : (file : ℕ) (ps : List Lexeme) (m : Pending) → hold_end file (tokens_of file ps) (pending_text m) (pending_mode (spelled ps) m) ≡ view_end file (at_end ps m)
 last_step file ps between = refl
 last_step file ps (in_plain d cs) = last_plain (is_bang (d ∷ cs)) file ps d cs refl
 last_step file ps (in_comment cs) = ap listed (sym (none_more file ps (comment cs ∷ []) refl))
@@ -187,7 +187,7 @@ last_step file ps (in_string us) = refl
 last_step file ps (in_escape us) = refl
 last_step file ps (closed us) = ap listed (sym (one_more file ps (string us ∷ []) (Str (encode_utf8_all (content us))) refl))
 
-size-more : (n c : ℕ) (cs : List ℕ) → n ≡ size cs → n + len_utf8 c ≡ size (cs ++ c ∷ [])
+pub size-more : (n c : ℕ) (cs : List ℕ) → n ≡ size cs → n + len_utf8 c ≡ size (cs ++ c ∷ [])
 size-more n c cs e =
     let one = length-encode c in
     let more = ap (λ (x : List ℕ). length x) (encode_more cs c) in
@@ -230,7 +230,7 @@ tokenizes_by file bytes chars (Err (stuck_quote b)) (Err (StuckQuote at)) s a e 
 pub tokenizes : (file : ℕ) (bytes chars : List ℕ) (t : Result (List Token) TokenFault) → Spells chars bytes → Ends (hold_from file 0 (held [] [] Between) chars) t → Tokenizes file bytes t
 tokenizes file bytes chars t s e = tokenizes_by file bytes chars (lexemes chars) t s (lexemes_known chars) (subst (λ (r : Result (List Token) TokenFault). Ends r t) (seen_whole file chars) e)
 
-spells_chars : (bs : List ℕ) → IsUtf8 bs → Spells (chars bs) bs
+pub spells_chars : (bs : List ℕ) → IsUtf8 bs → Spells (chars bs) bs
 spells_chars bs u = record { scalars = scalars-chars bs u; encoded = encodes-chars bs u }
 
 -- the character of number k

@@ -1,4 +1,5 @@
 pub mod Lexemes
 pub mod Tokens
+pub mod Spots
 pub mod ReadingLaws
 pub mod inner

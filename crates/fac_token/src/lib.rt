@@ -9,10 +9,12 @@
 mod fault;
 mod laws;
 mod scanner;
+mod spotting;
 
 pub use fault::TokenFault;
 pub use laws::{
-    every_file_has_an_answer, every_text_is_read_or_faulty, no_text_is_both, one_answer,
-    one_first_fault, one_reading,
+    each_token_has_spot, every_file_has_an_answer, every_text_is_read_or_faulty, no_text_is_both,
+    one_answer, one_first_fault, one_list_of_spots, one_reading,
 };
 pub use scanner::tokens;
+pub use spotting::{Spot, spots};

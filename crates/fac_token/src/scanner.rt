@@ -199,8 +199,8 @@ fn take_inner(text: &mut String, mode: Mode, at: u64, c: char) -> Result<Mode, T
     }
 }
 
-// Takes a character, with `at` bytes before it.
-fn take_char(
+/// Takes a character, with `at` bytes before it.
+pub fn take_char(
     alloc: Global,
     file: u32,
     tokens: &mut List<Token>,
@@ -220,8 +220,8 @@ fn take_char(
     take_inner(text, mode, at, c)
 }
 
-// Takes the end.
-fn take_end(
+/// Takes the end.
+pub fn take_end(
     file: u32,
     mut tokens: List<Token>,
     text: String,
