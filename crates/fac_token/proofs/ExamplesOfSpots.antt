@@ -1,8 +1,8 @@
 -- Places of tokens, computed.
-use Rattle.std.proofs.Common.{◌≡◌, ℕ, List, [], ◌∷◌, refl}
+use Rattle.std.proofs.Common.{◌≡◌, ℕ, [], ◌∷◌, refl}
 use Rattle.std.specs.Char.{encode_utf8}
 use Rattle.fac_token.specs.declared.spotting.Spot.{Spot}
-use Rattle.fac_token.specs.Lexemes.{Lexeme, white, comment, plain, string, itself, escape}
+use Rattle.fac_token.specs.Lexemes.{white, comment, plain, string, itself, escape}
 use Rattle.fac_token.specs.Spots.{since_break, spots_of}
 
 abbrev spot : ℕ → ℕ → ℕ → ℕ → Spot

@@ -1,10 +1,10 @@
 -- Following the scanner gives the places of the tokens of the reading.
-use Rattle.std.proofs.Common.{◌≡◌, ℕ, ◌+◌, ◌==◌, List, [], ◌∷◌, ◌++◌, ◌<◌, ◌≤◌, length, drop, take, length-append, add-one, nat_lt, Bool, true, false, not, ◌&&◌, ◌||◌, Result, Ok, Err, refl, sym, ◌∙◌, ap, subst, append_assoc, arith, cond}
+use Rattle.std.proofs.Common.{◌≡◌, ℕ, ◌+◌, ◌==◌, List, [], ◌∷◌, ◌++◌, length, take, length-append, add-one, nat_lt, Bool, true, false, not, ◌&&◌, ◌||◌, Result, Ok, Err, refl, sym, ◌∙◌, ap, subst, append_assoc, arith, cond}
 use Rattle.std.specs.List.{list_any, count_by}
-use Rattle.std.specs.Str.{encode_utf8_all, chars, IsUtf8}
+use Rattle.std.specs.Str.{chars, IsUtf8}
 use Rattle.std.specs.Char.{len_utf8}
-use Rattle.std.proofs.lemmas.List.{append-nil, at_drop_all}
-use Rattle.std.proofs.lemmas.Str.{encodes_same, scalars-chars, encodes-chars}
+use Rattle.std.proofs.lemmas.List.{append-nil}
+use Rattle.std.proofs.lemmas.Str.{encodes_same}
 use Rattle.std.proofs.lemmas.List.Sums.{sum_by_push}
 use Rattle.std.proofs.lemmas.Grind.{common_steps}
 use Rattle.std.proofs.Math.Seq.{take-suc}
@@ -12,17 +12,17 @@ use Rattle.fac_source.specs.declared.token.Token.{Token}
 use Rattle.fac_source.specs.declared.token.TokKind.{TokKind}
 use Rattle.fac_token.specs.declared.fault.TokenFault.{TokenFault}
 use Rattle.fac_token.specs.declared.scanner.Mode.{Mode}
-use Rattle.fac_token.specs.declared.scanner.Mode.TheVariants.{Between, InPlain, InComment, InString, InEscape, Closed}
+use Rattle.fac_token.specs.declared.scanner.Mode.TheVariants.{Between}
 use Rattle.fac_token.specs.declared.spotting.Here.{Here}
 use Rattle.fac_token.specs.declared.spotting.Spot.{Spot}
-use Rattle.fac_token.specs.Lexemes.{is_white, escaped, is_some, StringPart, itself, escape, Lexeme, white, comment, plain, string, parts_chars, lexeme_chars, spelled, is_bang, Reading, Fault}
-use Rattle.fac_token.specs.Tokens.{kinds, numbered, Spells, HasTokens, Tokenizes}
-use Rattle.fac_token.specs.Spots.{is_break, since_break, spot_behind, spots_of, HasSpots, Places}
-use Rattle.fac_token.specs.inner.Scan.{Pending, between, in_plain, in_comment, in_string, in_escape, closed, Scan, scan, ended, take_white, take_quote, take_inner, take_char, at_end, scan_from, lexemes}
-use Rattle.fac_token.specs.inner.TokenSteps.{Held, held, hold_char, hold_end, hold_from, Holds, Ends}
+use Rattle.fac_token.specs.Lexemes.{is_white, escaped, is_some, StringPart, itself, escape, Lexeme, white, comment, plain, string, lexeme_chars, spelled, is_bang, Reading, Fault}
+use Rattle.fac_token.specs.Tokens.{kinds, numbered, HasTokens}
+use Rattle.fac_token.specs.Spots.{is_break, since_break, spot_behind, spots_of, HasSpots}
+use Rattle.fac_token.specs.inner.Scan.{Pending, between, in_plain, in_comment, in_string, in_escape, closed, Scan, scan, ended, take_white, take_quote, take_inner, take_char, at_end}
+use Rattle.fac_token.specs.inner.TokenSteps.{Held, held, hold_char, hold_end}
 use Rattle.fac_token.specs.inner.SpotSteps.{here_behind, passed, mode_open, spot_from, finished, started}
-use Rattle.fac_token.proofs.ScanLemmas.{pending_chars, scan_chars, Known, take_known, Answers, end_known}
-use Rattle.fac_token.proofs.StepLemmas.{size, pending_text, pending_mode, tokens_of, view, view_scan, view_end, step_by, last_step, size-more, spells_chars, IsAt}
+use Rattle.fac_token.proofs.ScanLemmas.{pending_chars, Known, take_known, Answers, end_known}
+use Rattle.fac_token.proofs.StepLemmas.{size, pending_text, pending_mode, tokens_of, view_scan, view_end, step_by, last_step, size-more, spells_chars, IsAt}
 use Rattle.fac_token.proofs.OneReading.{one_reading}
 
 -- A character further on.

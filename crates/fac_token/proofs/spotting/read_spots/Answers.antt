@@ -1,4 +1,4 @@
-use Rattle.std.proofs.Common.{◌≡◌, ◌≤◌, ◌+◌, ◌++◌, ◌∷◌, [], List, ℕ, Bool, nat_lt, length, take, drop, string_bytes, arith, subst, sym, ap, ◌∙◌, refl, Err}
+use Rattle.std.proofs.Common.{◌≡◌, ◌≤◌, ◌++◌, ◌∷◌, [], List, ℕ, Bool, nat_lt, length, take, drop, string_bytes, arith, subst, sym, ap, ◌∙◌, refl, Err}
 use Rattle.std.specs.Str.{chars}
 use Rattle.std.specs.Char.{len_utf8}
 use Rattle.std.proofs.lemmas.List.{length_push, take_all}
