@@ -70,25 +70,20 @@ by_words a ds = times_in a (joined (map arrays_named (word_phrases ds)))
 abbrev pub by_arrays : ℕ → List (List Lit) → ℕ
 by_arrays a lss = times_in a (joined (map arrays_in lss))
 
--- the phrase of a word, an earlier top-level one too
-abbrev own_phrase : Sort → Phrase
-own_phrase (past t) = t
-own_phrase s = phrase_of s
-
-sort_split : (a : ℕ) (s : Sort) (ts : List Phrase) → times_in a (joined (map arrays_named (with_phrase s ts))) ≡ times_in a (arrays_named (own_phrase s)) + times_in a (joined (map arrays_named ts))
+sort_split : (a : ℕ) (s : Sort) (ts : List Phrase) → times_in a (joined (map arrays_named (with_phrase s ts))) ≡ times_in a (arrays_named (phrase_of s)) + times_in a (joined (map arrays_named ts))
 sort_split a (body t) ts = times_both a (arrays_named t) (joined (map arrays_named ts))
 sort_split a (past t) ts = times_both a (arrays_named t) (joined (map arrays_named ts))
 sort_split a (method c g t) ts = times_both a (arrays_named t) (joined (map arrays_named ts))
 sort_split a _ ts = omega arith
 
-words_split : (a : ℕ) (d : WordDef) (ds : List WordDef) → by_words a (d ∷ ds) ≡ times_in a (arrays_named (own_phrase d.sort)) + by_words a ds
+words_split : (a : ℕ) (d : WordDef) (ds : List WordDef) → by_words a (d ∷ ds) ≡ times_in a (arrays_named (phrase_of d.sort)) + by_words a ds
 words_split a d ds = sort_split a d.sort (word_phrases ds)
 
 module _ (P : Program) where
   abbrev naming_sort : ℕ → ℕ → Sort → Option ℕ → Option ℕ
   naming_sort a k s o = elim s [ method c g t ↦ elim (phrase_names a t) [ true ↦ Some k | false ↦ o ] | _ ↦ o ]
 
-  passed_sort : (a k : ℕ) (s : Sort) (o : Option ℕ) → times_in a (arrays_named (own_phrase s)) ≡ 0 → naming_sort a k s o ≡ o
+  passed_sort : (a k : ℕ) (s : Sort) (o : Option ℕ) → times_in a (arrays_named (phrase_of s)) ≡ 0 → naming_sort a k s o ≡ o
   passed_sort a k (method c g t) o e = ap (λ (b : Bool). elim b [ true ↦ Some k | false ↦ o ]) (told_none (phrase_names a t) (times_in a (arrays_named t)) (phrase_tells a t) e)
   passed_sort a k _ o e = refl
 
@@ -103,20 +98,13 @@ module _ (P : Program) where
       let split = words_split a d ds in
       passed_sort a k d.sort (method_naming P a (suc k) ds) (omega (arith, e, split)) ∙ no_naming a (suc k) ds (omega (arith, e, split))
 
-  own_least : (a : ℕ) (s : Sort) → times_in a (arrays_named (phrase_of s)) ≤ times_in a (arrays_named (own_phrase s))
-  own_least a (past t) = omega arith
-  own_least a (body t) = omega arith
-  own_least a (method c g t) = omega arith
-  own_least a _ = omega arith
-
   word_least : (a k : ℕ) (ds : List WordDef) (d : WordDef) → slice_get ds k ≡ Some d → times_in a (arrays_named (phrase_of d.sort)) ≤ by_words a ds
   word_least a k [] d e = absurd cc
   word_least a zero (x ∷ ds) d e =
       let same : x ≡ d = cc in
       let split = words_split a x ds in
-      let own = own_least a x.sort in
       let here = ap (λ (y : WordDef). times_in a (arrays_named (phrase_of y.sort))) same in
-      omega (arith, split, own, here)
+      omega (arith, split, here)
   word_least a (suc k) (x ∷ ds) d e =
       let split = words_split a x ds in
       let more = word_least a k ds d e in
@@ -129,9 +117,8 @@ module _ (P : Program) where
       let same : x ≡ d = cc in
       let here : k ≡ w = omega (arith, is) in
       let split = words_split a x ds in
-      let own = own_least a x.sort in
       let some = ap (λ (y : WordDef). times_in a (arrays_named (phrase_of y.sort))) same in
-      found_sort a k x.sort (method_naming P a (suc k) ds) (omega (arith, lt, some)) (no_naming a (suc k) ds (omega (arith, split, own, some, lt, once))) ∙ ap (λ (y : WordDef). method_of k y.sort) same ∙ ap (λ (v : ℕ). method_of v d.sort) here
+      found_sort a k x.sort (method_naming P a (suc k) ds) (omega (arith, lt, some)) (no_naming a (suc k) ds (omega (arith, split, some, lt, once))) ∙ ap (λ (y : WordDef). method_of k y.sort) same ∙ ap (λ (v : ℕ). method_of v d.sort) here
   one_naming a k (suc j) w (x ∷ ds) d is e lt once =
       let split = words_split a x ds in
       let least = word_least a j ds d e in
