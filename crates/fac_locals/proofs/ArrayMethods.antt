@@ -76,7 +76,7 @@ sort_split a (past t) ts = times_both a (arrays_named t) (joined (map arrays_nam
 sort_split a (method c g t) ts = times_both a (arrays_named t) (joined (map arrays_named ts))
 sort_split a _ ts = omega arith
 
-words_split : (a : ℕ) (d : WordDef) (ds : List WordDef) → by_words a (d ∷ ds) ≡ times_in a (arrays_named (phrase_of d.sort)) + by_words a ds
+pub words_split : (a : ℕ) (d : WordDef) (ds : List WordDef) → by_words a (d ∷ ds) ≡ times_in a (arrays_named (phrase_of d.sort)) + by_words a ds
 words_split a d ds = sort_split a d.sort (word_phrases ds)
 
 module _ (P : Program) where
@@ -92,7 +92,7 @@ module _ (P : Program) where
   found_sort a k _ o lt e = e
 
   -- what no word names is in no method
-  no_naming : (a k : ℕ) (ds : List WordDef) → by_words a ds ≡ 0 → method_naming P a k ds ≡ None
+  pub no_naming : (a k : ℕ) (ds : List WordDef) → by_words a ds ≡ 0 → method_naming P a k ds ≡ None
   no_naming a k [] e = refl
   no_naming a k (d ∷ ds) e =
       let split = words_split a d ds in
@@ -127,10 +127,10 @@ module _ (P : Program) where
   abbrev naming_array : ℕ → Bool → Option ℕ → Option ℕ
   naming_array k b o = elim b [ true ↦ Some k | false ↦ o ]
 
-  arrays_split : (a : ℕ) (ls : List Lit) (lss : List (List Lit)) → by_arrays a (ls ∷ lss) ≡ times_in a (arrays_in ls) + by_arrays a lss
+  pub arrays_split : (a : ℕ) (ls : List Lit) (lss : List (List Lit)) → by_arrays a (ls ∷ lss) ≡ times_in a (arrays_in ls) + by_arrays a lss
   arrays_split a ls lss = times_both a (arrays_in ls) (joined (map arrays_in lss))
 
-  no_array_naming : (a k : ℕ) (lss : List (List Lit)) → by_arrays a lss ≡ 0 → array_naming P a k lss ≡ None
+  pub no_array_naming : (a k : ℕ) (lss : List (List Lit)) → by_arrays a lss ≡ 0 → array_naming P a k lss ≡ None
   no_array_naming a k [] e = refl
   no_array_naming a k (ls ∷ lss) e =
       let split = arrays_split a ls lss in
@@ -166,7 +166,7 @@ module _ (P : Program) where
   not_below a k ls h lt (inl less) = less
   not_below a k ls h lt (inr le) = absurd (let none = absent a k (arrays_in ls) h le in omega (arith, none, lt))
 
-  naming_later : (a k c : ℕ) (lss : List (List Lit)) → each_numbered names_earlier k lss ≡ true → array_naming P a k lss ≡ Some c → (a < c) × (c < k + length lss)
+  pub naming_later : (a k c : ℕ) (lss : List (List Lit)) → each_numbered names_earlier k lss ≡ true → array_naming P a k lss ≡ Some c → (a < c) × (c < k + length lss)
   naming_later a k c [] h e = absurd cc
   naming_later a k c (ls ∷ lss) h e = go (literals_name a ls) refl (λ f g. naming_later a (suc k) c lss f g)
     where
@@ -212,7 +212,7 @@ module _ (P : Program) where
     nothing_around None (Some c) h = absurd (h c refl)
 
     -- as many arrays around one as there are behind it are enough
-    enough : (k a : ℕ) → length P.arrays ≤ suc (a + k) → array_method P k a ≡ array_method P (suc k) a
+    pub enough : (k a : ℕ) → length P.arrays ≤ suc (a + k) → array_method P k a ≡ array_method P (suc k) a
     enough zero a le = nothing_around (method_naming P a 0 P.words) (array_naming P a 0 P.arrays) (λ c e. let later = naming_later a 0 c P.arrays earlier e in omega (arith, later.0, later.1, le))
     enough (suc k) a le = more_around k (method_naming P a 0 P.words) (array_naming P a 0 P.arrays) (λ c e. let later = naming_later a 0 c P.arrays earlier e in enough k c (omega (arith, later.0, le)))
 

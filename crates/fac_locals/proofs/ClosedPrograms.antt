@@ -529,7 +529,7 @@ module _ (P : Program) (b : IsSessionProgram P) (w : IsWhole P) where
   numbered : (k : ℕ) (l : Placed) → slice_get (program_placed P) k ≡ Some l → literal_numbered P k ≡ l.0
   numbered k l is = ap (literal_or P k) (ap (λ (ls : List Quoted). slice_get ls k) (sym (placed_literals P b w)) ∙ mapped_at quoted_of (program_placed P) k l is)
 
-  named_once : (a : ℕ) → a < length P.arrays → by_words a P.words + by_arrays a P.arrays ≡ 1
+  pub named_once : (a : ℕ) → a < length P.arrays → by_words a P.words + by_arrays a P.arrays ≡ 1
   named_once a lt = sym (times_both a (joined (map arrays_named (word_phrases P.words))) (joined (map arrays_in P.arrays))) ∙ below_once (λ (k : ℕ). times_in k (all_arrays_named P)) (length P.arrays) a w.arrays_once lt
 
   closes_stage : (counts : List ℕ) → counts ≡ counts_from [] P.arrays → (unfilled : List Template) (unmet : List ArrayStart) → length unfilled ≡ words_behind counts 0 P.words → length unmet ≡ length P.arrays → (s : Stage) → s ≡ arrays_closed counts (length P.arrays) (record { arrays = P.arrays; templates = put_all unfilled (words_templates counts 0 0 P.words); starts = put_all unmet (words_starts counts 0 0 P.words) }) → Closes P (record { words = closed_words counts 0 0 P.words; arrays = s.arrays; classes = P.classes; top = P.top }) s.templates

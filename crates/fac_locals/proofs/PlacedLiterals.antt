@@ -204,7 +204,7 @@ module _ (X : ℕ → Literal → Place → List Placed) (counts : List ℕ) (bo
 -- Two ways to find the literals of arrays agree on a phrase where they agree on the arrays that it names.
 module _ (X Y : ℕ → Literal → Place → List Placed) (bound : ℕ) (same : (b : ℕ) (at : Literal) (p : Place) → b < bound → X b at p ≡ Y b at p) where
   mutual
-    phrase_same : (m : Option ℕ) (cells : List Cell) (at : Literal) (t : Phrase) → IsClosable bound t → placed_in X cells at (in_method m t) ≡ placed_in Y cells at (in_method m t)
+    pub phrase_same : (m : Option ℕ) (cells : List Cell) (at : Literal) (t : Phrase) → IsClosable bound t → placed_in X cells at (in_method m t) ≡ placed_in Y cells at (in_method m t)
     phrase_same m cells at end h = refl
     phrase_same m cells at (then i p t) h = rw (item_same m cells at p i h.0, phrase_same m (cells_behind cells (item_in m i)) (behind at (item_in m i)) t h.1) refl
 
@@ -239,7 +239,7 @@ module _ (P : Program) (b : IsSessionProgram P) (w : IsWhole P) where
   around a = array_method P (length P.arrays) a
 
   -- As many nestings as arrays before an array are enough.
-  arrays_same : (f g a : ℕ) (at : Literal) (p : Place) → a < f → a < g → a < length P.arrays → array_placed P f a at p ≡ array_placed P g a at p
+  pub arrays_same : (f g a : ℕ) (at : Literal) (p : Place) → a < f → a < g → a < length P.arrays → array_placed P f a at p ≡ array_placed P g a at p
   arrays_same zero g a at p lt le inside = absurd (omega (arith, lt))
   arrays_same (suc f) zero a at p lt le inside = absurd (omega (arith, le))
   arrays_same (suc f) (suc g) a at p lt le inside =
