@@ -20,7 +20,8 @@ use Rattle.fac_locals.proofs.ArrayMethods.{by_words, by_arrays, words_split, arr
 use Rattle.fac_locals.proofs.ClosedPrograms.{named_once}
 use Rattle.fac_locals.proofs.LiteralArrays.{AreClosable, program_closable, array_closable, array_phrase_is, in_method, body_of}
 use Rattle.fac_locals.proofs.PlacedLiterals.{Placed, quoted_of, place_at, placed_in, array_placed, placed_words, program_placed, placed_literals, placed_places, phrase_same, arrays_same, found}
-use Rattle.fac_longer.specs.LongerPrograms.{as_earlier, with_earlier, IsLonger, LiteralsStay, PlacesStay, TemplatesStay}
+use Rattle.fac_lang.specs.LongerPrograms.{as_earlier, with_earlier, IsLonger}
+use Rattle.fac_longer.specs.Laws.{LiteralsStay, PlacesStay, TemplatesStay}
 
 -- what an earlier phrase is named for is what it was named for
 earlier_phrases : (n : ℕ) (ds : List WordDef) → word_phrases (with_earlier n ds) ≡ word_phrases ds

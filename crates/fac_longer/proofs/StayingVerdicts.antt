@@ -27,7 +27,8 @@ use Rattle.fac_check.specs.inner.UndeclaredRecursion.{phrase_edges}
 use Rattle.fac_check.proofs.UndeclaredWords.{InlineWord, words_inline, edges, led_named, inline_edges_are, decides_word}
 use Rattle.fac_graph.proofs.PathLemmas.{short_paths}
 use Rattle.fac_longer.specs.Longer.{GoesOn}
-use Rattle.fac_longer.specs.LongerPrograms.{as_earlier, with_earlier, IsLonger, VerdictsStay}
+use Rattle.fac_lang.specs.LongerPrograms.{as_earlier, with_earlier, IsLonger}
+use Rattle.fac_longer.specs.Laws.{VerdictsStay}
 use Rattle.fac_longer.proofs.Staying.{found_stays}
 
 no_truth : {A : Type 0} → true ≡ false → A

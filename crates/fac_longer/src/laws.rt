@@ -1,6 +1,6 @@
 //! Laws of longer programs, each on the contract of a function that does nothing.
 ghost use Rattle.fac_longer.specs.Longer.{FoundStays};
-ghost use Rattle.fac_longer.specs.LongerPrograms.{LiteralsStay, PlacesStay, TemplatesStay, VerdictsStay};
+ghost use Rattle.fac_longer.specs.Laws.{LiteralsStay, PlacesStay, TemplatesStay, VerdictsStay};
 
 /// What a walk found in a program, it finds in each that goes on with it.
 pub fn found_stays()
