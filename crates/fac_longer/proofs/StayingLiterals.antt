@@ -61,12 +61,12 @@ by_both_words a (d ∷ ds) es =
     let rest = by_both_words a ds es in
     omega (arith, all, own, rest)
 
-by_both_arrays : (a : ℕ) (lss mss : List (List Lit)) → by_arrays a (lss ++ mss) ≡ by_arrays a lss + by_arrays a mss
-by_both_arrays a [] mss = omega arith
-by_both_arrays a (ls ∷ lss) mss =
-    let all = arrays_split a ls (lss ++ mss) in
-    let own = arrays_split a ls lss in
-    let rest = by_both_arrays a lss mss in
+by_both_arrays : (P : Program) (a : ℕ) (lss mss : List (List Lit)) → by_arrays a (lss ++ mss) ≡ by_arrays a lss + by_arrays a mss
+by_both_arrays P a [] mss = omega arith
+by_both_arrays P a (ls ∷ lss) mss =
+    let all = arrays_split P a ls (lss ++ mss) in
+    let own = arrays_split P a ls lss in
+    let rest = by_both_arrays P a lss mss in
     omega (arith, all, own, rest)
 
 front_there : {A : Type 0} (xs ys : List A) (k : ℕ) → k < length xs → slice_get (xs ++ ys) k ≡ slice_get xs k
@@ -113,7 +113,7 @@ module _ (P Q : Program) (p : IsWhole P) (q : IsWhole Q) (F : IsLonger P Q) wher
       ∙ ap (λ (ts : List Phrase). times_in a (joined (map arrays_named ts)) + by_words a F.more_words) (earlier_phrases P.top P.words)
 
   arrays_count : (a : ℕ) → by_arrays a Q.arrays ≡ by_arrays a P.arrays + by_arrays a F.more_arrays
-  arrays_count a = ap (by_arrays a) F.arrays_are ∙ by_both_arrays a P.arrays F.more_arrays
+  arrays_count a = ap (by_arrays a) F.arrays_are ∙ by_both_arrays P a P.arrays F.more_arrays
 
   no_more : (a : ℕ) → a < length P.arrays → (by_words a F.more_words ≡ 0) × (by_arrays a F.more_arrays ≡ 0)
   no_more a lt =

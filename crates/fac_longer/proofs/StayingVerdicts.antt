@@ -113,6 +113,7 @@ module _ (P Q : Program) (p : IsWhole P) (G : GoesOn P Q) where
       subst (IsSortOf (may_name P) f.def) f.sort_is (subst (λ (d : WordDef). IsSortOf (may_name P) d d.sort) same there.from_source)
 
   successors_same : (w : ℕ) → InlineWord P w → successors (edges Q) w ≡ successors (edges P) w
+  unfolding inline_in
   successors_same w f = inline_edges_are Q w (inline_in w f) ∙ edges_same w f.def.recursive f.phrase (words_same f.phrase (phrase_from w f)) ∙ sym (inline_edges_are P w f)
 
   -- what a word leads to is inline
@@ -248,7 +249,7 @@ first_keeps R false r rs n w d e h = h
 past_accepted : (R : Program) (n w : ℕ) (c : WordDef) (t : Phrase) → c.sort ≡ past t → word_verdict R n w c ≡ None
 past_accepted R n w c t is =
     let none : undeclared R w c ≡ false = ap (λ (s : Sort). elim s [ body u ↦ c.inline && leads_back R w c.recursive u | _ ↦ false ]) is in
-    let rows : bad_rows R w c ≡ false = ap (λ (s : Sort). elim s [ past u ↦ false | _ ↦ not (nat_eq w R.top) && (has_rows c.effect && not (elim s [ body u ↦ c.inline | _ ↦ false ] && bindable c.effect)) ]) is in
+    let rows : bad_rows R w c ≡ false = ap (λ (s : Sort). elim s [ past u ↦ false | _ ↦ not (nat_eq w R.top) && (has_rows c.effect && not (is_inline_body R c && bindable c.effect)) ]) is in
     let generics : bad_generic c.sort c.effect ≡ false = ap (λ (s : Sort). bad_generic s c.effect) is in
     let walk : sort_verdict R n w c c.sort ≡ None = ap (sort_verdict R n w c) is in
     first_keeps R (undeclared R w c) UndeclaredRecursion (later_rules R w c) n w c none
