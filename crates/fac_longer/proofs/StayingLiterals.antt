@@ -1,25 +1,25 @@
 -- The literals of a program are the first ones of a longer program.
-use Rattle.std.proofs.Common.{◌≡◌, ◌<◌, ◌≤◌, ℕ, zero, suc, ◌+◌, List, [], ◌∷◌, ◌++◌, length, Bool, true, false, Option, Some, None, refl, sym, ap, ◌∙◌, subst, append_assoc, length-append, arith}
+use Rattle.std.proofs.Common.{◌≡◌, ◌<◌, ℕ, zero, suc, ◌+◌, List, [], ◌∷◌, ◌++◌, length, true, false, Option, Some, None, refl, sym, ap, ◌∙◌, append_assoc, length-append, arith}
 use Rattle.std.specs.Prelude.{map, slice_get}
 use Rattle.std.proofs.lemmas.List.{map-append}
 use Rattle.fac_base.specs.declared.place.Place.{Place}
 use Rattle.fac_lang.specs.declared.program.Lit.{Lit}
 use Rattle.fac_lang.specs.declared.program.Program.{Program}
 use Rattle.fac_lang.specs.declared.program.Sort.{Sort}
-use Rattle.fac_lang.specs.declared.program.Sort.TheVariants.{Prim as prim, Core as core, Body as body, Past as past, Itself as itself, Class as class, Isa as isa, Getter as getter, Setter as setter, Putter as putter, Generic as generic, Method as method}
+use Rattle.fac_lang.specs.declared.program.Sort.TheVariants.{Body as body, Method as method}
 use Rattle.fac_lang.specs.declared.program.WordDef.{WordDef}
-use Rattle.fac_lang.specs.Phrases.{Phrase, Item, Literal}
+use Rattle.fac_lang.specs.Phrases.{Phrase, Literal}
 use Rattle.fac_lang.specs.Meaning.{phrase_names, literals_name, method_naming, array_naming, array_method}
 use Rattle.fac_lang.specs.Whole.{IsWhole, word_phrases, arrays_named, times_in, joined}
 use Rattle.fac_lang.proofs.SourcePrograms.{IsSessionProgram, session_of_whole}
 use Rattle.fac_locals.specs.Cells.{inner_cells, inner_phrase}
-use Rattle.fac_locals.specs.Frames.{filled, template_phrase}
-use Rattle.fac_locals.specs.Literals.{Quoted, first_of_word, first_in_array, elements_phrase, array_or_none, array_phrase, literals, literal_places, literal_or, literal_numbered}
+use Rattle.fac_locals.specs.Frames.{filled}
+use Rattle.fac_locals.specs.Literals.{Quoted, first_of_word, first_in_array, elements_phrase, array_or_none, array_phrase, literals, literal_or, literal_numbered}
 use Rattle.fac_locals.specs.inner.Numbering.{phrase_of, method_of, plain_phrase}
 use Rattle.fac_locals.proofs.ArrayMethods.{by_words, by_arrays, words_split, arrays_split, no_naming, no_array_naming, naming_later, enough}
 use Rattle.fac_locals.proofs.ArrayNames.{with_phrase}
 use Rattle.fac_locals.proofs.ClosedPrograms.{named_once}
-use Rattle.fac_locals.proofs.LiteralArrays.{AreClosable, program_closable, array_closable, array_phrase_is, in_method, body_of}
+use Rattle.fac_locals.proofs.LiteralArrays.{AreClosable, program_closable, array_closable, array_phrase_is, body_of}
 use Rattle.fac_locals.proofs.PlacedLiterals.{Placed, quoted_of, place_at, placed_in, array_placed, placed_words, program_placed, placed_literals, placed_places, phrase_same, arrays_same, found}
 use Rattle.fac_lang.specs.LongerPrograms.{as_earlier, with_earlier, IsLonger}
 use Rattle.fac_longer.specs.Laws.{LiteralsStay, PlacesStay, TemplatesStay}
