@@ -1,5 +1,5 @@
 -- A word of a whole program that is no top-level phrase stands before the last one.
-use Rattle.std.proofs.Common.{◌≡◌, ◌<◌, ℕ, suc, Bool, true, false, Some, refl, ap, ◌∙◌, arith}
+use Rattle.std.proofs.Common.{◌≡◌, ◌<◌, ℕ, suc, Bool, true, false, Some, refl, arith}
 use Rattle.std.specs.Prelude.{◌||◌, nat_eq, slice_get}
 use Rattle.fac_lang.specs.declared.program.Program.{Program}
 use Rattle.fac_lang.specs.declared.program.WordDef.{WordDef}
