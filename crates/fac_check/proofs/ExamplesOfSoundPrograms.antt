@@ -74,7 +74,7 @@ rest = plain_program (+ ∷ show ∷ [])
 rest_whole : IsWhole rest
 unfolding prim_numbered
 rest_whole =
-    record { items_fit = refl; literals_fit = refl; sorts_fit = refl; shapes_fit = refl; arrays_earlier = refl; arrays_once = refl; top_last = refl; top_phrase = refl; top_effect = refl; no_past = refl; items_spare = refl; literals_spare = refl; bound = refl; holes_in_fries = refl; holes_stand = refl; written_effects = refl; method_effects = refl; marks_of_bodies = refl; few_names = refl; small_tests = refl; slots_differ = refl; few_slots = refl; class_names_differ = refl; classes_end = refl; words_differ = refl; methods_differ = refl }
+    record { items_fit = refl; literals_fit = refl; sorts_fit = refl; shapes_fit = refl; arrays_earlier = refl; arrays_once = refl; top_last = refl; top_phrase = refl; top_effect = refl; items_spare = refl; literals_spare = refl; bound = refl; holes_in_fries = refl; holes_stand = refl; written_effects = refl; method_effects = refl; marks_of_bodies = refl; few_names = refl; small_tests = refl; slots_differ = refl; few_slots = refl; class_names_differ = refl; classes_end = refl; words_differ = refl; methods_differ = refl }
 
 rest_accepted : verdict rest 2 ≡ None
 unfolding prim_numbered mark_eq

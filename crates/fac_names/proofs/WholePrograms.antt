@@ -350,7 +350,6 @@ whole P b h =
       top_last = words_counted P b;
       top_phrase = ap is_body (top_sort P b);
       top_effect = top_effect_passes P b;
-      no_past = words_pass top (λ (d : WordDef). not (is_past (Some d.sort))) (λ d is. ap not (not_past top d d.sort is)) P.words all;
       items_spare = all_items_pass top n (item_spares P) (record { ints = λ z. refl; truth = refl; falsity = refl; strings = λ cs. refl; references = word_spares P b; arrays = λ a k. refl; quotations = λ t. refl; words = word_spares P b; calls = λ h. refl; executes = λ h. refl; next = refl; binds = λ x. refl; locals = λ x. refl; fries = λ t n. refl; holes = λ k. refl }) (all_phrases P) good;
       literals_spare = arrays_pass top n (literal_spares P) (record { ints = λ z. refl; truth = refl; falsity = refl; strings = λ cs. refl; arrays = λ a k. refl; words = literal_word_spares P b; quotations = λ t. refl }) P.arrays b.arrays_from_source named.1;
       bound = closed_bound (all_phrases P) h.closed;
