@@ -36,7 +36,7 @@ LARGER = 8
 MOST_BYTES_A_BYTE = 40
 BASE = 1 << 20
 # What takes more, and how much it may take: docs/SPEED.md has what each of these comes from.
-KNOWN_RATIOS = {"long-row-names": 12.5, "parents": 8.2, "next-methods": 5.8}
+KNOWN_RATIOS = {"parents": 8.2, "next-methods": 5.8}
 KNOWN_BYTES = {
     "classes": 71,
     "own-slots": 208,
@@ -254,6 +254,11 @@ def long_row_names(n):
     return f"USE: kernel\n: w ( {row} q: ( {row} -- {row} ) -- {row} ) call ; inline\n" + word("u", "[ ] w " * n)
 
 
+def long_own_rows(n):
+    row = "..r" + "x" * (50 * n)
+    return f"USE: kernel\n:: w ( {row} q: ( {row} -- {row} ) -- {row} ) " + "q call " * n + "; inline\n"
+
+
 def many_inputs(n):
     names = " ".join(f"a{k}" for k in range(60))
     return "USE: kernel\n" + lines(n, f": w{{k}} ( {names} -- * ) throw ;")
@@ -401,6 +406,7 @@ SHAPES = [
     Shape("locals", "words with as many locals as there may be", 30, locals_in_scope),
     Shape("row-variables", "effects with row variables", 150, row_variables),
     Shape("long-row-names", "a row variable of many characters, used many times", 200, long_row_names),
+    Shape("long-own-rows", "a quotation input with a row variable of many characters, called many times", 200, long_own_rows),
     Shape("many-inputs", "words with many inputs", 60, many_inputs),
     Shape("used-in-one-form", "many vocabularies in one form", 300, used_in_one_form),
     Shape("brought-in-one-form", "many names that one form brings", 300, brought_in_one_form),

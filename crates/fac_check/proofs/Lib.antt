@@ -41,6 +41,8 @@ pub mod ClassDoings
 pub mod WalkLemmas
 pub mod MarkWalks
 pub mod UseWalks
+pub mod NumberedUses
+pub mod RowEntries
 pub mod VerdictLemmas
 pub mod NamedLiterals
 pub mod TemplatesAlone

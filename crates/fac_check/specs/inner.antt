@@ -1,4 +1,5 @@
 -- What only the contracts of inner functions cite.
+pub mod UsedEffects
 pub mod Walkable
 pub mod ItemWalk
 pub mod OwnEffects

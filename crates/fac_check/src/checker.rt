@@ -1,5 +1,5 @@
 //! The verdict on each word.
-ghost use Rattle.std.specs.Prelude.{◌≡◌, ◌≤◌, true, false, length, None, IfOk};
+ghost use Rattle.std.specs.Prelude.{◌≡◌, ◌≤◌, true, false, length, map, option_copied, slice_get, None, Some, IfOk};
 ghost use Rattle.fac_lang.specs.declared.program.Program.{Program as ProgramSeen};
 ghost use Rattle.fac_base.specs.declared.limits.TheConstants.{MOST_APPLICATIONS, MOST_EFFECT_NAMES, MOST_ITEMS};
 ghost use Rattle.fac_abs.specs.Marks.{on};
@@ -8,6 +8,8 @@ ghost use Rattle.fac_abs.specs.MarkTrees.{Naming};
 ghost use Rattle.fac_base.specs.Effects.{effect_height};
 ghost use Rattle.fac_abs.specs.RowVariables.{effect_leaving};
 ghost use Rattle.fac_base.specs.EffectView.{inputs_tree};
+ghost use Rattle.fac_rows.specs.EntryCodes.{entries_prop};
+ghost use Rattle.fac_rows.specs.NumberedRows.{IsRowEntry, numbered, row_entry};
 ghost use Rattle.fac_check.specs.Verdicts.{any_quoted, end_of, kept_word, no_generic_effect};
 ghost use Rattle.fac_check.specs.inner.BrokenRules.{IsOrdinaryBroken, IsRowBroken, IsTopBroken, IsInlineBroken, IsPhraseBroken, IsWordBroken, bad_rows_so, generic_rule, is_past_sort};
 ghost use Rattle.fac_check.specs.inner.Walkable.{takes_all, takes_phrase, takes_word};
@@ -22,7 +24,9 @@ use fac_base::limits::{MOST_APPLICATIONS, MOST_ITEMS};
 use fac_base::{Effect, Input, Memory, Place};
 use fac_lang::{Phrase, Sort, WordDef};
 use fac_locals::Closed;
-use fac_rows::{bindable, has_rows, inputs_marks, is_row_word, outer_in, outer_out};
+use fac_rows::{
+    OwnEffect, RowEffect, RowWords, bindable, has_rows, inputs_marks, outer_in, outer_out,
+};
 use std::alloc::Global;
 
 /// The verdict on a word.
@@ -107,6 +111,8 @@ fn top_kept(walked: Walked) -> Option<Broken>
 struct Checker<'a> {
     alloc: Global,
     closed: &'a Closed,
+    rows: &'a RowWords,
+    ghost entries_are: { rows.now.entries ≡ map row_entry closed.now.program.words } by { entries_prop rows.now.entries (map row_entry closed.now.program.words) },
     ghost taken: { takes_all closed.now.program closed.now.templates ≡ true },
 }
 
@@ -117,9 +123,20 @@ impl<'a> Checker<'a> {
         ensures { IfOk result (λ broken. IsOrdinaryBroken self.now.closed.now word.now phrase.now broken) }
     {
         let closed = self.closed;
+        let rows = self.rows;
         let own = None;
+        let effect = None;
         let inner = closed.templates.len();
-        let mut walker = Walker::new(self.alloc, Subject { closed, own, inner })?;
+        let mut walker = Walker::new(
+            self.alloc,
+            Subject {
+                closed,
+                rows,
+                own,
+                effect,
+                inner,
+            },
+        )?;
         let stack = walker.marks.unknowns(0, word.effect.inputs() as u64)?;
         let step = first_step(word.place, None, stack);
         let walked = walker.walk_phrase(phrase, step)?;
@@ -131,17 +148,34 @@ impl<'a> Checker<'a> {
     fn row_broken(
         &self,
         number: u32,
-        word: &WordDef,
+        word: &'a WordDef,
+        row: &'a RowEffect,
         phrase: &Phrase,
     ) -> Result<Option<Broken>, Memory>
+        requires at { slice_get self.now.closed.now.program.words number ≡ Some word.now }
+        requires row { row.now.numbered ≡ numbered word.now.effect }
         requires few { (effect_height word.now.effect).ins ≤ MOST_EFFECT_NAMES }
         requires phrase { takes_phrase self.now.closed.now.program.top (length self.now.closed.now.templates) phrase.now ≡ true }
         ensures { IfOk result (λ broken. IsRowBroken self.now.closed.now number word.now phrase.now broken) }
     {
         let closed = self.closed;
+        let rows = self.rows;
         let own = Some(number);
+        let effect = Some(OwnEffect {
+            effect: &word.effect,
+            numbered: &row.numbered,
+        });
         let inner = closed.templates.len();
-        let mut walker = Walker::new(self.alloc, Subject { closed, own, inner })?;
+        let mut walker = Walker::new(
+            self.alloc,
+            Subject {
+                closed,
+                rows,
+                own,
+                effect,
+                inner,
+            },
+        )?;
         let stack = inputs_marks(&mut walker.marks, &word.effect)?;
         let step = first_step(word.place, outer_in(&word.effect), stack);
         let walked = walker.walk_phrase(phrase, step)?;
@@ -154,39 +188,60 @@ impl<'a> Checker<'a> {
         ensures { IfOk result (λ broken. IsTopBroken self.now.closed.now phrase.now broken) }
     {
         let closed = self.closed;
+        let rows = self.rows;
         let own = None;
+        let effect = None;
         let inner = closed.templates.len();
-        let mut walker = Walker::new(self.alloc, Subject { closed, own, inner })?;
+        let mut walker = Walker::new(
+            self.alloc,
+            Subject {
+                closed,
+                rows,
+                own,
+                effect,
+                inner,
+            },
+        )?;
         let stack = walker.marks.unknowns(0, closed.start)?;
         let step = first_step(place, None, stack);
         let walked = walker.walk_phrase(phrase, step)?;
         Ok(top_kept(walked))
     }
 
+    // What is made once of the effect of a word, where it is a row word.
+    fn row_word(&self, number: u32, word: &WordDef) -> Option<&'a RowEffect>
+        requires { slice_get self.now.closed.now.program.words number ≡ Some word.now }
+        ensures { IsRowEntry word.now (option_copied result) }
+    {
+        self.rows.get(number)
+    }
+
     // What an inline word with this phrase breaks. An expanded word isn't walked at its definition. It takes what `row_broken` takes.
     fn inline_broken(
         &self,
         number: u32,
-        word: &WordDef,
+        word: &'a WordDef,
         phrase: &Phrase,
     ) -> Result<Option<Broken>, Memory>
+        requires at { slice_get self.now.closed.now.program.words number ≡ Some word.now }
         requires few { (effect_height word.now.effect).ins ≤ MOST_EFFECT_NAMES }
         requires phrase { takes_phrase self.now.closed.now.program.top (length self.now.closed.now.templates) phrase.now ≡ true }
         ensures { IfOk result (λ broken. IsInlineBroken self.now.closed.now number word.now phrase.now broken) }
     {
-        if is_row_word(word) {
-            return self.row_broken(number, word, phrase);
+        match self.row_word(number, word) {
+            None => Ok(None),
+            Some(row) => self.row_broken(number, word, row, phrase),
         }
-        Ok(None)
     }
 
     // What a word with this phrase breaks by its walk. It takes what `row_broken` takes.
     fn phrase_broken(
         &self,
         number: u32,
-        word: &WordDef,
+        word: &'a WordDef,
         phrase: &Phrase,
     ) -> Result<Option<Broken>, Memory>
+        requires at { slice_get self.now.closed.now.program.words number ≡ Some word.now }
         requires few { (effect_height word.now.effect).ins ≤ MOST_EFFECT_NAMES }
         requires phrase { takes_phrase self.now.closed.now.program.top (length self.now.closed.now.templates) phrase.now ≡ true }
         ensures { IfOk result (λ broken. IsPhraseBroken self.now.closed.now number word.now phrase.now broken) }
@@ -259,14 +314,17 @@ fn generic_broken(word: &WordDef) -> Option<Broken>
 }
 
 /// What the word with this number breaks, where it is known whether its phrase leads back to it.
-pub fn word_broken(
+pub fn word_broken<'a>(
     alloc: Global,
-    closed: &Closed,
+    closed: &'a Closed,
+    rows: &'a RowWords,
     leads_back: bool,
     number: u32,
-    word: &WordDef,
+    word: &'a WordDef,
 ) -> Result<Option<Broken>, Memory>
     requires program { takes_all closed.now.program closed.now.templates ≡ true }
+    requires rows { rows.now.entries ≡ map row_entry closed.now.program.words }
+    requires at { slice_get closed.now.program.words number ≡ Some word.now }
     requires word { takes_word closed.now.program.top (length closed.now.templates) word.now ≡ true }
     ensures { IfOk result (λ broken. IsWordBroken closed.now leads_back number word.now broken) }
 {
@@ -282,7 +340,11 @@ pub fn word_broken(
             place: word.place,
         }));
     }
-    let checker = Checker { alloc, closed };
+    let checker = Checker {
+        alloc,
+        closed,
+        rows,
+    };
     match &word.sort {
         Sort::Body(phrase) => checker.phrase_broken(number, word, phrase),
         Sort::Method { body, .. } => checker.ordinary_broken(word, body),

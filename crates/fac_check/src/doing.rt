@@ -8,12 +8,14 @@ ghost use Rattle.fac_lang.specs.Meaning.{class_of_word, sort_of};
 ghost use Rattle.fac_lang.specs.Primitives.{built_count, IsOperationOf};
 ghost use Rattle.fac_lang.specs.Phrases.{any, wrd_mark, made as made_item, local as local_item};
 ghost use Rattle.fac_lang.specs.PhraseView.{what_item};
+ghost use Rattle.fac_abs.specs.RowVariables.{bindable as can_bind};
 ghost use Rattle.fac_abs.specs.Marks.{on, piled, curried_mark, composed_mark};
 ghost use Rattle.fac_abs.specs.MarkTrees.{Naming};
 ghost use Rattle.fac_abs.specs.SeenMarks.{IsMark, IsFrame, IsStack, Grows, mark_of, frame_of, stack_of};
 ghost use Rattle.fac_abs.specs.MarkPromises.{IsFrameOf};
 ghost use Rattle.fac_check.specs.declared.subject.Subject.{Subject};
 ghost use Rattle.fac_locals.specs.Closed.{Closes};
+ghost use Rattle.fac_rows.specs.NumberedRows.{IsRowEntry, numbered};
 ghost use Rattle.fac_check.specs.Flow.{by_height as takes_and_leaves, marks_moved, mark_made, core_doing, next_doing, is_own, gives};
 ghost use Rattle.fac_check.specs.inner.KnownClasses.{IsTupleWord, generic_word, makes_counted, tuple_slots, word_in};
 ghost use Rattle.fac_check.specs.inner.Walkable.{takes_all, takes_item, takes_word};
@@ -24,11 +26,11 @@ ghost use Rattle.fac_check.specs.inner.Walking.{DoesIn, DoesItem, DoesWord, Does
 use crate::subject::Subject;
 use crate::walker::Step;
 use fac_abs::{MarkNode, Marks, Reached, Rule};
-use fac_base::{Effect, Height, Memory};
+use fac_base::{Height, Memory};
 use fac_lang::{CoreWord, Operation, Shape, Sort, Storing, What, WordDef, operation_of};
 use fac_locals::Closed;
 use fac_rows::{
-    Called, bindable, is_row_word, known_inputs, own_call as own_call_of, take, take_inputs,
+    Called, OwnEffect, RowEffect, known_inputs, own_call as own_call_of, take, take_inputs,
 };
 
 /// What an item does at once, with marks and stacks by their numbers. A stack stays on its base, but for `Leaves`.
@@ -457,15 +459,15 @@ fn own_call(
     marks: &mut Marks,
     base: Option<u32>,
     stack: u32,
-    effect: &Effect,
+    own: OwnEffect<'_>,
 ) -> Result<Transfer, Memory>
-    requires few { (effect_height effect.now).ins ≤ MOST_EFFECT_NAMES }
+    requires few { (effect_height own.effect.now).ins ≤ MOST_EFFECT_NAMES }
     requires stack { IsStack marks.old stack }
     ensures grows { Grows marks.old marks.new }
     ensures there { IfOk result (λ doing. IsDoing marks.new doing) }
-    ensures does { IfOk result (λ doing. DoesOwnCall marks.old marks.new base stack effect.now doing) }
+    ensures does { IfOk result (λ doing. DoesOwnCall marks.old marks.new base stack own.entry.effect.now doing) }
 {
-    match own_call_of(marks, effect, base, stack)? {
+    match own_call_of(marks, own, base, stack)? {
         Called::Breaks(rule) => Ok(Transfer::Breaks(rule)),
         Called::Leaves(Reached::Dead) => Ok(Transfer::Ends),
         Called::Leaves(Reached::On { base, stack }) => Ok(Transfer::Leaves { base, stack }),
@@ -473,8 +475,15 @@ fn own_call(
 }
 
 // A use of a row word that isn't the one that is checked. Where its rows can't be bound, it is dead once its inputs are there.
-fn row_use(marks: &mut Marks, stack: u32, number: u32, word: &WordDef) -> Result<Transfer, Memory>
+fn row_use(
+    marks: &mut Marks,
+    stack: u32,
+    number: u32,
+    word: &WordDef,
+    bindable: bool,
+) -> Result<Transfer, Memory>
     requires stack { IsStack marks.old stack }
+    requires bindable { bindable ≡ can_bind word.now.effect }
     requires word { (top : ℕ) × (count : ℕ) × (takes_word top count word.now ≡ true) }
     requires phrase { has_phrase word.now.sort ≡ true }
     ensures grows { Grows marks.old marks.new }
@@ -484,7 +493,7 @@ fn row_use(marks: &mut Marks, stack: u32, number: u32, word: &WordDef) -> Result
     match take_inputs(marks, &word.effect, stack)? {
         None => Ok(underflow(marks, stack, word.effect.inputs() as u32)),
         Some(taken) => {
-            if !bindable(&word.effect) {
+            if !bindable {
                 return Ok(Transfer::Ends);
             }
             if !known_inputs(marks, &word.effect, taken.inputs) {
@@ -499,6 +508,17 @@ fn row_use(marks: &mut Marks, stack: u32, number: u32, word: &WordDef) -> Result
     }
 }
 
+// The effect of the row word that is checked.
+fn own_rows<'a>(word: &'a WordDef, row: &'a RowEffect) -> OwnEffect<'a>
+    requires { row.now.numbered ≡ numbered word.now.effect }
+    ensures { result.effect.now ≡ word.now.effect }
+{
+    OwnEffect {
+        effect: &word.effect,
+        numbered: &row.numbered,
+    }
+}
+
 // A word that is defined by a phrase: an inline one is expanded, unless it is a row word, and every other one goes by its effect.
 fn defined(
     marks: &mut Marks,
@@ -507,9 +527,11 @@ fn defined(
     stack: u32,
     number: u32,
     word: &WordDef,
+    row: Option<&RowEffect>,
 ) -> Result<Transfer, Memory>
     requires stack { IsStack marks.old stack }
     requires word { (top : ℕ) × (count : ℕ) × (takes_word top count word.now ≡ true) }
+    requires row { IsRowEntry word.now (option_copied row) }
     requires phrase { has_phrase word.now.sort ≡ true }
     ensures grows { Grows marks.old marks.new }
     ensures there { IfOk result (λ doing. IsDoingOf (only number word.now) marks.new doing) }
@@ -518,16 +540,18 @@ fn defined(
     if !word.inline {
         return by_height(marks, stack, height_of(word));
     }
-    if !is_row_word(word) {
-        return Ok(Transfer::Expands {
+    match row {
+        None => Ok(Transfer::Expands {
             word: number,
             stack,
-        });
+        }),
+        Some(row) => {
+            if is_own(own, number) {
+                return own_call(marks, base, stack, own_rows(word, row));
+            }
+            row_use(marks, stack, number, word, row.bindable)
+        }
     }
-    if is_own(own, number) {
-        return own_call(marks, base, stack, &word.effect);
-    }
-    row_use(marks, stack, number, word)
 }
 
 // A word as a value, by its number.
@@ -550,9 +574,11 @@ fn word_item(
     stack: u32,
     number: u32,
     word: &WordDef,
+    row: Option<&RowEffect>,
 ) -> Result<Transfer, Memory>
     requires stack { IsStack marks.old stack }
     requires word { (top : ℕ) × (count : ℕ) × (takes_word top count word.now ≡ true) }
+    requires row { IsRowEntry word.now (option_copied row) }
     ensures grows { Grows marks.old marks.new }
     ensures there { IfOk result (λ doing. IsDoingOf (only number word.now) marks.new doing) }
     ensures does { IfOk result (λ doing. DoesWordSo subject.entry.closed.now marks.old marks.new subject.entry.own base stack number word.now doing) }
@@ -562,7 +588,7 @@ fn word_item(
             primitive(marks, stack, *primitive_number, height_of(word))
         }
         Sort::Core(core_word) => core(subject.closed, marks, stack, *core_word),
-        Sort::Body(_) => defined(marks, subject.own, base, stack, number, word),
+        Sort::Body(_) => defined(marks, subject.own, base, stack, number, word, row),
         Sort::Itself | Sort::Class(_) => reference(marks, stack, number),
         Sort::Isa(_) | Sort::Getter(_) | Sort::Setter(_) | Sort::Putter(_) | Sort::Generic => {
             by_height(marks, stack, height_of(word))
@@ -589,7 +615,10 @@ fn word(
         return Ok(Transfer::Breaks(Rule::NotKnown));
     }
     match subject.closed.program.words.get(number as usize) {
-        Some(word) => word_item(subject, marks, base, stack, number, word),
+        Some(word) => {
+            let row = subject.row_word(number, word);
+            word_item(subject, marks, base, stack, number, word, row)
+        }
         None => Ok(Transfer::Breaks(Rule::NotKnown)),
     }
 }

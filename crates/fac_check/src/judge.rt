@@ -1,5 +1,6 @@
 //! The verdict on a program.
 ghost use Rattle.std.specs.Prelude.{◌≡◌, ◌<◌, length, map, slice_get, Some, IfOk};
+ghost use Rattle.fac_rows.specs.NumberedRows.{row_entry};
 ghost use Rattle.fac_check.specs.Judged.{StandsForWhole, AreUndeclared, AreVerdicts, IsVerdict, IsAccepted, verdict_seen, refusal_if, first_of};
 ghost use Rattle.fac_check.specs.Checks.{IsKept, Gathers};
 
@@ -9,6 +10,7 @@ use crate::recursion::undeclared_words;
 use crate::refusal::Refusal;
 use fac_base::{List, Memory};
 use fac_locals::Closed;
+use fac_rows::RowWords;
 use std::alloc::Global;
 
 // The flag of a word.
@@ -23,14 +25,16 @@ fn flag(flags: &List<bool>, number: u32) -> bool
 }
 
 /// The verdict on the word of this number: the first rule that it breaks, with its place. `undeclared` has for each word whether its phrase
-/// leads back to it through inline words, as `undeclared_words` finds it for all words at once.
+/// leads back to it through inline words, as `undeclared_words` finds it for all words at once, and `rows` what is made once of its row words.
 pub fn check_word(
     alloc: Global,
     closed: &Closed,
+    rows: &RowWords,
     undeclared: &List<bool>,
     number: u32,
 ) -> Result<Verdict, Memory>
     requires stands { StandsForWhole closed.now }
+    requires rows { rows.now.entries ≡ map row_entry closed.now.program.words }
     requires undeclared { AreUndeclared closed.now.program closed.now.templates undeclared.now }
     requires number { number < length closed.now.program.words }
     ensures { IfOk result (IsVerdict closed.now number) }
@@ -38,7 +42,7 @@ pub fn check_word(
     let Some(word) = closed.program.words.get(number as usize) else {
         unreachable!()
     };
-    match word_broken(alloc, closed, flag(undeclared, number), number, word)? {
+    match word_broken(alloc, closed, rows, flag(undeclared, number), number, word)? {
         Some(broken) => Ok(Verdict::Refused(Refusal {
             word: number,
             broken,
@@ -55,9 +59,10 @@ pub fn check_words(alloc: Global, closed: &Closed) -> Result<List<Verdict>, Memo
     ensures { IfOk result (AreVerdicts closed.now) }
 {
     let undeclared = undeclared_words(alloc, closed)?;
+    let rows = RowWords::new(alloc, &closed.program.words)?;
     let mut verdicts = List::new(alloc);
     for number in 0..closed.program.words.len() {
-        verdicts.push(check_word(alloc, closed, &undeclared, number)?)?;
+        verdicts.push(check_word(alloc, closed, &rows, &undeclared, number)?)?;
     }
     Ok(verdicts)
 }

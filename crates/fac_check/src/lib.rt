@@ -18,6 +18,7 @@ mod walker;
 pub use accepted::Checked;
 pub use checker::Verdict;
 pub use fac_abs::Rule;
+pub use fac_rows::RowWords;
 pub use judge::{accept, check_word, check_words, first_refused, gather};
 pub use laws::{
     accepted_programs_are_safe, first_refusal_is_verdict, marks_below_stay,

@@ -1,5 +1,6 @@
 //! The effects of templates.
-ghost use Rattle.std.specs.Prelude.{◌≡◌, ◌<◌, length, IfOk};
+ghost use Rattle.std.specs.Prelude.{◌≡◌, ◌<◌, length, map, IfOk};
+ghost use Rattle.fac_rows.specs.NumberedRows.{row_entry};
 ghost use Rattle.fac_check.specs.Judged.{StandsForWhole};
 ghost use Rattle.fac_check.specs.TemplateEffects.{AreEffects, IsEffect, within_outs};
 
@@ -7,6 +8,7 @@ use crate::searching::least;
 use fac_base::limits::MOST_CALLABLE_VALUES;
 use fac_base::{Height, List, Memory};
 use fac_locals::Closed;
+use fac_rows::RowWords;
 use std::alloc::Global;
 
 // A height, where no more values are left than a callable may leave.
@@ -25,12 +27,18 @@ fn within(height: Height) -> Option<Height>
 }
 
 // That of the template with this number.
-fn effect(alloc: Global, closed: &Closed, template: u32) -> Result<Option<Height>, Memory>
+fn effect(
+    alloc: Global,
+    closed: &Closed,
+    rows: &RowWords,
+    template: u32,
+) -> Result<Option<Height>, Memory>
     requires stands { StandsForWhole closed.now }
+    requires rows { rows.now.entries ≡ map row_entry closed.now.program.words }
     requires template { template < length closed.now.templates }
     ensures { IfOk result (IsEffect closed.now template) }
 {
-    match least(alloc, closed, template)? {
+    match least(alloc, closed, rows, template)? {
         Some(height) => Ok(within(height)),
         None => Ok(None),
     }
@@ -43,9 +51,10 @@ pub fn effects(alloc: Global, closed: &Closed) -> Result<List<Option<Height>>, M
     requires { StandsForWhole closed.now }
     ensures { IfOk result (AreEffects closed.now) }
 {
+    let rows = RowWords::new(alloc, &closed.program.words)?;
     let mut heights = List::new(alloc);
     for number in 0..closed.templates.len() {
-        heights.push(effect(alloc, closed, number)?)?;
+        heights.push(effect(alloc, closed, &rows, number)?)?;
     }
     Ok(heights)
 }

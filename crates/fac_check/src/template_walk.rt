@@ -1,10 +1,11 @@
 //! Templates whose phrases are walked by themselves.
-ghost use Rattle.std.specs.Prelude.{◌≡◌, ◌<◌, ◌≤◌, [], true, length, None, IfOk};
+ghost use Rattle.std.specs.Prelude.{◌≡◌, ◌<◌, ◌≤◌, [], true, length, map, None, IfOk};
 ghost use Rattle.fac_base.specs.declared.limits.TheConstants.{MOST_APPLICATIONS, MOST_ITEMS};
 ghost use Rattle.fac_abs.specs.Marks.{unknowns};
 ghost use Rattle.fac_abs.specs.MarkTrees.{Naming};
 ghost use Rattle.fac_abs.specs.MarkPromises.{IsFrameOf};
 ghost use Rattle.fac_abs.specs.SeenMarks.{Grows, IsFrame};
+ghost use Rattle.fac_rows.specs.NumberedRows.{row_entry};
 ghost use Rattle.fac_check.specs.CallableEffects.{no_word};
 ghost use Rattle.fac_check.specs.Judged.{StandsForWhole};
 ghost use Rattle.fac_check.specs.TemplateWalks.{IsFoundHeight, found_height};
@@ -16,6 +17,7 @@ use fac_abs::{Marks, Reached};
 use fac_base::limits::{MOST_APPLICATIONS, MOST_ITEMS};
 use fac_base::{Height, Memory, Place};
 use fac_locals::Closed;
+use fac_rows::RowWords;
 use std::alloc::Global;
 
 // The frame of so many cells of which nothing is known.
@@ -76,13 +78,15 @@ fn few_words(closed: &Closed)
 /// How many values the phrase of a template takes and leaves by itself, where it starts on so many values on no base and nothing is known of
 /// them, nor of what its cells hold. None where it breaks a rule of the checker then. Its quotations are none of any word. It takes the time of
 /// one walk. Want of memory is the one error.
-pub fn walk_template(
+pub fn walk_template<'a>(
     alloc: Global,
-    closed: &Closed,
+    closed: &'a Closed,
+    rows: &'a RowWords,
     template: u32,
     inputs: u32,
 ) -> Result<Option<Height>, Memory>
     requires stands { StandsForWhole closed.now }
+    requires rows { rows.now.entries ≡ map row_entry closed.now.program.words }
     requires template { template < length closed.now.templates }
     ensures { IfOk result (IsFoundHeight closed.now template inputs) }
 {
@@ -92,8 +96,18 @@ pub fn walk_template(
         unreachable!()
     };
     let own = None;
+    let effect = None;
     let inner = template + 1;
-    let mut walker = Walker::new(alloc, Subject { closed, own, inner })?;
+    let mut walker = Walker::new(
+        alloc,
+        Subject {
+            closed,
+            rows,
+            own,
+            effect,
+            inner,
+        },
+    )?;
     let frame = unknown_cells(&mut walker.marks, cells_of(found))?;
     let stack = walker.marks.unknowns(0, inputs as u64)?;
     let step = first_step(found.place, frame, stack);

@@ -390,11 +390,8 @@ impl<'a> Walker<'a> {
         ensures grows { Grows self.old.marks self.new.marks }
         ensures rule { IfOk result (λ rule. IsUseRule self.old.subject self.old.marks step (effect_of (slice_get self.old.subject.closed.now.program.words word)) inputs rule) }
     {
-        let closed = self.subject.closed;
-        match closed.program.words.get(word as usize) {
-            Some(found) => self.effect_rule(&found.effect, inputs, step),
-            None => unreachable!(),
-        }
+        let effect = self.subject.used_effect(word);
+        self.effect_rule(effect, inputs, step)
     }
 
     // Calls an input of the word that is checked.
@@ -879,11 +876,8 @@ impl<'a> Walker<'a> {
         ensures within { IfOk result (λ walked. IsWithin step.left walked) }
         ensures walks { IfOk result (λ walked. IsWalkOf self.old.subject self.new.marks step walked (use_walk self.old.marks step word inputs)) }
     {
-        let closed = self.subject.closed;
-        match closed.program.words.get(word as usize) {
-            Some(found) => self.walk_effect(&found.effect, inputs, step),
-            None => unreachable!(),
-        }
+        let effect = self.subject.used_effect(word);
+        self.walk_effect(effect, inputs, step)
     }
 
     // What an item breaks before it counts. The stack is that of what the item does, not the step's.

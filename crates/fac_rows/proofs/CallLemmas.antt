@@ -1,5 +1,5 @@
 -- Calls of the quotation inputs of a row word, and the numbers of its rows.
-use Rattle.std.proofs.Common.{◌≡◌, ◌⊎◌, inl, inr, ◌<◌, ◌≤◌, ℕ, zero, suc, ◌-◌, List, [], ◌∷◌, length, drop, get_or, Bool, true, false, refl, sym, ap, ◌∙◌, Option, Some, None, arith, length-drop}
+use Rattle.std.proofs.Common.{◌≡◌, ◌⊎◌, inl, inr, ◌<◌, ◌≤◌, ℕ, zero, suc, ◌-◌, List, [], ◌∷◌, length, drop, get_or, Bool, true, false, refl, sym, ap, ◌∙◌, Option, Some, None, arith, length-drop, subst}
 use Rattle.std.specs.Prelude.{nat_eq, nat_lt, ◌&&◌, ◌||◌, not}
 use Rattle.std.specs.Str.{bytes_eq}
 use Rattle.std.proofs.lemmas.Bool.{eq-eqb, ltb-true, lt-ltb}
@@ -17,8 +17,10 @@ use Rattle.fac_abs.proofs.MoveLemmas.{bytes_alike}
 use Rattle.fac_abs.proofs.CallerLemmas.{under_short, under_long, under_drop}
 use Rattle.fac_rows.specs.RowBinding.{call_breaks, call_leaves, called_if, calls_input, leaving_on}
 use Rattle.fac_rows.specs.RowNumbers.{NamesRows, leaving_name, inputs_sides, sides, is_named, is_among, side_number}
+use Rattle.fac_rows.specs.NumberedRows.{numbered_side, numbered_within, numbered}
 use Rattle.fac_rows.specs.inner.InputCalls.{base_behind}
 use Rattle.fac_rows.proofs.BindingLemmas.{not_equal}
+use Rattle.fac_rows.proofs.NumberingLemmas.{SideAmong, inputs_within, leaving_within, row_within, side_within, within_option, input_within, leaving_among, number_of_side, no_side}
 
 -- which effect an input has
 abbrev pub quot_seen : Input → Option Signature
@@ -166,6 +168,49 @@ module _ (N : Naming) (e : Signature) (names : NamesRows N e) where
   pub output_row : (k n : ℕ) (q : Signature) (x : List ℕ) → Some q ≡ input_effect k (effect_inputs e) → leaving_name (effect_leaving q) ≡ Some x → n ≡ side_number 1 x (sides e) → N.row n ≡ named_row x
   output_row k n q x f g h = row_at n x h (has_side k e q x f (inr (named_itself x (leaving_name (effect_leaving q)) g)))
 
+-- numbers that are found in the effect with numbered rows
+module _ (e d : Signature) (same : d ≡ numbered e) (k : ℕ) (q : Signature) (there : Some q ≡ input_effect k (effect_inputs e)) where
+  input_of_numbered : input_effect k (effect_inputs d) ≡ Some (numbered_within e q)
+  input_of_numbered =
+      ap (λ (z : Signature). input_effect k (effect_inputs z)) same ∙ ap (λ (is : Inputs). input_effect k is) (inputs_within e e) ∙ input_within e k (effect_inputs e) ∙ ap (within_option e) (sym there)
+
+  pub numbered_there : {A : Type 0} → None ≡ input_effect k (effect_inputs d) → A
+  numbered_there h = (let no : None ≡ Some (numbered_within e q) = h ∙ input_of_numbered in absurd (cc))
+
+  module _ (x : List ℕ) (p : Signature) (at : Some p ≡ input_effect k (effect_inputs d)) where
+    is_numbered : p ≡ numbered_within e q
+    is_numbered = (let one : Some p ≡ Some (numbered_within e q) = at ∙ input_of_numbered in cc)
+
+    in_is : row_name p ≡ numbered_side e (row_name q)
+    in_is = ap row_name is_numbered ∙ row_within e q
+
+    out_is : leaving_name (effect_leaving p) ≡ numbered_side e (leaving_name (effect_leaving q))
+    out_is = ap (λ (z : Signature). leaving_name (effect_leaving z)) is_numbered ∙ ap leaving_name (leaving_within e q) ∙ side_within e (effect_leaving q)
+
+    pub input_number : (n : ℕ) (y : List ℕ) → row_name q ≡ Some x → row_name p ≡ Some y → n ≡ side_number 1 y (sides d) → n ≡ side_number 1 x (sides e)
+    input_number n y f g number =
+        number_of_side e d (row_name q) (row_name p) n x y same (subst (SideAmong e) (sym f) (has_side k e q x there (inl (named_itself x (row_name q) f)))) f in_is g number
+
+    pub input_named : {A : Type 0} → row_name q ≡ Some x → row_name p ≡ None → A
+    input_named f g = no_side e (row_name q) (row_name p) x f in_is g
+
+    pub output_number : (n : ℕ) (y : List ℕ) → leaving_name (effect_leaving q) ≡ Some x → leaving_name (effect_leaving p) ≡ Some y → n ≡ side_number 1 y (sides d) → n ≡ side_number 1 x (sides e)
+    output_number n y f g number =
+        number_of_side e d (leaving_name (effect_leaving q)) (leaving_name (effect_leaving p)) n x y same (subst (SideAmong e) (sym f) (has_side k e q x there (inr (named_itself x (leaving_name (effect_leaving q)) f)))) f out_is g number
+
+    pub output_named : {A : Type 0} → leaving_name (effect_leaving q) ≡ Some x → leaving_name (effect_leaving p) ≡ None → A
+    output_named f g = no_side e (leaving_name (effect_leaving q)) (leaving_name (effect_leaving p)) x f out_is g
+
+module _ (e d : Signature) (same : d ≡ numbered e) (x : List ℕ) (f : leaving_name (effect_leaving e) ≡ Some x) where
+  own_out_is : leaving_name (effect_leaving d) ≡ numbered_side e (leaving_name (effect_leaving e))
+  own_out_is = ap (λ (z : Signature). leaving_name (effect_leaving z)) same ∙ ap leaving_name (leaving_within e e) ∙ side_within e (effect_leaving e)
+
+  pub own_output_number : (n : ℕ) (y : List ℕ) → leaving_name (effect_leaving d) ≡ Some y → n ≡ side_number 1 y (sides d) → n ≡ side_number 1 x (sides e)
+  own_output_number n y g number = number_of_side e d (leaving_name (effect_leaving e)) (leaving_name (effect_leaving d)) n x y same (leaving_among e) f own_out_is g number
+
+  pub own_output_named : {A : Type 0} → leaving_name (effect_leaving d) ≡ None → A
+  own_output_named g = no_side e (leaving_name (effect_leaving e)) (leaving_name (effect_leaving d)) x f own_out_is g
+
 leaving_of : (l : Leaving) (x : List ℕ) → leaving_name l ≡ Some x → leaving_row l ≡ Some (named_row x)
 leaving_of never x e = absurd (cc)
 leaving_of (leaves r names) x e = ap row_of e
@@ -202,3 +247,6 @@ module _ (N : Naming) (r : Option (List ℕ)) (is : Inputs) (l : Leaving) (x : L
   pub outer_out_second : false ≡ is_named x r → Some (N.row 2) ≡ outer_out (signature r is l)
   outer_out_second f =
       ap Some (ap N.row (ap (λ (q : Bool). first_side false q) (sym (named_itself x (leaving_name l) e)) ∙ ap (λ (p : Bool). first_side p (is_named x (leaving_name l))) f) ∙ names.named_rows x among) ∙ sym (out_row r is l x e)
+
+  pub outer_out_numbered : (n : ℕ) → n ≡ side_number 1 x (sides (signature r is l)) → Some (N.row n) ≡ outer_out (signature r is l)
+  outer_out_numbered n f = ap Some (ap N.row f ∙ names.named_rows x among) ∙ sym (out_row r is l x e)

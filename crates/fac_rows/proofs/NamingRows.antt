@@ -8,11 +8,11 @@ use Rattle.fac_abs.specs.RowVariables.{Row, hidden, named_row}
 use Rattle.fac_abs.specs.MarkTrees.{Naming}
 use Rattle.fac_rows.specs.RowNumbers.{sides, is_named, is_among, side_number, NamesOwn}
 
-abbrev Side : Type 0
+abbrev pub Side : Type 0
 Side = Option (List ℕ)
 
 -- the row variable of the side with this number
-abbrev name_at : List Side → ℕ → Side
+abbrev pub name_at : List Side → ℕ → Side
 name_at [] k = None
 name_at (s ∷ ss) zero = s
 name_at (s ∷ ss) (suc k) = name_at ss k
@@ -111,7 +111,7 @@ first_here n x (Some y) ss true e h more =
 first_here n x s ss false e h more =
     (let found = more h in record { index = suc found.index; number_is = rw (e, side_number) (found.number_is ∙ (omega arith)); name_is = found.name_is })
 
-has_first : (n : ℕ) (x : List ℕ) (ss : List Side) → is_among x ss ≡ true → HasFirst ss n x
+pub has_first : (n : ℕ) (x : List ℕ) (ss : List Side) → is_among x ss ≡ true → HasFirst ss n x
 has_first n x [] h = absurd (cc)
 has_first n x (s ∷ ss) h = first_here n x s ss (is_named x s) refl h (λ g. has_first (suc n) x ss g)
 

@@ -27,7 +27,8 @@ use Rattle.fac_check.specs.inner.Walking.{go_at, body_phrase, doing_seen, walked
 use Rattle.fac_check.specs.declared.walker.Step.{Step}
 use Rattle.fac_check.specs.declared.walker.Walked.TheVariants.{Found}
 use Rattle.fac_check.proofs.MarkWalks.{carried, curried_counts, composed_ends, phrase_entered, some_left, literal_opens, word_phrase_opens, misfit_walks, forked, reached_stays}
-use Rattle.fac_check.proofs.TakenPrograms.{word_taken, inputs_below, template_taken, phrase_taken, others_taken}
+use Rattle.fac_check.proofs.NumberedUses.{few_used}
+use Rattle.fac_check.proofs.TakenPrograms.{template_taken, phrase_taken, others_taken}
 use Rattle.fac_check.proofs.WalkLemmas.{Onward, onward_start, onward_end, behind_from, no_bind, one_walks}
 use Rattle.fac_check.proofs.StandingItems.{told_template, told_stands, told_below}
 use Rattle.fac_check.proofs.WordItems.{ok_maps}
@@ -281,7 +282,17 @@ walk_effect-walk_inputs-requires t c =
 pub walk_use-walk_effect-requires : goal.walk_use-walk_effect-requires
 walk_use-walk_effect-requires t c =
     let C = c.args.self.now.subject.closed.now in
-    (omega (arith, c.decreases), (inputs_below C.program.top (length C.templates) c.in-Some.found.now (word_taken C.program C.templates c.args.self.now.taken c.args.word c.in-Some.found.now (sym c.in-Some.ensures)), (c.requires.inputs, c.requires.stack)))
+    (omega (arith, c.decreases), (few_used C.program C.templates c.args.self.now.taken c.args.word c.used_effect-effect.result.now c.requires.named c.used_effect-effect.ensures, (c.requires.inputs, c.requires.stack)))
+
+pub walk_use-returns-clause-walks : goal.walk_use-returns-clause-walks
+walk_use-returns-clause-walks t c =
+    ok_maps c.walk_effect.result
+    (λ r walks O f l.
+    let N = O.naming in
+    let M = c.args.self.now.marks in
+    let s = c.args.step in
+    walks O f l ∙ c.used_effect-effect.ensures.walks_alike O.effect (go_at O f) (stack_of N M c.args.inputs) s.place s.nested (base_seen N s.base) (stack_of N M s.stack) s.left)
+    c.walk_effect.ensures.walks
 
 pub walk_quotation-bind-requires-clause-there : goal.walk_quotation-bind-requires-clause-there
 walk_quotation-bind-requires-clause-there t c = binding_later _ _ c.args.binding.now (grows_trans _ _ _ c.in_ok-start.ensures.grows c.in_ok-broken-in-Some.ensures.grows) c.requires.binding
