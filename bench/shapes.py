@@ -36,7 +36,7 @@ LARGER = 8
 MOST_BYTES_A_BYTE = 40
 BASE = 1 << 20
 # What takes more, and how much it may take: docs/SPEED.md has what each of these comes from.
-KNOWN_RATIOS = {"long-row-names": 12.5, "parents": 8.2, "next-methods": 5.8}
+KNOWN_RATIOS = {"long-row-names": 12.5}
 KNOWN_BYTES = {
     "classes": 71,
     "own-slots": 208,
