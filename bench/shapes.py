@@ -40,7 +40,7 @@ KNOWN_RATIOS = {"long-row-names": 12.5}
 KNOWN_BYTES = {
     "classes": 71,
     "own-slots": 208,
-    "heirs": 133,
+    "heirs": 110,
     "makers": 229,
     "quotations-in-arrays": 53,
     "empty-arrays": 54,
