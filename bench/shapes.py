@@ -36,11 +36,11 @@ LARGER = 8
 MOST_BYTES_A_BYTE = 40
 BASE = 1 << 20
 # What takes more, and how much it may take: docs/SPEED.md has what each of these comes from.
-KNOWN_RATIOS = {"parents": 8.2, "next-methods": 5.8}
+KNOWN_RATIOS = {}
 KNOWN_BYTES = {
     "classes": 71,
     "own-slots": 208,
-    "heirs": 133,
+    "heirs": 110,
     "makers": 229,
     "quotations-in-arrays": 53,
     "empty-arrays": 54,

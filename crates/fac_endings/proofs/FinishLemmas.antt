@@ -3,6 +3,7 @@ use Rattle.std.proofs.Common.{◌≡◌, ◌<◌, ◌+◌, ◌⊎◌, inl, inr, 
 use Rattle.std.proofs.lemmas.Option.{slice_get_past}
 use Rattle.fac_lang.specs.Classes.{shape_at, parent_in, slots_within}
 use Rattle.std.specs.Prelude.{IfOk}
+use Rattle.std.specs.Global.{Vec}
 use Rattle.fac_base.specs.declared.memory.Memory.{Memory}
 use Rattle.fac_lang.specs.declared.program.ClassDef.{ClassDef}
 use Rattle.fac_lang.specs.declared.program.Shape.{Shape}
@@ -12,7 +13,7 @@ use Rattle.fac_endings.specs.declared.draft.Draft.{Draft}
 use Rattle.fac_endings.specs.declared.finishing.Finish.{Finish}
 use Rattle.fac_endings.specs.ClassTable.{slots_at, slots_in}
 use Rattle.fac_endings.specs.FinishedWords.{finished}
-use Rattle.fac_endings.specs.inner.Finishes.{AreFinishes, AreSlots, finished_with, line, or_none, slots_last, slots_listed, with_finish}
+use Rattle.fac_endings.specs.inner.Finishes.{AreFinishes, AreSlots, AreSlotsSoFar, finished_with, line, or_none, slots_last, slots_listed, with_finish}
 use Rattle.fac_endings.proofs.ListLemmas.{none_past, take_at}
 
 -- All slots of a class.
@@ -56,20 +57,15 @@ listed_slots cs table c h = one (slice_get table c) refl
         let same = h.same_length in
         sym (none_within (length cs) cs c (ap (λ (o : Option ClassDef). elim o [ Some d ↦ Some d.shape | None ↦ None ]) (slice_get_past cs c (omega (arith, past, same)))))
 
--- the table as far as it is made
-pub record SlotsSoFar (cs : List ClassDef) (n : ℕ) (table : List (List (List ℕ))) : Type 0 where
-  pub counted : length table ≡ n
-  pub each : (c : ℕ) (slots : List (List ℕ)) → slice_get table c ≡ Some slots → slots ≡ slots_within (length cs) cs c
-
-push_at : {A : Type 0} (xs : List A) (x y : A) (i : ℕ) → slice_get (xs ++ x ∷ []) i ≡ Some y → ((i ≡ length xs) × (x ≡ y)) ⊎ (slice_get xs i ≡ Some y)
+pub push_at : {A : Type 0} (xs : List A) (x y : A) (i : ℕ) → slice_get (xs ++ x ∷ []) i ≡ Some y → ((i ≡ length xs) × (x ≡ y)) ⊎ (slice_get xs i ≡ Some y)
 push_at [] x y zero h = inl (refl, cc)
 push_at [] x y (suc i) h = absurd (cc)
 push_at (z ∷ xs) x y zero h = inr h
 push_at (z ∷ xs) x y (suc i) h = elim (push_at xs x y i h) [ inl p ↦ inl (ap suc p.0, p.1) | inr q ↦ inr q ]
 
-pub slots_more : (cs : List ClassDef) (n : ℕ) (table next : List (List (List ℕ))) (slots : List (List ℕ)) → SlotsSoFar cs n table → slots ≡ slots_within (length cs) cs n → next ≡ table ++ slots ∷ [] → SlotsSoFar cs (n + 1) next
+pub slots_more : (cs : List ClassDef) (n : ℕ) (table next : List (List (List ℕ))) (slots : List (List ℕ)) → AreSlotsSoFar cs n table → slots ≡ slots_within (length cs) cs n → next ≡ table ++ slots ∷ [] → AreSlotsSoFar cs (n + 1) next
 slots_more cs n table next slots h is pushed =
-    subst (SlotsSoFar cs (n + 1)) (sym pushed) (record {
+    subst (AreSlotsSoFar cs (n + 1)) (sym pushed) (record {
       counted = length-push table slots ∙ ap (λ (k : ℕ). k + 1) h.counted;
       each = λ c found at. elim (push_at table slots found c at) [
         | inl p ↦ sym p.1 ∙ is ∙ ap (slots_within (length cs) cs) (sym h.counted ∙ sym p.0)
@@ -96,6 +92,10 @@ finish_taken ds cs xs i d fs next f within at h is pushed =
 
 pub finishes_given : (ds given_ds : List Draft) (cs given_cs : List ClassDef) (fs : List Finish) → given_ds ≡ ds → given_cs ≡ cs → AreFinishes given_ds given_cs given_ds fs → AreFinishes ds cs ds fs
 finishes_given ds given_ds cs given_cs fs e k h = subst (λ (xs : List Draft). AreFinishes xs cs xs fs) e (subst (λ (xs : List ClassDef). AreFinishes given_ds xs given_ds fs) k h)
+
+pub all_given : (ds : List Draft) (given cs : List ClassDef) (r : Result (Vec Finish) Memory) → given ≡ cs → IfOk r (λ (fs : Vec Finish). AreFinishes ds given ds fs.items) → IfOk r (λ (fs : Vec Finish). AreFinishes ds cs ds fs.items)
+all_given ds given cs (Ok fs) e h = subst (λ (xs : List ClassDef). AreFinishes ds xs ds fs.items) e h
+all_given ds given cs (Err Memory) e h = tt
 
 pub finishes_length : (ds : List Draft) (cs : List ClassDef) (xs : List Draft) (fs : List Finish) → AreFinishes ds cs xs fs → length xs ≡ length fs
 finishes_length ds cs [] [] h = refl

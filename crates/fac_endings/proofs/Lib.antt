@@ -5,6 +5,7 @@ pub mod ChainLemmas
 pub mod FaultLemmas
 pub mod KeyLemmas
 pub mod FinishLemmas
+pub mod LineLemmas
 pub mod CycleLemmas
 pub mod SlotChains
 pub mod EndedClasses

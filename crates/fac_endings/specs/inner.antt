@@ -4,4 +4,5 @@ pub mod Behind
 pub mod Cycles
 pub mod MethodKeys
 pub mod Finishes
+pub mod Lines
 pub mod Ready

@@ -6,13 +6,14 @@ ghost use Rattle.fac_endings.specs.LastRefusals.{class_faults, members_faults, n
 ghost use Rattle.fac_endings.specs.inner.Chains.{slots_of};
 ghost use Rattle.fac_endings.specs.inner.Behind.{are_behind, is_behind};
 ghost use Rattle.fac_endings.specs.inner.Cycles.{AreCycles};
+ghost use Rattle.fac_endings.specs.inner.Lines.{AreLines};
 ghost use Rattle.fac_lang.specs.Whole.{reaches};
 
 use crate::draft::{Draft, Named, NewClass, Table};
 use crate::lookup::{class_at, is_tuple_class};
 use crate::parents::bearers_of;
 use crate::slot_faults::refuse_slots;
-use fac_base::{Memory, Place};
+use fac_base::{List, Memory, Place};
 use fac_lang::ClassDef;
 use fac_source::{NameFault, NameKind, Ref, Tok, refuse, refuse_if};
 use std::alloc::Global;
@@ -106,16 +107,19 @@ fn refuse_heir(
     alloc: Global,
     first: &mut Option<NameFault>,
     table: Table<'_>,
+    lines: &[Option<List<u32>>],
     class: u32,
     parent: &Ref,
     slots: &[Tok],
 ) -> Result<(), Memory>
+    requires lines { AreLines table.classes.now (length table.classes.now) lines.now }
+    requires there { class < length table.classes.now }
     ensures { OnOk result (first.new ≡ fold sooner first.old (tuple_faults table.entry.drafts.now table.entry.classes.now class (Some parent.now) slots.now)) }
 {
     if is_behind(first, parent.tok.place) && are_behind(first, slots) {
         return Ok(());
     }
-    match bearers_of(alloc, table.classes, class, slots.len() as u64)? {
+    match bearers_of(alloc, table.classes, lines, class, slots.len() as u64)? {
         Some(bearers) => refuse_tuple(alloc, first, table, bearers.as_slice(), parent, slots),
         None => refuse(alloc, first, NameKind::BadParent, &parent.tok),
     }
@@ -126,14 +130,17 @@ fn refuse_named(
     alloc: Global,
     first: &mut Option<NameFault>,
     table: Table<'_>,
+    lines: &[Option<List<u32>>],
     class: u32,
     names: &Named,
 ) -> Result<(), Memory>
+    requires lines { AreLines table.classes.now (length table.classes.now) lines.now }
+    requires there { class < length table.classes.now }
     ensures { OnOk result (first.new ≡ fold sooner first.old (named_faults table.entry.drafts.now table.entry.classes.now class names.now)) }
 {
     match names {
         Named::Tuple(Some(parent), slots) => {
-            refuse_heir(alloc, first, table, class, parent, slots.as_slice())
+            refuse_heir(alloc, first, table, lines, class, parent, slots.as_slice())
         }
         Named::Tuple(None, slots) => {
             refuse_slots(alloc, first, table.classes, &[], slots.as_slice())
@@ -148,14 +155,17 @@ fn refuse_class(
     alloc: Global,
     first: &mut Option<NameFault>,
     table: Table<'_>,
+    lines: &[Option<List<u32>>],
     number: u32,
     is_cycle: bool,
     class: &NewClass,
 ) -> Result<(), Memory>
+    requires lines { AreLines table.classes.now (length table.classes.now) lines.now }
+    requires there { number < length table.classes.now }
     ensures { OnOk result (first.new ≡ fold sooner first.old (fault_if is_cycle Cycle class.now.tok ++ named_faults table.entry.drafts.now table.entry.classes.now number class.now.names)) }
 {
     refuse_if(alloc, first, is_cycle, NameKind::Cycle, &class.tok)?;
-    refuse_named(alloc, first, table, number, &class.names)
+    refuse_named(alloc, first, table, lines, number, &class.names)
 }
 
 // Whether a class reaches itself, by the flags of all classes.
@@ -176,10 +186,12 @@ pub fn refuse_classes(
     first: &mut Option<NameFault>,
     table: Table<'_>,
     cycles: &[bool],
+    lines: &[Option<List<u32>>],
     old: u32,
     new: &[NewClass],
 ) -> Result<(), Memory>
     requires cycles { AreCycles table.classes.now cycles.now }
+    requires lines { AreLines table.classes.now (length table.classes.now) lines.now }
     requires all { old + length new.now ≡ length table.classes.now }
     requires few { length table.classes.now < 2 ^ 32 }
     ensures { OnOk result (first.new ≡ fold sooner first.old (class_faults table.entry.drafts.now table.entry.classes.now old new.now)) }
@@ -187,7 +199,7 @@ pub fn refuse_classes(
     let mut number = old;
     for class in new {
         let is_cycle = is_cycle(table.classes, cycles, number);
-        refuse_class(alloc, first, table, number, is_cycle, class)?;
+        refuse_class(alloc, first, table, lines, number, is_cycle, class)?;
         number += 1;
     }
     Ok(())

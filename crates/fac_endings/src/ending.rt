@@ -16,6 +16,7 @@ use crate::effects::no_effect;
 use crate::finishing::finished_words;
 use crate::gathered::Gathered;
 use crate::graph::cycles_of;
+use crate::lines::lines_of;
 use crate::word_faults::refuse_words;
 use fac_base::{List, Memory, Name, Place, Text};
 use fac_lang::{ClassDef, Item, Lit, Phrase, Program, Sort, WordDef};
@@ -36,7 +37,16 @@ fn refuse_last(
 {
     refuse_words(alloc, first, table)?;
     let cycles = cycles_of(alloc, table.classes)?;
-    refuse_classes(alloc, first, table, cycles.as_slice(), old, new)
+    let lines = lines_of(alloc, table.classes)?;
+    refuse_classes(
+        alloc,
+        first,
+        table,
+        cycles.as_slice(),
+        lines.as_slice(),
+        old,
+        new,
+    )
 }
 
 // All classes, and the first refusal of the program.

@@ -1,14 +1,16 @@
 //! Words as they are at the end of the program.
-ghost use Rattle.std.specs.Prelude.{◌≡◌, ◌++◌, ◌∷◌, [], length, map, Some, IfOk, OnOk};
+ghost use Rattle.std.specs.Prelude.{◌≡◌, ◌<◌, ◌++◌, ◌∷◌, [], length, map, Some, IfOk, OnOk};
 ghost use Rattle.fac_lang.specs.Classes.{slots_within};
 ghost use Rattle.fac_lang.specs.Whole.{plain_effect};
 ghost use Rattle.fac_endings.specs.ClassTable.{class_at, word_at};
 ghost use Rattle.fac_source.specs.Toks.{number};
 ghost use Rattle.fac_endings.specs.FinishedWords.{as_method, effect_of_word, finished, with_maker};
-ghost use Rattle.fac_endings.specs.inner.Finishes.{AreFinishes, AreSlots, FinishesBy, finished_with, line, slots_listed, with_finish};
+ghost use Rattle.fac_endings.specs.inner.Finishes.{AreFinishes, AreSlots, AreSlotsSoFar, FinishesBy, finished_with, line, slots_above, slots_listed, with_finish};
+ghost use Rattle.fac_endings.specs.inner.Lines.{AreSettled};
 
 use crate::draft::{Draft, Late, Table};
 use crate::effects::{no_effect, one_output};
+use crate::lines::{is_settled, settled};
 use crate::lookup::{class_at, number_of, parent_of, slots_at, word_at};
 use fac_base::{Boxed, Duplicate, Effect, List, Memory, Queue, Text};
 use fac_lang::{ClassDef, Sort, WordDef};
@@ -43,8 +45,8 @@ fn add_texts(alloc: Global, texts: &mut List<Text>, more: &[Text]) -> Result<(),
     Ok(())
 }
 
-// All slots of a tuple class, its parents' first.
-fn slots_of(alloc: Global, classes: &[ClassDef], class: u32) -> Result<List<Text>, Memory>
+// All slots of a class, its parents' first, by a climb.
+fn climbed_slots(alloc: Global, classes: &[ClassDef], class: u32) -> Result<List<Text>, Memory>
     ensures { IfOk result (λ slots. slots ≡ slots_within (length classes.now) classes.now class) }
 {
     let mut line = line_of(alloc, classes, class)?;
@@ -55,13 +57,71 @@ fn slots_of(alloc: Global, classes: &[ClassDef], class: u32) -> Result<List<Text
     Ok(slots)
 }
 
+// All slots of a class, by the table of them.
+fn slots_listed(slots: &[List<Text>], class: u32) -> &[Text]
+    ensures { result.now ≡ slots_listed slots.now class }
+{
+    match slots.get(class as usize) {
+        Some(found) => found.as_slice(),
+        None => &[],
+    }
+}
+
+// The slots of a parent, by the table of the classes before its heir.
+fn slots_above(slots: &[List<Text>], parent: Option<u32>) -> &[Text]
+    ensures { result.now ≡ slots_above slots.now parent }
+{
+    match parent {
+        Some(class) => slots_listed(slots, class),
+        None => &[],
+    }
+}
+
+// Copies of texts, and of others behind them.
+fn both_texts(alloc: Global, above: &[Text], own: &[Text]) -> Result<List<Text>, Memory>
+    ensures { IfOk result (λ slots. slots ≡ above.now ++ own.now) }
+{
+    let mut slots = List::new(alloc);
+    add_texts(alloc, &mut slots, above)?;
+    add_texts(alloc, &mut slots, own)?;
+    Ok(slots)
+}
+
+// All slots of the next class of a table.
+fn next_slots(
+    alloc: Global,
+    classes: &[ClassDef],
+    flags: &[bool],
+    slots: &[List<Text>],
+    class: u32,
+) -> Result<List<Text>, Memory>
+    requires flags { AreSettled classes.now (length classes.now) flags.now }
+    requires slots { AreSlotsSoFar classes.now class slots.now }
+    requires there { class < length classes.now }
+    ensures { IfOk result (λ slots. slots ≡ slots_within (length classes.now) classes.now class) }
+{
+    if is_settled(flags, class) {
+        let above = slots_above(slots, parent_of(classes, class));
+        return both_texts(alloc, above, slots_at(classes, class));
+    }
+    climbed_slots(alloc, classes, class)
+}
+
 /// All slots of each class.
 pub fn all_slots(alloc: Global, classes: &List<ClassDef>) -> Result<List<List<Text>>, Memory>
     ensures { IfOk result (AreSlots classes.now) }
 {
     let mut table = List::new(alloc);
-    for class in 0..classes.len() {
-        let slots = slots_of(alloc, classes.as_slice(), class)?;
+    let count = classes.len();
+    let flags = settled(alloc, classes.as_slice())?;
+    for class in 0..count {
+        let slots = next_slots(
+            alloc,
+            classes.as_slice(),
+            flags.as_slice(),
+            table.as_slice(),
+            class,
+        )?;
         table.push(slots)?;
     }
     Ok(table)
@@ -105,16 +165,6 @@ fn finish_method(
             effect: effect_at(alloc, drafts, generic)?,
         }),
         None => Ok(Finish::Nothing),
-    }
-}
-
-// All slots of a class, by the table of them.
-fn slots_listed(slots: &[List<Text>], class: u32) -> &[Text]
-    ensures { result.now ≡ slots_listed slots.now class }
-{
-    match slots.get(class as usize) {
-        Some(found) => found.as_slice(),
-        None => &[],
     }
 }
 
@@ -259,6 +309,22 @@ fn words_with(
     Ok(words)
 }
 
+// What is settled of all words, by a table of slots that is given back then.
+fn all_finishes(
+    alloc: Global,
+    drafts: &[Draft],
+    classes: &List<ClassDef>,
+) -> Result<Vec<Finish>, Memory>
+    ensures { IfOk result (λ finishes. AreFinishes drafts.now classes.now drafts.now finishes.items) }
+{
+    let slots = all_slots(alloc, classes)?;
+    let table = Table {
+        drafts,
+        classes: classes.as_slice(),
+    };
+    finishes_of(alloc, table, slots.as_slice())
+}
+
 /// The words as they are at the end.
 pub fn finished_words(
     alloc: Global,
@@ -267,11 +333,6 @@ pub fn finished_words(
 ) -> Result<List<WordDef>, Memory>
     ensures { IfOk result (λ words. words ≡ map (finished drafts.items classes.now) drafts.items) }
 {
-    let slots = all_slots(alloc, classes)?;
-    let table = Table {
-        drafts: drafts.as_slice(),
-        classes: classes.as_slice(),
-    };
-    let finishes = finishes_of(alloc, table, slots.as_slice())?;
+    let finishes = all_finishes(alloc, drafts.as_slice(), classes)?;
     words_with(alloc, drafts, finishes)
 }

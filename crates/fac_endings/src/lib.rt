@@ -9,6 +9,7 @@ mod ending;
 mod finishing;
 mod gathered;
 mod graph;
+mod lines;
 mod lookup;
 mod methods;
 mod parents;

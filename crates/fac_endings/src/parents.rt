@@ -1,12 +1,14 @@
 //! The classes whose slots a class has by its parents.
-ghost use Rattle.std.specs.Prelude.{◌≡◌, ◌≤◌, ◌+◌, ◌++◌, length, IfOk, OnOk};
+ghost use Rattle.std.specs.Prelude.{◌≡◌, ◌<◌, ◌≤◌, ◌+◌, ◌++◌, length, nat_lt, IfOk, OnOk};
 ghost use Rattle.fac_endings.specs.ClassTable.{slots_at};
 ghost use Rattle.fac_endings.specs.LastRefusals.{most_slots};
 ghost use Rattle.fac_endings.specs.inner.Chains.{Bears, Climbs, Meets, met_with, next_in, slots_of};
+ghost use Rattle.fac_endings.specs.inner.Lines.{AreLines, Line};
 
+use crate::lines::line_at;
 use crate::lookup::{parent_of, slots_at};
-use fac_base::Memory;
 use fac_base::limits::MOST_SLOTS;
+use fac_base::{List, Memory};
 use fac_lang::ClassDef;
 use std::alloc::Global;
 
@@ -84,9 +86,8 @@ fn climb(classes: &[ClassDef], met: &mut Vec<bool>, chain: &mut Chain) -> Result
     Ok(())
 }
 
-/// The parents from which a class has slots, the nearest first, each once. None where the slots are too many, with those that it has of its
-/// own, which are so many.
-pub fn bearers_of(
+// The parents of a class that has slots of its own, which are so many, by a climb. None where the slots are too many.
+fn climbed(
     alloc: Global,
     classes: &[ClassDef],
     class: u32,
@@ -107,4 +108,66 @@ pub fn bearers_of(
         return Ok(None);
     }
     Ok(Some(bearers))
+}
+
+// Whether the slots of some classes and so many more are too many.
+fn are_too_many(classes: &[ClassDef], bearers: &[u32], own: u64) -> bool
+    ensures { result ≡ nat_lt most_slots (own + length (slots_of classes.now bearers.now)) }
+{
+    let mut count = own;
+    for bearer in bearers {
+        if count > MOST_SLOTS {
+            return true;
+        }
+        count += slots_at(classes, *bearer).len() as u64;
+    }
+    count > MOST_SLOTS
+}
+
+// A copy of numbers.
+fn copied(alloc: Global, numbers: &[u32]) -> Result<Vec<u32>, Memory>
+    ensures { IfOk result (λ copy. copy.items ≡ numbers.now) }
+{
+    let mut copy = Vec::new(alloc);
+    for number in numbers {
+        copy.push(*number)?;
+    }
+    Ok(copy)
+}
+
+// The parents of a class by its line.
+fn by_line(
+    alloc: Global,
+    classes: &[ClassDef],
+    line: &[u32],
+    class: u32,
+    own: u64,
+) -> Result<Option<Vec<u32>>, Memory>
+    requires line { Line classes.now class line.now }
+    requires there { class < length classes.now }
+    ensures { IfOk result (λ bearers. Bears classes.now class own bearers) }
+{
+    if are_too_many(classes, line, own) {
+        return Ok(None);
+    }
+    Ok(Some(copied(alloc, line)?))
+}
+
+/// The parents from which a class has slots, the nearest first, each once. None where the slots are too many, with those that it has of its
+/// own, which are so many.
+pub fn bearers_of(
+    alloc: Global,
+    classes: &[ClassDef],
+    lines: &[Option<List<u32>>],
+    class: u32,
+    own: u64,
+) -> Result<Option<Vec<u32>>, Memory>
+    requires lines { AreLines classes.now (length classes.now) lines.now }
+    requires there { class < length classes.now }
+    ensures { IfOk result (λ bearers. Bears classes.now class own bearers) }
+{
+    match line_at(lines, class) {
+        Some(line) => by_line(alloc, classes, line.as_slice(), class, own),
+        None => climbed(alloc, classes, class, own),
+    }
 }

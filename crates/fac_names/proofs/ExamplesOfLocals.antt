@@ -1,12 +1,12 @@
 -- Sources with locals and fries, and what they resolve to.
-use Rattle.std.specs.Prelude.{ℕ, pos, suc, List, [], ◌∷◌, false, codes}
+use Rattle.std.specs.Prelude.{ℕ, pos, suc, List, [], ◌∷◌, Some, None, false, codes}
 use Rattle.std.proofs.Common.{◌≡◌, refl}
 use Rattle.fac_lang.specs.Phrases.{int, end, lit, lit_arr, quot, word, bind, local, fry, hole}
 use Rattle.fac_lang.specs.Primitives.{built_primitive_words}
 use Rattle.fac_lang.specs.declared.program.Lit.TheVariants.{Wref as l_word}
 use Rattle.fac_source.specs.declared.token.TokKind.TheVariants.{Plain as plain_text}
 use Rattle.fac_source.specs.declared.token.Token.{Token}
-use Rattle.fac_source.specs.declared.tree.Bracket.TheVariants.{Quotation, Fry}
+use Rattle.fac_source.specs.declared.tree.Bracket.TheVariants.{Quotation, Array, Fry}
 use Rattle.fac_source.specs.declared.tree.Element.TheVariants as element
 use Rattle.fac_source.specs.declared.tree.Term.TheVariants as term
 use Rattle.fac_source.specs.FormRows.{kind_begun}
@@ -17,6 +17,8 @@ use Rattle.fac_items.specs.Written.{Tok, Node, n_locals, n_fry, n_bind, n_hole, 
 use Rattle.fac_items.specs.FromElements.{nested}
 use Rattle.fac_endings.specs.Words.{no_effect}
 use Rattle.fac_names.specs.KnownWords.{known_words}
+use Rattle.fac_names.specs.Meanings.{Words, meanings, outermost}
+use Rattle.fac_names.specs.Signs.{Sign, closes, filled, one, opens, value}
 use Rattle.fac_names.specs.WrittenInputs.{written_inputs}
 use Rattle.fac_names.proofs.WrittenSources.{at, tk, nodes, named, literal, run, resolves, known, items, made, top, array, quotation, arrays_of, yes, no}
 
@@ -97,6 +99,15 @@ spelled text t = record { place = at t; kind = plain_text text }
 fry_in_a_quotation : nested (element.OpensLocals (at 1) (spelled (codes "a") 2 ∷ []) (at 3) ∷ element.Opens Fry (at 4) ∷ element.Item (term.Hole (at 5)) ∷ element.Item (term.Name (spelled (codes "a") 6)) ∷ element.Closes Quotation (at 7) ∷ element.Closes Quotation (at 8) ∷ []) ≡
     nodes (with_locals (tk (codes "a") 2 ∷ []) (fried (n_hole (at 5) ∷ named (codes "a") 6 ∷ []) 4 ∷ []) 1 ∷ [])
 fry_in_a_quotation = refl
+
+-- where each name finds the word 7, and `call` is the word 9
+abbrev any_words : Words
+any_words = record { named = λ name. 7; calling = 9 }
+
+-- [| a | '[ _ a ] { a } @ ]
+fry_in_a_quotation_means : meanings any_words (outermost []) [] (element.OpensLocals (at 1) (spelled (codes "a") 2 ∷ []) (at 3) ∷ element.Opens Fry (at 4) ∷ element.Item (term.Hole (at 5)) ∷ element.Item (term.Name (spelled (codes "a") 6)) ∷ element.Closes Quotation (at 7) ∷ element.Opens Array (at 8) ∷ element.Item (term.Name (spelled (codes "a") 9)) ∷ element.Closes Array (at 10) ∷ element.Item (term.CalledHole (at 11)) ∷ element.Closes Quotation (at 12) ∷ []) ≡
+    opens Quotation (Some (at 1)) ∷ one (bind 0) (at 2) ∷ opens Fry (Some (at 4)) ∷ one (hole 0) (at 5) ∷ one (local 0) (at 6) ∷ filled 1 ∷ closes Fry ∷ opens Array (Some (at 8)) ∷ value (l_word 7) ∷ closes Array ∷ one (hole 0) (at 11) ∷ one (word 9) (at 11) ∷ closes Quotation ∷ []
+fry_in_a_quotation_means = refl
 
 -- ( ..r x: integer q: ( y -- z ) b -- c )
 inputs_where_they_stand : written_inputs (spelled (codes "(") 3 ∷ spelled (codes "..r") 4 ∷ spelled (codes "x:") 5 ∷ spelled (codes "integer") 6 ∷ spelled (codes "q:") 7 ∷ spelled (codes "(") 8 ∷ spelled (codes "y") 9 ∷ spelled (codes "--") 10 ∷ spelled (codes "z") 11 ∷ spelled (codes ")") 12 ∷ spelled (codes "b") 13 ∷ spelled (codes "--") 14 ∷ spelled (codes "c") 15 ∷ spelled (codes ")") 16 ∷ []) ≡

@@ -35,3 +35,4 @@ pub mod ExamplesOfCalls
 pub mod SignLemmas
 pub mod TextLemmas
 pub mod FoundNames
+pub mod MeaningLemmas

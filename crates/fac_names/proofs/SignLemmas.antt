@@ -123,7 +123,7 @@ arrays_later f k a (x ∷ xs) lt =
     arrays_later (with_array_signs f k x) (suc k) a xs (omega (arith, lt))
     ∙ ap (λ (b : Bool). cond b (elements_signs f x) (f a)) (is_other a k lt)
 
-array_at : (xs : List (List Lit)) (ls : List Lit) (all : List (List Lit)) → Longer (xs ++ ls ∷ []) all → array_signs all (length xs) ≡ elements_signs (array_signs xs) ls
+pub array_at : (xs : List (List Lit)) (ls : List Lit) (all : List (List Lit)) → Longer (xs ++ ls ∷ []) all → array_signs all (length xs) ≡ elements_signs (array_signs xs) ls
 array_at xs ls all h =
     let k = length xs + 0 in
     let here : length xs ≡ k = omega arith in

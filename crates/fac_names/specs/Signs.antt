@@ -1,6 +1,6 @@
 -- Phrases as they are written: a resolved phrase, printed again, is the elements that it was made of.
 use Rattle.std.specs.Prelude.{◌≡◌, ℕ, suc, nat_eq, List, [], ◌∷◌, ◌++◌, Option, Some, None, if◌then◌else◌}
-use Rattle.fac_lang.specs.Phrases.{Phrase, end, then as placed, Item, lit, lit_arr, wrd, quot, word, call_effect, execute_effect, next_method}
+use Rattle.fac_lang.specs.Phrases.{Phrase, end, then as placed, Item, lit, lit_arr, wrd, quot, word, fry, call_effect, execute_effect, next_method}
 use Rattle.fac_base.specs.declared.height.Height.{Height}
 use Rattle.fac_base.specs.declared.place.Place.{Place}
 use Rattle.fac_lang.specs.declared.program.Lit.{Lit}
@@ -20,11 +20,13 @@ use Rattle.fac_items.specs.FromElements.{literal_value, nested, tok}
 use Rattle.fac_items.specs.Items.{literal as element_of, word_of}
 use Rattle.fac_items.specs.Made.{made, nodes_read}
 
--- What is written: an item at its place, a value directly in an array, or a bracket. What stands directly in an array has no place.
+-- What is written: an item at its place, a value directly in an array, a bracket, or how many holes the fry has that ends here. What stands directly in an array has no
+-- place.
 pub data Sign : Type 0 where
   one : Item → Place → Sign
   value : Lit → Sign
   opens : Bracket → Option Place → Sign
+  filled : ℕ → Sign
   closes : Bracket → Sign
 
 -- Phrases and arrays, where the function has what is written in the array of each number.
@@ -39,6 +41,7 @@ abbrev mutual
 
   pub item_signs : (ℕ → List Sign) → Item → Place → List Sign
   item_signs inner (quot t) p = within Quotation (Some p) (phrase_signs inner t)
+  item_signs inner (fry t n) p = opens Fry (Some p) ∷ phrase_signs inner t ++ filled n ∷ closes Fry ∷ []
   item_signs inner (lit_arr a) p = within Array (Some p) (inner a)
   item_signs inner i p = one i p ∷ []
 

@@ -1,5 +1,6 @@
 //! Laws of names, each on the contract of a function that does nothing.
 ghost use Rattle.fac_names.specs.Laws.{FormsGrow, KnownStays};
+ghost use Rattle.fac_names.specs.Meanings.{FormsAreMeant};
 ghost use Rattle.fac_names.specs.Resolution.{ResolvedAreWhole};
 ghost use Rattle.fac_names.specs.SearchOrder.{FormsDefine, NamesAreFound, NamesKeepWords};
 ghost use Rattle.fac_names.specs.Signs.{PhrasesAreWrittenAsItems};
@@ -12,6 +13,13 @@ pub fn resolved_programs_are_whole()
 /// The phrase of items is written as the items are, with their names resolved.
 pub fn phrases_are_written_as_items()
     ensures { PhrasesAreWrittenAsItems }
+{}
+
+/// Behind forms of a file of which none is refused, the phrase of the next definition, of the next method, and of items at the top level, means its
+/// items: a name is the innermost local of its name that is bound before it, or else the word that it finds among these forms; a hole is the next one
+/// of the fry around; and in an array each name is that of a word. Items with a `cond` that reads its cases are left out.
+pub fn forms_mean_what_is_bound_or_found()
+    ensures { FormsAreMeant }
 {}
 
 /// A form, and so a later file, changes no number of what stands before it.

@@ -25,12 +25,21 @@ pub record AreSlots (cs : List ClassDef) (table : List (List (List ℕ))) : Type
   pub same_length : length table ≡ length cs
   pub each : (c : ℕ) (slots : List (List ℕ)) → slice_get table c ≡ Some slots → slots ≡ slots_within (length cs) cs c
 
+-- the same for the first classes
+pub record AreSlotsSoFar (cs : List ClassDef) (n : ℕ) (table : List (List (List ℕ))) : Type 0 where
+  pub counted : length table ≡ n
+  pub each : (c : ℕ) (slots : List (List ℕ)) → slice_get table c ≡ Some slots → slots ≡ slots_within (length cs) cs c
+
 abbrev pub or_none : Option (List (List ℕ)) → List (List ℕ)
 or_none None = []
 or_none (Some slots) = slots
 
 abbrev pub slots_listed : List (List (List ℕ)) → ℕ → List (List ℕ)
 slots_listed table c = or_none (slice_get table c)
+
+abbrev pub slots_above : List (List (List ℕ)) → Option ℕ → List (List ℕ)
+slots_above table None = []
+slots_above table (Some p) = slots_listed table p
 
 abbrev pub with_finish : Finish → WordDef → WordDef
 with_finish Nothing w = w

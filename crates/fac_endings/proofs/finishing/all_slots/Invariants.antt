@@ -1,5 +1,5 @@
-use Rattle.fac_endings.proofs.FinishLemmas.{SlotsSoFar}
+use Rattle.fac_endings.specs.inner.Finishes.{AreSlotsSoFar}
 use Rattle.fac_endings.proofs.finishing.all_slots.Given as goal
 
 abbrev pub invariant-loop-class : goal.invariant-loop-class
-invariant-loop-class l = SlotsSoFar l.classes l.class l.table
+invariant-loop-class l = AreSlotsSoFar l.classes l.class l.table

@@ -1,6 +1,6 @@
 use Rattle.std.proofs.Common.{◌≡◌, ◌++◌, length}
 use Rattle.fac_endings.specs.inner.Finishes.{slots_last}
-use Rattle.fac_endings.proofs.finishing.slots_of.Given as goal
+use Rattle.fac_endings.proofs.finishing.climbed_slots.Given as goal
 
 abbrev pub decreases-loop-bearer : goal.decreases-loop-bearer
 decreases-loop-bearer l = length l.line.items

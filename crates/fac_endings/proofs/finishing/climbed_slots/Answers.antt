@@ -1,7 +1,7 @@
 use Rattle.std.proofs.Common.{ap, sym, ◌∙◌}
 use Rattle.fac_endings.specs.inner.Finishes.{slots_last}
 use Rattle.fac_endings.proofs.FinishLemmas.{none_left, slots_line, slots_taken}
-use Rattle.fac_endings.proofs.finishing.slots_of.Goals as goal
+use Rattle.fac_endings.proofs.finishing.climbed_slots.Goals as goal
 
 pub loop-bearer-preserved : goal.loop-bearer-preserved
 loop-bearer-preserved c =

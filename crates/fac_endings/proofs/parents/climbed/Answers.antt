@@ -1,7 +1,7 @@
 use Rattle.std.proofs.Common.{List, Bool, length, subst, arith, refl}
 use Rattle.fac_endings.specs.inner.Chains.{Meets}
 use Rattle.fac_endings.proofs.ChainLemmas.{bears_none, bears_some, first_met}
-use Rattle.fac_endings.proofs.parents.bearers_of.Goals as goal
+use Rattle.fac_endings.proofs.parents.climbed.Goals as goal
 
 pub returns-then-count-gt-MOST_SLOTS : goal.returns-then-count-gt-MOST_SLOTS
 returns-then-count-gt-MOST_SLOTS c =
