@@ -85,7 +85,7 @@ fn no_pieces_have_no_results(rt: HostRuntime) -> Result<(), Fail> {
         gate: &NoGate,
     };
     let outs = map_pieces(&workers, &pieces)?;
-    assert!(rt; outs.is_empty());
+    assert!(rt; outs.as_slice().is_empty());
     Ok(())
 }
 
