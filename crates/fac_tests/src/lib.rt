@@ -5,6 +5,7 @@
 //! - `real_forms`: real files and streams move the bytes that they are given, also where the system moves few at a time or fails.
 //! - `lines`: a source in memory is cut into lines, also at the most bytes of a line and behind a read that fails.
 //! - `marks`: the checker's marks that no program of today makes.
+//! - `pieces`: work in pieces comes in the order of its list, and threads do it.
 //! - `sizes`: a value of the machine takes 16 bytes.
 //!
 //! Integers, the machine, and the tool with all that it stands on are tested by programs: `fac_number_cases`, `fac_image_cases` and
@@ -17,6 +18,8 @@ mod lines;
 mod marks;
 #[cfg(test)]
 mod memory_forms;
+#[cfg(test)]
+mod pieces;
 #[cfg(test)]
 mod real_forms;
 #[cfg(test)]
