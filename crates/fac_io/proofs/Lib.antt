@@ -1,3 +1,4 @@
 pub mod NameLemmas
 pub mod Streams
 pub mod SinkLemmas
+pub mod RealLemmas

@@ -1,12 +1,17 @@
 //! The real forms: the files of the runtime, and any reader and writer of std.
 //!
-//! The files tell no content, so what a load gives and a save leaves is trusted and not proved. The streams tell what
-//! their reader or writer tells: the runtime's own tell nothing, and those in memory all.
-ghost use Rattle.std.specs.Prelude.{◌≡◌, ◌+◌, ◌-◌, ◌^◌, ◌<◌, ◌≤◌, length, IfOk, OnOk, OnErr, None, take};
+//! Nobody tells which file a name is and what it holds, so that is trusted and not proved. What is proved is that a load gives what it read of the
+//! file that the runtime opened, all of it or that it is too long, and that a save writes its bytes to the file that the runtime made. Files and streams
+//! tell what their reader or writer tells: the runtime's own tell nothing, and those in memory all.
+ghost use Rattle.std.specs.Prelude.{◌≡◌, ◌+◌, ◌-◌, ◌^◌, ◌<◌, ◌≤◌, length, IsErr, IfOk, OnOk, OnErr, MatchResult, None, take};
 ghost use Rattle.std.specs.Io.{ReadsAtMost};
 ghost use Rattle.std.specs.Io.KnownBytes.{ReadConsumes, Appends, Keeps};
-ghost use Rattle.fac_io.specs.inner.Loading.{ReadsUpTo};
-ghost use Rattle.fac_io.specs.Told.{Grows, GrowsByPrefix};
+ghost use Rattle.fac_io.specs.Faults.{HasCause};
+ghost use Rattle.fac_io.specs.Names.{Held};
+ghost use Rattle.fac_io.specs.Told.{Stays, Grows, GrowsByPrefix, Took, sink_tells};
+ghost use Rattle.fac_io.specs.Files.{LoadAnswers, LoadAsks, LoadCounts, SaveLeaves, SaveAsks, SaveCounts};
+ghost use Rattle.fac_io.specs.Real.{ReadsUpTo, LoadsFile, SavesFile, CountsOnce};
+ghost use Rattle.fac_io.specs.inner.Loading.{LoadsOpened, SavesOpened};
 
 use crate::{Failed, Files, LoadFault, SaveFault, Sink, Source};
 use fac_base::Bytes;
@@ -143,26 +148,56 @@ fn read_up_to<R: Read>(alloc: Global, reader: &mut R, limit: u64) -> Result<Byte
     Err(LoadFault::Failed)
 }
 
+// Reads the file, if one was opened.
+fn load_opened<F: Read + Drop>(
+    alloc: Global,
+    opened: Option<F>,
+    limit: u64,
+) -> Result<Bytes, LoadFault>
+    ensures bound { IfOk result (λ bytes. length bytes ≤ limit) }
+    ensures file { LoadsOpened F.remaining opened limit result }
+{
+    match opened {
+        Some(mut file) => read_up_to(alloc, &mut file, limit),
+        None => Err(LoadFault::Failed),
+    }
+}
+
 // Opens a file and reads it.
+#[tactic(auto, using(crate::proofs::RealLemmas::loads_file))]
 fn load_file<R: rt::Files>(
     rt: &R,
     alloc: Global,
     name: &str,
     limit: u64,
 ) -> Result<Bytes, LoadFault>
-    ensures { IfOk result (λ bytes. length bytes ≤ limit) }
+    ensures bound { IfOk result (λ bytes. length bytes ≤ limit) }
+    ensures file { LoadsFile R.File.remaining limit result }
 {
-    match fs::open(rt, name) {
-        Ok(mut file) => read_up_to(alloc, &mut file, limit),
-        Err(_) => Err(LoadFault::Failed),
+    load_opened(alloc, fs::open(rt, name).ok(), limit)
+}
+
+// Writes the bytes to the file, if one was made.
+fn save_opened<F: Write + Drop>(made: Option<F>, bytes: &[u8]) -> Result<(), Failed>
+    ensures { SavesOpened F.contents made bytes.now result }
+{
+    match made {
+        Some(mut file) => match write_whole(&mut file, bytes) {
+            Ok(()) => Ok(()),
+            Err(Failed) => Err(Failed),
+        },
+        None => Err(Failed),
     }
 }
 
 // Makes a file, or empties the one that is there, and writes it.
-fn save_file<R: rt::Files>(rt: &R, name: &str, bytes: &[u8]) -> Result<(), Failed> {
-    match fs::create(rt, name) {
-        Ok(mut file) => write_whole(&mut file, bytes),
-        Err(_) => Err(Failed),
+#[tactic(auto, using(crate::proofs::RealLemmas::saved_whole))]
+fn save_file<R: rt::Files>(rt: &R, name: &str, bytes: &[u8]) -> Result<(), SaveFault>
+    ensures { SavesFile R.File.contents bytes.now result }
+{
+    match save_opened(fs::create(rt, name).ok(), bytes) {
+        Ok(()) => Ok(()),
+        Err(Failed) => Err(SaveFault::Failed),
     }
 }
 
@@ -173,7 +208,13 @@ impl<'a, R: rt::Files> Files for RealFiles<'a, R> {
 
     ghost faults = { λ f. f.faults };
 
-    fn load(&mut self, alloc: Global, name: &str, limit: u64) -> Result<Bytes, LoadFault> {
+    fn load(&mut self, alloc: Global, name: &str, limit: u64) -> Result<Bytes, LoadFault>
+        ensures answer { LoadAnswers None name.now limit result }
+        ensures held { Stays {A = Held} None None }
+        ensures asked { LoadAsks name.now None None result }
+        ensures counts { LoadCounts self.old.faults self.new.faults result }
+        ensures file { LoadsFile R.File.remaining limit result }
+    {
         match load_file(self.rt, alloc, name, limit) {
             Err(LoadFault::Failed) => {
                 self.faults = self.faults.saturating_add(1);
@@ -184,13 +225,20 @@ impl<'a, R: rt::Files> Files for RealFiles<'a, R> {
         }
     }
 
-    fn save(&mut self, _alloc: Global, name: &str, bytes: &[u8]) -> Result<(), SaveFault> {
+    fn save(&mut self, _alloc: Global, name: &str, bytes: &[u8]) -> Result<(), SaveFault>
+        ensures held { SaveLeaves name.now bytes.now None None result }
+        ensures asked { SaveAsks name.now None None result }
+        ensures counts { SaveCounts self.old.faults self.new.faults result }
+        ensures file { SavesFile R.File.contents bytes.now result }
+        ensures once { CountsOnce self.old.faults self.new.faults result }
+    {
         match save_file(self.rt, name, bytes) {
             Ok(()) => Ok(()),
-            Err(Failed) => {
+            Err(SaveFault::Failed) => {
                 self.faults = self.faults.saturating_add(1);
                 Err(SaveFault::Failed)
             }
+            Err(SaveFault::Memory) => unreachable!(),
         }
     }
 }
@@ -202,7 +250,16 @@ impl<R: Read> Source for RealSource<R> {
 
     ghost faults = { λ s. s.faults };
 
-    fn read(&mut self, buf: &mut [u8]) -> Result<usize, Failed> {
+    fn read(&mut self, buf: &mut [u8]) -> Result<usize, Failed>
+        requires { 0 < length buf.old }
+        ensures bound { ReadsAtMost result buf.new }
+        ensures bytes { ReadConsumes (R.remaining self.old.reader) (R.remaining self.new.reader) result buf.new }
+        ensures falls { MatchResult result (λ n. self.new.may_give + n ≤ self.old.may_give) (λ _. self.new.may_give ≤ self.old.may_give) }
+        ensures cause { HasCause self.old.faults self.new.faults (IsErr result) }
+        ensures no_fault { OnOk result (self.new.faults ≡ self.old.faults) }
+        ensures once { CountsOnce self.old.faults self.new.faults result }
+        ensures exact { MatchResult result (λ n. self.new.may_give + n ≡ self.old.may_give) (λ _. self.new.may_give ≡ self.old.may_give) }
+    {
         let room = buf.len().min(self.may_give as usize);
         if room == 0 {
             self.faults = self.faults.saturating_add(1);
@@ -229,7 +286,15 @@ impl<W: Write> Sink for RealSink<W> {
     ghost faults = { λ s. s.faults };
 
     #[tactic(auto, using(crate::proofs::SinkLemmas::took_whole, crate::proofs::SinkLemmas::took_front))]
-    fn write(&mut self, piece: &[u8]) -> Result<(), Failed> {
+    fn write(&mut self, piece: &[u8]) -> Result<(), Failed>
+        requires { 0 < length piece.now }
+        ensures ok { OnOk result (Grows (W.contents self.old.writer) (W.contents self.new.writer) piece.now) }
+        ensures err { OnErr result (GrowsByPrefix (W.contents self.old.writer) (W.contents self.new.writer) piece.now) }
+        ensures took { Took (sink_tells (W.contents self.old.writer) None) (sink_tells (W.contents self.new.writer) None) piece.now result }
+        ensures cause { HasCause self.old.faults self.new.faults (IsErr result) }
+        ensures no_fault { OnOk result (self.new.faults ≡ self.old.faults) }
+        ensures once { CountsOnce self.old.faults self.new.faults result }
+    {
         match write_whole(&mut self.writer, piece) {
             Ok(()) => Ok(()),
             Err(Failed) => {

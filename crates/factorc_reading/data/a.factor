@@ -1,0 +1,1 @@
+USING: io prettyprint ; readln print readln .
