@@ -6,6 +6,7 @@ pub mod FaultLemmas
 pub mod KeyLemmas
 pub mod FinishLemmas
 pub mod CycleLemmas
+pub mod EarlierClasses
 pub mod SlotChains
 pub mod EndedClasses
 pub mod EndedWords

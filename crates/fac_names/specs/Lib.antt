@@ -8,5 +8,6 @@ pub mod TakenForms
 pub mod TakenTexts
 pub mod SearchOrder
 pub mod Signs
+pub mod KnownPrograms
 pub mod Laws
 pub mod inner

@@ -39,6 +39,10 @@ as_past d = record { word = record d { sort = past_sort d.sort }; late = settled
 abbrev pub as_earlier : Draft → Draft
 as_earlier d = as_past d.word
 
+-- the words of a program, with its phrase as an earlier one
+abbrev pub earlier_words : Program → List WordDef
+earlier_words P = changed (λ (d : WordDef). record d { sort = past_sort d.sort }) P.top P.words
+
 abbrev pub drafts_of : Program → List Draft
 drafts_of P = changed as_earlier P.top (map (λ (d : WordDef). record { word = d; late = settled }) P.words)
 
