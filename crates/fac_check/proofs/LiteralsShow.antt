@@ -12,7 +12,7 @@ use Rattle.fac_lang.specs.declared.program.Sort.{Sort}
 use Rattle.fac_lang.specs.declared.program.Sort.TheVariants.{Body as body, Past as past, Method as method}
 use Rattle.fac_lang.specs.Phrases.{Literal, Phrase, end, then, Item, lit_arr, quot, fry}
 use Rattle.fac_lang.specs.Substitution.{of_method, of_method_item}
-use Rattle.fac_lang.proofs.SourcePrograms.{source_of_whole}
+use Rattle.fac_lang.proofs.SourcePrograms.{session_of_whole}
 use Rattle.fac_lang.specs.Meaning.{of_method_if, array_method, nowhere}
 use Rattle.fac_lang.specs.Whole.{IsWhole, each_item, each_inner, has_hole, item_has_hole, has_holes, has_its_holes, word_phrases, quotations, joined}
 use Rattle.fac_locals.specs.declared.cell.Cell.{Cell}
@@ -166,4 +166,4 @@ module _ (P : Program) (whole : IsWhole P) where
   literal_shows k = literal_shows_at k k (literals P) (word_literals_show 0 P.words words_pass)
 
 pub shows_cells : (P : Program) → IsWhole P → ShowsCells P
-shows_cells P whole = shows_by P (source_of_whole P whole) (λ k. literal_shows P whole k)
+shows_cells P whole = shows_by P (session_of_whole P whole) (λ k. literal_shows P whole k)

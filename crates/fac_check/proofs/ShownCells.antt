@@ -3,7 +3,7 @@ use Rattle.std.proofs.Common.{◌≡◌, ◌≤◌, ℕ, zero, suc, List, [], �
 use Rattle.std.specs.Prelude.{slice_get, option_map}
 use Rattle.std.proofs.Math.Nat.{le-max_left, le-max_right, max-le}
 use Rattle.fac_lang.specs.Phrases.{Phrase, Item, known, Mark}
-use Rattle.fac_lang.proofs.SourcePrograms.{IsSourceProgram}
+use Rattle.fac_lang.proofs.SourcePrograms.{IsSessionProgram}
 use Rattle.fac_lang.specs.Meaning.{nowhere}
 use Rattle.fac_lang.specs.declared.program.Program.{Program}
 use Rattle.fac_locals.specs.declared.cell.Cell.{Cell}
@@ -122,7 +122,7 @@ module _ (P : Program) (cs : List Cell) (t : Phrase) (shows : ShowsAll cs t) (ru
       omega (arith, most, least)
 
 -- Where each literal of a whole program shows its cells, its phrases do.
-pub shows_by : (P : Program) → IsSourceProgram P → ((k : ℕ) → let l : Quoted = literal_numbered P k in ShowsAll (inner_cells l.cells l.item) (quoted_phrase l)) → ShowsCells P
+pub shows_by : (P : Program) → IsSessionProgram P → ((k : ℕ) → let l : Quoted = literal_numbered P k in ShowsAll (inner_cells l.cells l.item) (quoted_phrase l)) → ShowsCells P
 shows_by P b shows = record {
   apart = λ k ms ns e f h. let l : Quoted = literal_numbered P k in marks_apart (inner_cells l.cells l.item) (quoted_phrase l) (shows k) ms ns e f h;
   marked = λ k ms e. let l : Quoted = literal_numbered P k in marks_are P (inner_cells l.cells l.item) (quoted_phrase l) (shows k) (literal_runs P b k) ms e;

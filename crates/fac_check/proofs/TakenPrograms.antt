@@ -16,7 +16,8 @@ use Rattle.fac_base.specs.Signatures.{Signature, signature, Inputs, no_inputs, v
 use Rattle.fac_base.specs.Effects.{effect_height, inputs_count}
 use Rattle.fac_lang.specs.Primitives.{built_count}
 use Rattle.fac_lang.specs.Substitution.{of_method}
-use Rattle.fac_lang.proofs.SourcePrograms.{IsSourceProgram, source_of_whole}
+use Rattle.fac_lang.proofs.SourcePrograms.{IsSessionProgram, session_of_whole}
+use Rattle.fac_lang.proofs.SessionWords.{may_name_below}
 use Rattle.fac_lang.specs.Whole.{IsWhole, name_count, inputs_name_count}
 use Rattle.fac_locals.specs.declared.cell.Cell.{Cell}
 use Rattle.fac_locals.specs.Cells.{cells_behind, inner_cells}
@@ -56,13 +57,13 @@ module _ (P : Program) (count : ℕ) (numbered : (cells : List Cell) (at : Liter
   taken_item cells at (lit yes) j l c h = rw c refl
   taken_item cells at (lit no) j l c h = rw c refl
   taken_item cells at (lit (str cs)) j l c h = rw c refl
-  taken_item cells at (lit (wrd w)) j l c h = rw c (below_is w P.top h)
+  taken_item cells at (lit (wrd w)) j l c h = rw c (may_name_below P w h)
   taken_item cells at (quot t) j l c h = rw c.1 (numbered cells at (quot t) c.0 l c.2)
   taken_item cells at (fry t n) j l c h = rw c.1 (numbered cells at (fry t n) c.0 l c.2)
   taken_item cells at (bind x) j l c h = rw c refl
   taken_item cells at (local x) j l c h = rw c.1 refl
   taken_item cells at (hole k) j l c h = rw c.1 refl
-  taken_item cells at (word w) j l c h = rw c (below_is w P.top h)
+  taken_item cells at (word w) j l c h = rw c (may_name_below P w h)
   taken_item cells at (lit_arr a) j l c h = rw c refl
   taken_item cells at (call_effect f) j l c h = rw c refl
   taken_item cells at (execute_effect f) j l c h = rw c refl
@@ -79,7 +80,7 @@ module _ (P : Program) (count : ℕ) (numbered : (cells : List Cell) (at : Liter
   taken_sort w (prim k) o l c h b = rw c b
   taken_sort w (body t) o l c h b = rw c.1 (taken_phrase [] (first_of_word w) t c.0 l c.2 h)
   taken_sort w (method k g t) o l c h b = rw c.1 (taken_phrase [] (first_of_word w) (of_method w t) c.0 l c.2 h)
-  taken_sort w (past t) o l c h b = absurd h
+  taken_sort w (past t) o l c h b = rw c.1 (taken_phrase [] (first_of_word w) t c.0 l c.2 h)
   taken_sort w _ o l c h b = rw c refl
 
 -- no more inputs than names
@@ -98,7 +99,7 @@ one_longer (w ∷ ws) d = ap suc (one_longer ws d)
 longer : (ws : List WordDef) (d : WordDef) → nat_lt (length ws) (length (ws ++ d ∷ [])) ≡ true
 longer ws d = (let e = one_longer ws d in below_is (length ws) (length (ws ++ d ∷ [])) (omega (arith, e)))
 
-module _ (P C : Program) (templates : List Template) (closes : Closes P C templates) (built : IsSourceProgram P) (whole : IsWhole P) where
+module _ (P C : Program) (templates : List Template) (closes : Closes P C templates) (built : IsSessionProgram P) (whole : IsWhole P) where
   numbered : (cells : List Cell) (at : Literal) (i : Item) (k : ℕ) → at.word < length P.words → IsMadeBy P cells at i k → nat_lt k (length templates) ≡ true
   numbered = made_there P C templates closes
 
@@ -121,7 +122,7 @@ module _ (P C : Program) (templates : List Template) (closes : Closes P C templa
       (both _ _ (all_there (takes_word P.top (length templates)) C.words taken_word) (all_there (takes_template P.top (length templates)) templates taken_template)))
 
 pub taken_program : (P C : Program) (templates : List Template) → Closes P C templates → IsWhole P → takes_all C templates ≡ true
-taken_program P C templates closes whole = all_taken P C templates closes (source_of_whole P whole) whole
+taken_program P C templates closes whole = all_taken P C templates closes (session_of_whole P whole) whole
 
 -- what the test of a whole program says of its parts
 module _ (C : Program) (templates : List Template) (taken : takes_all C templates ≡ true) where

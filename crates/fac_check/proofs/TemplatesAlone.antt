@@ -6,7 +6,7 @@ use Rattle.fac_base.specs.declared.height.Height.{Height}
 use Rattle.fac_base.specs.declared.place.Place.{Place}
 use Rattle.fac_lang.specs.declared.phrase.Template.{Template}
 use Rattle.fac_lang.specs.declared.program.Program.{Program}
-use Rattle.fac_lang.proofs.SourcePrograms.{source_of_whole}
+use Rattle.fac_lang.proofs.SourcePrograms.{session_of_whole}
 use Rattle.fac_lang.specs.Whole.{IsWhole}
 use Rattle.fac_lang.specs.Phrases.{Literal, Phrase, end, then, Item, lit, lit_arr, quot, word, bind, local, fry, hole, call_effect, execute_effect, next_method, made, next_after, held, known, Value, Mark, any}
 use Rattle.fac_locals.specs.declared.cell.Cell.{Cell}
@@ -112,7 +112,7 @@ module _ (P : Program) (whole : IsWhole P) where
       let l : Quoted = literal_numbered P q in
       let cells = inner_cells l.cells l.item in
       ap (template_phrase P q) (sym (items_unknown n vs e))
-      ∙ sym (filled_forgotten P (item_for cells (map held vs)) (item_for cells (unknown_items vs)) (inner_phrase l.item) (literal_runs P (source_of_whole P whole) q) (λ c. found_forgotten (cell_item c) (cell_forgotten c) vs (cell_number cells c)))
+      ∙ sym (filled_forgotten P (item_for cells (map held vs)) (item_for cells (unknown_items vs)) (inner_phrase l.item) (literal_runs P (session_of_whole P whole) q) (λ c. found_forgotten (cell_item c) (cell_forgotten c) vs (cell_number cells c)))
 
 itself : (n : ℕ) → nat_eq n n ≡ true
 itself n = grind arith

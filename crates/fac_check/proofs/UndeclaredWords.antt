@@ -121,7 +121,7 @@ module _ (P : Program) where
 
   -- the words that a phrase names are inline words
   mutual
-    words_inline : (t : Phrase) (v : ℕ) → IsOneOf v (inline_words P t) → InlineWord P v
+    pub words_inline : (t : Phrase) (v : ℕ) → IsOneOf v (inline_words P t) → InlineWord P v
     words_inline end v e = absurd cc
     words_inline (then i p t) v e = elim (in_either v (item_words P i) (inline_words P t) e) [ inl h ↦ item_inline i v h | inr h ↦ words_inline t v h ]
 
@@ -185,7 +185,7 @@ module _ (P : Program) where
   edges_count w [] = refl
   edges_count w (d ∷ ds) = ap suc (edges_count (suc w) ds)
 
-  abbrev edges : List (List ℕ)
+  abbrev pub edges : List (List ℕ)
   edges = edges_from P 0 P.words
 
   phrase_edges_named : (w : ℕ) (r : Bool) (t : Phrase) (v : ℕ) → IsOneOf v (phrase_edges P w r t) → IsOneOf v (inline_words P t)
@@ -207,7 +207,7 @@ module _ (P : Program) where
   sort_edges_named w i r (putter x) v e = absurd cc
   sort_edges_named w i r generic v e = absurd cc
 
-  led_named : (u v : ℕ) (o : Option WordDef) → slice_get P.words u ≡ o → IsOneOf v (successors edges u) → IsOneOf v (body_words P o)
+  pub led_named : (u v : ℕ) (o : Option WordDef) → slice_get P.words u ≡ o → IsOneOf v (successors edges u) → IsOneOf v (body_words P o)
   led_named u v None is e = absurd (let none : IsOneOf v [] = subst (λ (vs : List ℕ). IsOneOf v vs) (edges_none 0 u P.words is) e in cc)
   led_named u v (Some d) is e = sort_edges_named u d.inline d.recursive d.sort v (subst (λ (vs : List ℕ). IsOneOf v vs) (edges_at 0 u u P.words d (omega arith) is) e)
 
@@ -225,7 +225,7 @@ module _ (P : Program) where
   phrase_edges_other u true t v other e = without_keeps P u (inline_words P t) v other e
   phrase_edges_other u false t v other e = e
 
-  inline_edges_are : (u : ℕ) (f : InlineWord P u) → successors edges u ≡ phrase_edges P u f.def.recursive f.phrase
+  pub inline_edges_are : (u : ℕ) (f : InlineWord P u) → successors edges u ≡ phrase_edges P u f.def.recursive f.phrase
   inline_edges_are u f = edges_at 0 u u P.words f.def (omega arith) f.at ∙ ap (sort_edges P u f.def.inline f.def.recursive) f.sort_is ∙ ap (λ (b : Bool). inline_edges P u b f.def.recursive f.phrase) f.inline_is
 
   inline_named : (u v : ℕ) (f : InlineWord P u) → IsOneOf v (body_words P (slice_get P.words u)) → IsOneOf v (inline_words P f.phrase)
@@ -250,7 +250,7 @@ module _ (P : Program) where
   nowhere w v is (and_edge u p e) = nowhere w u is p
 
   -- this is whether a word leads back to itself
-  abbrev Tells : ℕ → Bool → Type 0
+  abbrev pub Tells : ℕ → Bool → Type 0
   Tells w b = (b ≡ true) ↔ LeadsTo edges w w
 
   no_start : (w : ℕ) (b : Bool) → successors edges w ≡ [] → Tells w b → b ≡ false
@@ -279,7 +279,7 @@ module _ (P : Program) where
   decides_sort w i r (putter x) b is h = no_start w b is h
   decides_sort w i r generic b is h = no_start w b is h
 
-  decides_word : (w : ℕ) (d : WordDef) (b : Bool) → slice_get P.words w ≡ Some d → Tells w b → b ≡ undeclared P w d
+  pub decides_word : (w : ℕ) (d : WordDef) (b : Bool) → slice_get P.words w ≡ Some d → Tells w b → b ≡ undeclared P w d
   decides_word w d b at h = decides_sort w d.inline d.recursive d.sort b (edges_at 0 w w P.words d (omega arith) at) h
 
   flags_from : (w : ℕ) (ds : List WordDef) (flags : List Bool) → length flags ≡ length ds → ((k u : ℕ) (b : Bool) (d : WordDef) → u ≡ w + k → slice_get flags k ≡ Some b → slice_get ds k ≡ Some d → b ≡ undeclared P u d) → flags ≡ undeclared_from P w ds

@@ -13,7 +13,7 @@ use Rattle.fac_base.specs.Signatures.{Signature}
 use Rattle.fac_base.specs.Effects.{effect_height}
 use Rattle.fac_lang.specs.PrimitiveWords.{outputs_of, written_effect}
 use Rattle.fac_lang.specs.Primitives.{Primitive, prim_numbered}
-use Rattle.fac_lang.proofs.SourcePrograms.{IsSourceProgram}
+use Rattle.fac_lang.proofs.SourcePrograms.{IsSessionProgram}
 use Rattle.fac_locals.specs.Closed.{Closes, ClosesWord}
 use Rattle.fac_locals.proofs.Lookups.{word_open_none}
 use Rattle.fac_abs.specs.RowVariables.{Row, is_row}
@@ -38,7 +38,7 @@ itself : (n : ℕ) → nat_eq n n ≡ true
 itself n = grind arith
 
 -- the top-level phrase is never an item
-pub top_item : (P : Program) → IsSourceProgram P → (own : Option ℕ) (b : Option Row) (ms : List Mark) → breaks NotKnown ≡ word_doing P own P.top (slice_get P.words P.top) b ms
+pub top_item : (P : Program) → IsSessionProgram P → (own : Option ℕ) (b : Option Row) (ms : List Mark) → breaks NotKnown ≡ word_doing P own P.top (slice_get P.words P.top) b ms
 top_item P built own b ms =
     let d = built.last_word in
     let at : slice_get P.words P.top ≡ Some d = ap (λ (k : ℕ). slice_get P.words k) built.top_is ∙ ap (λ (ws : List WordDef). slice_get ws (length built.words)) built.words_are ∙ last_at built.words d in

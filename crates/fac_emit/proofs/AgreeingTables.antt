@@ -3,7 +3,7 @@ use Rattle.std.proofs.Common.{ℕ, List, Option}
 use Rattle.fac_base.specs.declared.height.Height.{Height}
 use Rattle.fac_lang.specs.declared.program.Program.{Program}
 use Rattle.fac_lang.specs.Phrases.{Callable}
-use Rattle.fac_lang.proofs.SourcePrograms.{source_of_whole}
+use Rattle.fac_lang.proofs.SourcePrograms.{session_of_whole}
 use Rattle.fac_lang.specs.Whole.{IsWhole}
 use Rattle.fac_locals.specs.Closed.{Closes}
 use Rattle.fac_locals.specs.declared.closing.Closed.{Closed}
@@ -19,7 +19,7 @@ pub agrees :
     (P : Program) (C : Closed) (heights : List (Option Height)) (M : Image) (callable_height : Callable → Option Height) →
     IsWhole P → Closes P C.program C.templates → IsPlain C heights M → HasHeights P C heights callable_height → Agrees P callable_height M
 agrees P C heights M callable_height whole closes is_plain effects =
-    let b = source_of_whole P whole in
+    let b = session_of_whole P whole in
     let made = arrays_made P C heights M b closes is_plain in
     record {
       named = image_named P C heights M b closes is_plain;

@@ -11,7 +11,7 @@ use Rattle.fac_lang.specs.declared.core_table.CoreWord.{CoreWord}
 use Rattle.fac_lang.specs.declared.core_table.CoreWord.TheVariants.{Call as c_call, Dip as c_dip, If as c_if, Execute as c_execute, Boa as c_boa, Cond as c_cond}
 use Rattle.fac_lang.specs.declared.program.Sort.TheVariants.{Prim as prim, Core as core, Body as body, Method as method}
 use Rattle.fac_lang.specs.Phrases.{int, yes, no, str, wrd, Phrase, end, then, Item, lit, lit_arr, word, made}
-use Rattle.fac_lang.proofs.SourcePrograms.{IsSourceProgram, IsSourceSort, AreSourceWords}
+use Rattle.fac_lang.proofs.SourcePrograms.{IsSessionProgram, IsSortOf, AreWordsOf, may_name}
 use Rattle.fac_lang.specs.Primitives.{is_built_primitive}
 use Rattle.fac_locals.specs.Closed.{Closes}
 use Rattle.fac_locals.specs.declared.closing.Closed.{Closed}
@@ -44,15 +44,15 @@ all_alike [] cs h f = rw h tt
 all_alike (d ∷ ds) cs h f = rw h.2 (fits_alike d.sort h.0.sort h.3.sort f.0, all_alike ds h.1 h.4 f.1)
 
 module _ (P : Program) where
-  built_fits : (d : WordDef) (s : Sort) → IsSourceSort P.top d s → Fits s
+  built_fits : (d : WordDef) (s : Sort) → IsSortOf (may_name P) d s → Fits s
   built_fits d (prim k) h = h.is_built
   built_fits d _ h = tt
 
-  built_fit : (ds : List WordDef) (d : WordDef) → AreSourceWords P.top ds → Fits d.sort → AllFit (ds ++ d ∷ [])
+  built_fit : (ds : List WordDef) (d : WordDef) → AreWordsOf (may_name P) ds → Fits d.sort → AllFit (ds ++ d ∷ [])
   built_fit [] d h f = (f, tt)
   built_fit (x ∷ ds) d h f = (built_fits x x.sort h.0, built_fit ds d h.1 f)
 
-  all_fit : (C : Closed) → IsSourceProgram P → Closes P C.program C.templates → AllFit C.program.words
+  all_fit : (C : Closed) → IsSessionProgram P → Closes P C.program C.templates → AllFit C.program.words
   all_fit C b closes =
       let phrase : Fits b.last_word.sort = rw b.last_word_is.sort_is tt in
       all_alike P.words C.program.words (alike_words P 0 P.words C.program.words closes.words) (subst AllFit (sym b.words_are) (built_fit b.words b.last_word b.words_from_source phrase))
@@ -151,7 +151,7 @@ module _ (C : Closed) where
     words_plain w [] = refl
     words_plain w (d ∷ ds) = both_plain (sort_code C (nat_eq w C.program.top) d.sort) (code_from C (suc w) ds) (sort_code_plain (nat_eq w C.program.top) d.sort) (words_plain (suc w) ds)
 
-pub code_plain : (P : Program) (C : Closed) → IsSourceProgram P → Closes P C.program C.templates → ArePlain (program_code C)
+pub code_plain : (P : Program) (C : Closed) → IsSessionProgram P → Closes P C.program C.templates → ArePlain (program_code C)
 code_plain P C b closes =
     let fit = all_fit P C b closes in
     both_plain (templates_code C C.templates) (code_from C 0 C.program.words) (templates_plain C fit C.templates) (words_plain C fit 0 C.program.words)
@@ -179,5 +179,5 @@ places_of size at (i ∷ is) h =
     let parts = both_true (is_plain i) (list_all is_plain is) h in
     and_true (place_refers size at i) (places_refer size (suc at) is) (placed_by size at i (both_true (is_built_instr i) (not (names_place i)) parts.0).1) (places_of size (suc at) is parts.1)
 
-pub code_built : (P : Program) (C : Closed) → IsSourceProgram P → Closes P C.program C.templates → has_built_code (program_code C) ≡ true
+pub code_built : (P : Program) (C : Closed) → IsSessionProgram P → Closes P C.program C.templates → has_built_code (program_code C) ≡ true
 code_built P C b closes = built_of (program_code C) (code_plain P C b closes)

@@ -10,7 +10,7 @@ use Rattle.fac_lang.specs.declared.program.Sort.{Sort}
 use Rattle.fac_lang.specs.declared.program.Sort.TheVariants.{Prim as prim_sort, Body as body, Past as past, Isa as isa, Method as method}
 use Rattle.fac_lang.specs.Phrases.{Phrase, end, then}
 use Rattle.fac_lang.specs.Substitution.{of_method}
-use Rattle.fac_lang.proofs.SourcePrograms.{IsSourceProgram, IsSourceSort, AreSourceWords}
+use Rattle.fac_lang.proofs.SourcePrograms.{IsSessionProgram, IsSortOf, AreWordsOf, may_name}
 use Rattle.fac_lang.specs.Whole.{sort_fits}
 use Rattle.fac_lang.specs.declared.core_table.CoreWord.{CoreWord}
 use Rattle.fac_lang.specs.declared.core_table.CoreWord.TheVariants.{Call as c_call, Dip as c_dip, If as c_if, Execute as c_execute, Boa as c_boa, Cond as c_cond}
@@ -78,24 +78,22 @@ last_refers T true = refl
 last_refers T false = refl
 
 module _ (P : Program) where
-  -- a primitive is built, and no word is an earlier top-level phrase
+  -- a primitive is built
   abbrev pub Doable : Sort → Type 0
   Doable (prim_sort k) = is_built_primitive k ≡ true
-  Doable (past t) = ⊥
   Doable _ = Unit {0}
 
-  sort_doable : (d : WordDef) (s : Sort) → IsSourceSort P.top d s → Doable s
+  sort_doable : (d : WordDef) (s : Sort) → IsSortOf (may_name P) d s → Doable s
   sort_doable d (prim_sort k) h = h.is_built
-  sort_doable d (past t) h = absurd h
   sort_doable d _ h = tt
 
-  among : (ds : List WordDef) (d : WordDef) (w : ℕ) (x : WordDef) → AreSourceWords P.top ds → Doable d.sort → slice_get (ds ++ d ∷ []) w ≡ Some x → Doable x.sort
+  among : (ds : List WordDef) (d : WordDef) (w : ℕ) (x : WordDef) → AreWordsOf (may_name P) ds → Doable d.sort → slice_get (ds ++ d ∷ []) w ≡ Some x → Doable x.sort
   among [] d zero x h f e = let same : d ≡ x = cc in subst (λ (y : WordDef). Doable y.sort) same f
   among [] d (suc w) x h f e = absurd (cc)
   among (y ∷ ds) d zero x h f e = let same : y ≡ x = cc in subst (λ (z : WordDef). Doable z.sort) same (sort_doable y y.sort h.0)
   among (y ∷ ds) d (suc w) x h f e = among ds d w x h.1 f e
 
-  pub word_doable : IsSourceProgram P → (w : ℕ) (d : WordDef) → slice_get P.words w ≡ Some d → Doable d.sort
+  pub word_doable : IsSessionProgram P → (w : ℕ) (d : WordDef) → slice_get P.words w ≡ Some d → Doable d.sort
   word_doable b w d e =
       let phrase : Doable b.last_word.sort = rw b.last_word_is.sort_is tt in
       among b.words b.last_word w d b.words_from_source phrase (subst (λ (ds : List WordDef). slice_get ds w ≡ Some d) b.words_are e)
@@ -111,7 +109,6 @@ module _ (P : Program) where
   abbrev pub ClosedAs : ℕ → Sort → Type 0
   ClosedAs w (prim_sort k) = is_built_primitive k ≡ true
   ClosedAs w (body c) = RunsIn w c
-  ClosedAs w (past c) = ⊥
   ClosedAs w (method n g c) = RunsIn w c
   ClosedAs w (isa n) = nat_lt n (length P.classes) ≡ true
   ClosedAs w _ = Unit {0}
@@ -119,7 +116,7 @@ module _ (P : Program) where
   pub closed_as : (w : ℕ) (s c : Sort) → ClosesSort P w s c → Doable s → RunsAs P w s → w < length P.words → SortNames P w s → sort_fits P s ≡ true → ClosedAs w c
   closed_as w (prim_sort k) c h d r lt n f = rw h d
   closed_as w (body t) c h d r lt n f = rw h.1 (record { phrase = t; closes = closing P [] (first_of_word w) t h.0 h.2 r; below = lt; names = n })
-  closed_as w (past t) c h d r lt n f = absurd d
+  closed_as w (past t) c h d r lt n f = rw h.1 tt
   closed_as w (method k g t) c h d r lt n f = rw h.1 (record { phrase = of_method w t; closes = closing P [] (first_of_word w) (of_method w t) h.0 h.2 r; below = lt; names = n })
   closed_as w (isa k) c h d r lt n f = rw h f
   closed_as w s c h d r lt n f = rw h tt

@@ -1,5 +1,5 @@
 -- What a closed program has of its program.
-use Rattle.std.proofs.Common.{◌≡◌, ◌<◌, ℕ, zero, suc, ◌+◌, List, [], ◌∷◌, ◌++◌, length, drop, Some, ap, arith}
+use Rattle.std.proofs.Common.{◌≡◌, ℕ, zero, suc, ◌+◌, List, [], ◌∷◌, ◌++◌, length, drop, true, Some, ap, arith}
 use Rattle.std.specs.Prelude.{ℤ, slice_get}
 use Rattle.fac_base.specs.declared.height.Height.{Height}
 use Rattle.fac_base.specs.declared.place.Place.{Place}
@@ -9,6 +9,7 @@ use Rattle.fac_lang.specs.declared.program.Sort.{Sort}
 use Rattle.fac_lang.specs.declared.program.Sort.TheVariants.{Prim as prim, Core as core, Body as body, Past as past, Itself as itself, Class as class, Isa as isa, Getter as getter, Setter as setter, Putter as putter, Generic as generic, Method as method}
 use Rattle.fac_lang.specs.Phrases.{int, yes, no, str, wrd, Literal, Phrase, end, then, Item, lit, lit_arr, quot, word, bind, local, fry, hole, call_effect, execute_effect, next_method, made, next_after}
 use Rattle.fac_lang.specs.Meaning.{sort_of}
+use Rattle.fac_lang.proofs.SourcePrograms.{may_name}
 use Rattle.fac_locals.specs.declared.cell.Cell.{Cell}
 use Rattle.fac_locals.specs.declared.cell.Cell.TheVariants.{Local, Hole}
 use Rattle.fac_locals.specs.Cells.{cell_number}
@@ -46,8 +47,8 @@ module _ (P : Program) where
     c_false : {cells : List Cell} {at : Literal} {p : Place} {t c : Phrase} → Closing cells (behind at (lit no)) t c → Closing cells at (then (lit no) p t) (then (lit no) p c)
     c_text : {cells : List Cell} {at : Literal} {p : Place} {t c : Phrase} (cs : List ℕ) → Closing cells (behind at (lit (str cs))) t c → Closing cells at (then (lit (str cs)) p t) (then (lit (str cs)) p c)
     c_array : {cells : List Cell} {at : Literal} {p : Place} {t c : Phrase} (a : ℕ) → Closing cells (behind at (lit_arr a)) t c → Closing cells at (then (lit_arr a) p t) (then (lit_arr a) p c)
-    c_ref : {cells : List Cell} {at : Literal} {p : Place} {t c : Phrase} (w : ℕ) → w < P.top → Closing cells (behind at (lit (wrd w))) t c → Closing cells at (then (lit (wrd w)) p t) (then (lit (wrd w)) p c)
-    c_word : {cells : List Cell} {at : Literal} {p : Place} {t c : Phrase} (w : ℕ) → w < P.top → Closing cells (behind at (word w)) t c → Closing cells at (then (word w) p t) (then (word w) p c)
+    c_ref : {cells : List Cell} {at : Literal} {p : Place} {t c : Phrase} (w : ℕ) → may_name P w ≡ true → Closing cells (behind at (lit (wrd w))) t c → Closing cells at (then (lit (wrd w)) p t) (then (lit (wrd w)) p c)
+    c_word : {cells : List Cell} {at : Literal} {p : Place} {t c : Phrase} (w : ℕ) → may_name P w ≡ true → Closing cells (behind at (word w)) t c → Closing cells at (then (word w) p t) (then (word w) p c)
     c_quot : {cells : List Cell} {at : Literal} {p : Place} {t c : Phrase} (u : Phrase) (k : ℕ) → IsMadeBy P cells at (quot u) k → Closing cells (behind at (quot u)) t c → Closing cells at (then (quot u) p t) (then (made k) p c)
     c_fry : {cells : List Cell} {at : Literal} {p : Place} {t c : Phrase} (u : Phrase) (n k : ℕ) → IsMadeBy P cells at (fry u n) k → Closing cells (behind at (fry u n)) t c → Closing cells at (then (fry u n) p t) (then (made k) p c)
     c_bind : {cells : List Cell} {at : Literal} {p : Place} {t c : Phrase} (x : ℕ) → Closing (cells ++ Local x ∷ []) (behind at (bind x)) t c → Closing cells at (then (bind x) p t) (then (bind (length cells)) p c)

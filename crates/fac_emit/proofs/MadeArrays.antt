@@ -1,6 +1,5 @@
 -- The literal arrays of an image of plain code are made as those of its program.
 use Rattle.std.proofs.Common.{◌≡◌, ℕ, suc, List, [], ◌∷◌, ◌++◌, length, Option, refl, ap, sym, subst, ◌∙◌, arith}
-use Rattle.std.proofs.lemmas.Bool.{ltb-true}
 use Rattle.std.proofs.lemmas.List.{length-map}
 use Rattle.std.specs.Prelude.{map}
 use Rattle.fac_base.specs.declared.height.Height.{Height}
@@ -10,7 +9,7 @@ use Rattle.fac_lang.specs.declared.program.Lit.TheVariants.{Int as l_int, True a
 use Rattle.fac_lang.specs.Phrases.{str, Literal, Phrase, quot, Value, plain, fun, of_phrase}
 use Rattle.fac_lang.specs.World.{Object, array, World}
 use Rattle.fac_lang.specs.Printed.{or_empty}
-use Rattle.fac_lang.proofs.SourcePrograms.{IsSourceProgram, IsSourceElement, AreSourceElements, AreSourceArrays}
+use Rattle.fac_lang.proofs.SourcePrograms.{IsSessionProgram, IsElementOf, AreElementsOf, AreArraysOf, may_name}
 use Rattle.fac_lang.specs.Meaning.{array_method, of_method_if, literal_value, with_arrays as meaning_arrays, start}
 use Rattle.fac_locals.specs.Literals.{Quoted, behind, first_in_array, element_item}
 use Rattle.fac_locals.specs.Closed.{IsMadeBy, Closes, ClosesElement, CloseElements, CloseArrays}
@@ -28,7 +27,7 @@ use Rattle.fac_carry.proofs.KeptPrimitives.{object_added}
 use Rattle.fac_emit.proofs.LiteralWords.{is_listed_in_array}
 use Rattle.fac_emit.proofs.Placed.{listed_row}
 use Rattle.fac_emit.proofs.PlacedWords.{text_in}
-use Rattle.fac_emit.proofs.TopPhrases.{no_top}
+use Rattle.fac_lang.proofs.SessionWords.{may_name_no_phrase}
 use Rattle.fac_carry.proofs.SamePrimitives.{map_more}
 use Rattle.fac_emit.proofs.TextLemmas.{AreAmong, both_among, first_element, all_arrays_named}
 
@@ -36,7 +35,7 @@ pub has_first : (xs : List ℕ) (x : ℕ) → (i : ℕ) × (is : List ℕ) × (x
 has_first [] x = (x, [], refl)
 has_first (y ∷ xs) x = (y, xs ++ x ∷ [], refl)
 
-module _ (P : Program) (C : Closed) (heights : List (Option Height)) (M : Image) (b : IsSourceProgram P) (closes : Closes P C.program C.templates) (is_plain : IsPlain C heights M) where
+module _ (P : Program) (C : Closed) (heights : List (Option Height)) (M : Image) (b : IsSessionProgram P) (closes : Closes P C.program C.templates) (is_plain : IsPlain C heights M) where
   abbrev T : Templates
   T = template_phrases P
 
@@ -86,21 +85,21 @@ module _ (P : Program) (C : Closed) (heights : List (Option Height)) (M : Image)
       let holes : row.row.holes ≡ 0 = row.holes in
       (row.row, row.there, omega (arith, cells, holes), tt)
 
-  element_whole : (m : Option ℕ) (addresses : List ℕ) (i : ℕ) (is : List ℕ) (at : Literal) (l c : Lit) → at.around ≡ i ∷ is → IsSourceElement P.top l → ClosesElement P m at l c → Whole P M (element_value M addresses (elem_of C c))
+  element_whole : (m : Option ℕ) (addresses : List ℕ) (i : ℕ) (is : List ℕ) (at : Literal) (l c : Lit) → at.around ≡ i ∷ is → IsElementOf (may_name P) l → ClosesElement P m at l c → Whole P M (element_value M addresses (elem_of C c))
   element_whole m addresses i is at (l_int z) c around g h = rw h tt
   element_whole m addresses i is at l_yes c around g h = rw h tt
   element_whole m addresses i is at l_no c around g h = rw h tt
   element_whole m addresses i is at (l_str bs) c around g h = rw h tt
   element_whole m addresses i is at (l_arr a) c around g h = rw h tt
-  element_whole m addresses i is at (l_word w) c around g h = rw h (no_top P b w (ltb-true w P.top g))
+  element_whole m addresses i is at (l_word w) c around g h = rw h (may_name_no_phrase P w g)
   element_whole m addresses i is at (l_quot t) c around g h = rw h.1 (template_whole i is at _ h.0 around h.2)
   element_whole m addresses i is at (l_made k) c around g h = absurd h
 
-  elements_whole : (m : Option ℕ) (addresses : List ℕ) (i : ℕ) (is : List ℕ) (at : Literal) (ls cs : List Lit) → at.around ≡ i ∷ is → AreSourceElements P.top ls → CloseElements P m at ls cs → AllWhole P M (map (element_value M addresses) (elems_of C cs))
+  elements_whole : (m : Option ℕ) (addresses : List ℕ) (i : ℕ) (is : List ℕ) (at : Literal) (ls cs : List Lit) → at.around ≡ i ∷ is → AreElementsOf (may_name P) ls → CloseElements P m at ls cs → AllWhole P M (map (element_value M addresses) (elems_of C cs))
   elements_whole m addresses i is at [] cs around g h = rw h tt
   elements_whole m addresses i is at (l ∷ ls) cs around g h = rw h.2 (element_whole m addresses i is at l h.0 around g.0 h.3, elements_whole m addresses i is (behind at (element_item m l)) ls h.1 around g.1 h.4)
 
-  all_whole : (a : ℕ) (lss css : List (List Lit)) → AreSourceArrays P.top lss → CloseArrays P a lss css → (w : World MValue) → WholeObjects P M w.objects → WholeObjects P M (with_arrays M (map (elems_of C) css) w).objects
+  all_whole : (a : ℕ) (lss css : List (List Lit)) → AreArraysOf (may_name P) lss → CloseArrays P a lss css → (w : World MValue) → WholeObjects P M w.objects → WholeObjects P M (with_arrays M (map (elems_of C) css) w).objects
   all_whole a [] css g h w os = rw h os
   all_whole a (ls ∷ lss) css g h w os =
       let m = array_method P (length P.arrays) a in

@@ -13,7 +13,7 @@ use Rattle.fac_lang.specs.declared.program.Shape.TheVariants.{Kind as built_in, 
 use Rattle.fac_lang.specs.declared.program.Sort.{Sort}
 use Rattle.fac_lang.specs.declared.program.Sort.TheVariants.{Class as class}
 use Rattle.fac_lang.specs.Classes.{has_own, own_kind, class_with, shape_at, is_single, is_tuple, slots_within}
-use Rattle.fac_lang.proofs.SourcePrograms.{IsSourceProgram}
+use Rattle.fac_lang.proofs.SourcePrograms.{IsSessionProgram}
 use Rattle.fac_lang.specs.Meaning.{sort_of, own_or_word, names}
 use Rattle.fac_lang.specs.Printed.{or_empty}
 use Rattle.fac_locals.specs.Closed.{Closes}
@@ -88,7 +88,7 @@ beside_at cs v (d ∷ ds) (suc k) =
     let n : v + suc k ≡ suc v + k = omega arith in
     other_beside (v + suc k) v (pairs_from cs (suc v) ds) (sort_kind cs d.sort) (λ e. omega (arith, e)) ∙ ap (λ (w : ℕ). kind_beside w (pairs_from cs (suc v) ds)) n ∙ beside_at cs (suc v) ds k
 
-module _ (P : Program) (C : Closed) (heights : List (Option Height)) (M : Image) (b : IsSourceProgram P) (closes : Closes P C.program C.templates) (is_plain : IsPlain C heights M) where
+module _ (P : Program) (C : Closed) (heights : List (Option Height)) (M : Image) (b : IsSessionProgram P) (closes : Closes P C.program C.templates) (is_plain : IsPlain C heights M) where
   abbrev T : Tables
   T = tables_of M
 

@@ -8,7 +8,7 @@ use Rattle.fac_lang.specs.declared.program.Program.{Program}
 use Rattle.fac_lang.specs.declared.program.WordDef.{WordDef}
 use Rattle.fac_lang.specs.declared.program.Sort.{Sort}
 use Rattle.fac_lang.specs.declared.program.Sort.TheVariants.{Generic as generic, Method as method}
-use Rattle.fac_lang.proofs.SourcePrograms.{IsSourceProgram}
+use Rattle.fac_lang.proofs.SourcePrograms.{IsSessionProgram}
 use Rattle.fac_lang.specs.Phrases.{Phrase}
 use Rattle.fac_lang.specs.Whole.{IsWhole, sort_fits, is_class, is_generic}
 use Rattle.fac_lang.specs.Meaning.{sort_of, generic_of}
@@ -60,7 +60,7 @@ itself : (k : ℕ) → nat_eq k k ≡ true
 itself k = grind arith
 
 -- what a method's sort names is there
-pub method_fits : (P : Program) → IsSourceProgram P → IsWhole P → (m c g : ℕ) (t : Phrase) → sort_of P m ≡ Some (method c g t) → (is_class P c ≡ true) × (sort_of P g ≡ Some generic)
+pub method_fits : (P : Program) → IsSessionProgram P → IsWhole P → (m c g : ℕ) (t : Phrase) → sort_of P m ≡ Some (method c g t) → (is_class P c ≡ true) × (sort_of P g ≡ Some generic)
 method_fits P b whole m c g t e =
     let at = word_there P b m (method c g t) e in
     let fits = all_at (λ (d : WordDef). sort_fits P d.sort) P.words m at.0 whole.sorts_fit at.1 in
@@ -96,7 +96,7 @@ module _ (place : ℕ → ℕ) where
   seen_in m g k [] = unseen refl (λ j c e. absurd (cc))
   seen_in m g k (x ∷ ms) = seen_by m g k x ms (nat_eq x.0 m) refl (seen_in m g (suc k) ms)
 
-module _ (P : Program) (C : Closed) (b : IsSourceProgram P) (whole : IsWhole P) (laws : MethodLaws P) (closes : Closes P C.program C.templates) (place : ℕ → ℕ) where
+module _ (P : Program) (C : Closed) (b : IsSessionProgram P) (whole : IsWhole P) (laws : MethodLaws P) (closes : Closes P C.program C.templates) (place : ℕ → ℕ) where
   abbrev row_of : ℕ → GenericRow
   row_of g = record { word = g; methods = map (method_row place) (methods_in_order C.program g) }
 

@@ -8,10 +8,11 @@ use Rattle.fac_lang.specs.declared.program.WordDef.{WordDef}
 use Rattle.fac_lang.specs.declared.program.Sort.{Sort}
 use Rattle.fac_lang.specs.declared.program.Sort.TheVariants.{Body as body, Generic as generic, Method as method}
 use Rattle.fac_lang.specs.Phrases.{Phrase}
-use Rattle.fac_lang.proofs.SourcePrograms.{IsSourceProgram}
+use Rattle.fac_lang.proofs.SourcePrograms.{IsSessionProgram}
 use Rattle.fac_lang.specs.Classes.{has_kind, word_in, pick, next}
 use Rattle.fac_lang.specs.Meaning.{sort_of, sort_phrase}
-use Rattle.fac_lang.proofs.FormsLemmas.{sort_at, top_sort}
+use Rattle.fac_lang.proofs.FormsLemmas.{sort_at}
+use Rattle.fac_lang.proofs.SessionWords.{top_sort}
 use Rattle.fac_locals.specs.Literals.{first_of_word}
 use Rattle.fac_locals.specs.Closed.{Closes, ClosesSort, ClosesWord}
 use Rattle.fac_locals.specs.declared.closing.Closed.{Closed}
@@ -59,7 +60,7 @@ get_dropped [] (suc i) j = refl
 get_dropped (x ∷ xs) (suc i) j = let n : suc i + j ≡ suc (i + j) = omega arith in rw n (get_dropped xs i j)
 
 -- a word of a whole program by its sort
-module _ (P : Program) (b : IsSourceProgram P) where
+module _ (P : Program) (b : IsSessionProgram P) where
   pub word_count : length P.words ≡ suc P.top
   word_count = let n = ap length b.words_are ∙ length-append b.words (b.last_word ∷ []) in let top = b.top_is in omega (arith, n, top)
 
@@ -130,7 +131,7 @@ ran P C w (method m g t) c h cl r n =
     record { phrase = cl.0; code_is = λ is_top. ap (sort_code C is_top) cl.1; named = body_among C cl.0 (subst (λ (c : Sort). AreAmong (program_texts C) (sort_texts C c)) cl.1 n); sort_is = cl.1; closes = closing P [] (first_of_word w) _ cl.0 cl.2 r }
 ran P C w _ c h cl r n = absurd h
 
-module _ (P : Program) (C : Closed) (heights : List (Option Height)) (M : Image) (b : IsSourceProgram P) (closes : Closes P C.program C.templates) (is_plain : IsPlain C heights M) where
+module _ (P : Program) (C : Closed) (heights : List (Option Height)) (M : Image) (b : IsSessionProgram P) (closes : Closes P C.program C.templates) (is_plain : IsPlain C heights M) where
   -- the text of a number
   pub text_in : (s : List ℕ) → IsAmong (program_texts C) s → slice_get M.texts (text_number C s) ≡ Some s
   text_in s h = ap (λ (ts : List (List ℕ)). slice_get ts (text_number C s)) is_plain.texts ∙ text_there C s h

@@ -8,16 +8,17 @@ use Rattle.fac_lang.specs.declared.phrase.Template.{Template}
 use Rattle.fac_lang.specs.declared.program.Program.{Program}
 use Rattle.fac_lang.specs.declared.program.WordDef.{WordDef}
 use Rattle.fac_lang.specs.declared.program.Sort.{Sort}
-use Rattle.fac_lang.specs.declared.program.Sort.TheVariants.{Prim as prim_sort, Core as core_sort, Body as body, Itself as itself, Class as class, Isa as isa, Getter as getter, Setter as setter, Putter as putter, Generic as generic, Method as method}
+use Rattle.fac_lang.specs.declared.program.Sort.TheVariants.{Prim as prim_sort, Core as core_sort, Body as body, Past as past, Itself as itself, Class as class, Isa as isa, Getter as getter, Setter as setter, Putter as putter, Generic as generic, Method as method}
 use Rattle.fac_lang.specs.Phrases.{int, yes, no, str, wrd, Literal, Phrase, end, then, Item, lit, lit_arr, quot, word, bind, fry, call_effect, execute_effect, next_method, next_after, held, Value}
 use Rattle.fac_lang.specs.Substitution.{put_local, put_holes}
-use Rattle.fac_lang.proofs.SourcePrograms.{IsSourceProgram, IsSourceSort}
+use Rattle.fac_lang.proofs.SourcePrograms.{IsSessionProgram, IsSortOf, may_name}
 use Rattle.fac_lang.specs.Whole.{IsWhole}
 use Rattle.fac_lang.specs.declared.core_table.CoreWord.{CoreWord}
 use Rattle.fac_lang.specs.declared.core_table.CoreWord.TheVariants.{Call as c_call, Dip as c_dip, If as c_if, Execute as c_execute, Boa as c_boa, Cond as c_cond}
 use Rattle.fac_lang.specs.Classes.{next}
-use Rattle.fac_lang.specs.Meaning.{sort_of, sort_phrase, word_phrase, generic_of, sort_act}
-use Rattle.fac_lang.proofs.FormsLemmas.{word_below, sort_at, top_word}
+use Rattle.fac_lang.specs.Meaning.{sort_of, is_past, is_top_phrase, sort_phrase, word_phrase, generic_of, sort_act}
+use Rattle.fac_lang.proofs.FormsLemmas.{sort_at}
+use Rattle.fac_lang.proofs.SessionWords.{word_below, top_word, may_name_before, may_name_no_phrase, no_past}
 use Rattle.fac_locals.specs.Cells.{inner_cells}
 use Rattle.fac_locals.specs.Literals.{Quoted, quoted_phrase, behind, first_of_word, first_of_literal, literal_numbered}
 use Rattle.fac_locals.specs.Closed.{Closes, ClosesSort}
@@ -51,13 +52,13 @@ use Rattle.fac_emit.proofs.Placed.{Rows, code_at, row_of, template_at, all_rows}
 use Rattle.fac_emit.proofs.PlacedWords.{found_below, Ran, ran, text_in, WordPut, word_put, word_does, place_by, has_code, one_place, in_set, picked_same, next_same, generic_row}
 use Rattle.fac_carry.proofs.ElementLemmas.{element_at}
 use Rattle.fac_emit.proofs.TailCalls.{bind_before, tailed_making, tailed_accessor}
-use Rattle.fac_emit.proofs.TopPhrases.{no_top, before_top}
+use Rattle.fac_emit.proofs.TopPhrases.{before_top}
 use Rattle.fac_locals.proofs.RunningPhrases.{IsMethod, word_runs, literal_runs}
 use Rattle.fac_emit.proofs.TableNumbers.{order_same}
 use Rattle.fac_emit.proofs.TextLemmas.{AreAmong, both_among, word_named, template_named}
 
 -- A plain image of a closed program that stands for a built one.
-module _ (P : Program) (C : Closed) (heights : List (Option Height)) (M : Image) (b : IsSourceProgram P) (whole : IsWhole P) (laws : MethodLaws P) (closes : Closes P C.program C.templates) (is_plain : IsPlain C heights M) where
+module _ (P : Program) (C : Closed) (heights : List (Option Height)) (M : Image) (b : IsSessionProgram P) (whole : IsWhole P) (laws : MethodLaws P) (closes : Closes P C.program C.templates) (is_plain : IsPlain C heights M) where
   abbrev put : (w : ℕ) (d : WordDef) → slice_get P.words w ≡ Some d → WordPut P C heights M b closes is_plain w d
   put w d e = word_put P C heights M b closes is_plain w d e
 
@@ -96,26 +97,28 @@ module _ (P : Program) (C : Closed) (heights : List (Option Height)) (M : Image)
   phrase_does : (F : List MValue) (w : ℕ) (d : WordDef) → w < P.top → (e : slice_get P.words w ≡ Some d) → RunsPhrase (Some d.sort) → Does F w (Callw w false)
   phrase_does F w d lt e runs = let p = put w d e in t_calling (l_word w p.place (has_code P C heights M b closes is_plain w d p e lt runs))
 
-  sort_does : (F : List MValue) (w : ℕ) (d c : WordDef) (s : Sort) → w < P.top → (e : slice_get P.words w ≡ Some d) → slice_get C.program.words w ≡ Some c → d.sort ≡ s → ClosesSort P w s c.sort → IsSourceSort P.top d s → Does F w (sort_instr C w c.sort)
-  sort_does F w d c (prim_sort k) lt e at is h built = rw h (t_prim w k (sort_at P w d e ∙ ap Some is) built.is_built (first_prim C P M.words whole.words_differ does present w k d e is))
-  sort_does F w d c (core_sort k) lt e at is h built = rw h (core_does F w k (sort_at P w d e ∙ ap Some is))
-  sort_does F w d c (body t) lt e at is h built = rw h.1 (phrase_does F w d lt e (subst (λ (s : Sort). RunsPhrase (Some s)) (sym is) tt))
-  sort_does F w d c (method n g t) lt e at is h built = rw h.1 (phrase_does F w d lt e (subst (λ (s : Sort). RunsPhrase (Some s)) (sym is) tt))
-  sort_does F w d c itself lt e at is h built = let p = put w d e in rw h (t_symbol w (word_row C p.place w p.closed) (rw (sort_at P w d e ∙ ap Some is) tt) (no_top P b w lt) p.row)
-  sort_does F w d c (class n) lt e at is h built = let p = put w d e in rw h (t_symbol w (word_row C p.place w p.closed) (rw (sort_at P w d e ∙ ap Some is) tt) (no_top P b w lt) p.row)
-  sort_does F w d c (isa n) lt e at is h built = rw h (t_isa w n n (sort_at P w d e ∙ ap Some is) (in_set P C heights M b closes is_plain n))
-  sort_does F w d c (getter s) lt e at is h built = rw h (accessor_does F getting w s d e is)
-  sort_does F w d c (setter s) lt e at is h built = rw h (accessor_does F setting w s d e is)
-  sort_does F w d c (putter s) lt e at is h built = rw h (accessor_does F putting w s d e is)
-  sort_does F w d c generic lt e at is h built =
+  sort_does : (F : List MValue) (w : ℕ) (d c : WordDef) (s : Sort) → w < P.top → is_top_phrase P w ≡ false → is_past (Some s) ≡ false → (e : slice_get P.words w ≡ Some d) → slice_get C.program.words w ≡ Some c → d.sort ≡ s → ClosesSort P w s c.sort → IsSortOf (may_name P) d s → Does F w (sort_instr C w c.sort)
+  sort_does F w d c (prim_sort k) lt none now e at is h built = rw h (t_prim w k (sort_at P w d e ∙ ap Some is) built.is_built (first_prim C P M.words whole.words_differ does present w k d e is))
+  sort_does F w d c (core_sort k) lt none now e at is h built = rw h (core_does F w k (sort_at P w d e ∙ ap Some is))
+  sort_does F w d c (body t) lt none now e at is h built = rw h.1 (phrase_does F w d lt e (subst (λ (s : Sort). RunsPhrase (Some s)) (sym is) tt))
+  sort_does F w d c (method n g t) lt none now e at is h built = rw h.1 (phrase_does F w d lt e (subst (λ (s : Sort). RunsPhrase (Some s)) (sym is) tt))
+  sort_does F w d c itself lt none now e at is h built = let p = put w d e in rw h (t_symbol w (word_row C p.place w p.closed) (rw (sort_at P w d e ∙ ap Some is) tt) none p.row)
+  sort_does F w d c (class n) lt none now e at is h built = let p = put w d e in rw h (t_symbol w (word_row C p.place w p.closed) (rw (sort_at P w d e ∙ ap Some is) tt) none p.row)
+  sort_does F w d c (isa n) lt none now e at is h built = rw h (t_isa w n n (sort_at P w d e ∙ ap Some is) (in_set P C heights M b closes is_plain n))
+  sort_does F w d c (getter s) lt none now e at is h built = rw h (accessor_does F getting w s d e is)
+  sort_does F w d c (setter s) lt none now e at is h built = rw h (accessor_does F setting w s d e is)
+  sort_does F w d c (putter s) lt none now e at is h built = rw h (accessor_does F putting w s d e is)
+  sort_does F w d c generic lt none now e at is h built =
       rw h (t_calling (l_generic w (generic_number C.program w) _ (sort_at P w d e ∙ ap Some is) (generic_row P C heights M b closes is_plain w c at h) refl (picked_same P C heights M b closes is_plain laws w)))
-  sort_does F w d c _ lt e at is h built = absurd built
+  sort_does F w d c (past t) lt none now e at is h built = absurd (cc)
 
-  word_does_so : (F : List MValue) (w : ℕ) → w < P.top → Does F w (item_instr C (word w))
-  word_does_so F w lt =
+  word_does_so : (F : List MValue) (w : ℕ) → may_name P w ≡ true → Does F w (item_instr C (word w))
+  word_does_so F w named =
+      let lt = may_name_before P w named in
+      let none = may_name_no_phrase P w named in
       let found = word_below P b w lt in
       let closed = word_closed P C.program C.templates closes w found.def found.at in
-      rw closed.at (sort_does F w found.def closed.closed found.def.sort lt found.at closed.at refl closed.closes.sort found.from_source)
+      rw closed.at (sort_does F w found.def closed.closed found.def.sort lt none (no_past P w found.def found.at none) found.at closed.at refl closed.closes.sort found.from_source)
 
   -- the row of a word, whatever it does
   row_there : (w : ℕ) → w < P.top → (r : WordRow) × (slice_get M.words w ≡ Some r)
@@ -136,26 +139,26 @@ module _ (P : Program) (C : Closed) (heights : List (Option Height)) (M : Image)
   phrase_acts : (w : ℕ) (d : WordDef) → w < P.top → (e : slice_get P.words w ≡ Some d) → RunsPhrase (Some d.sort) → Acting P M w (action.Code (put w d e).place)
   phrase_acts w d lt e runs = let p = put w d e in a_code p.place (has_code P C heights M b closes is_plain w d p e lt runs)
 
-  sort_acts : (w : ℕ) (d c : WordDef) (s : Sort) → w < P.top → (e : slice_get P.words w ≡ Some d) → slice_get C.program.words w ≡ Some c → d.sort ≡ s → ClosesSort P w s c.sort → IsSourceSort P.top d s → Acting P M w (sort_action C w (put w d e).place c.sort)
-  sort_acts w d c (prim_sort k) lt e at is h built = rw h (a_prim k (sort_at P w d e ∙ ap Some is) built.is_built (first_prim C P M.words whole.words_differ does present w k d e is))
-  sort_acts w d c (core_sort k) lt e at is h built = rw h (core_acts w k (sort_at P w d e ∙ ap Some is))
-  sort_acts w d c (body t) lt e at is h built = rw h.1 (phrase_acts w d lt e (subst (λ (s : Sort). RunsPhrase (Some s)) (sym is) tt))
-  sort_acts w d c (method n g t) lt e at is h built = rw h.1 (phrase_acts w d lt e (subst (λ (s : Sort). RunsPhrase (Some s)) (sym is) tt))
-  sort_acts w d c itself lt e at is h built = rw h (a_itself (rw (sort_at P w d e ∙ ap Some is) tt))
-  sort_acts w d c (class n) lt e at is h built = rw h (a_itself (rw (sort_at P w d e ∙ ap Some is) tt))
-  sort_acts w d c (isa n) lt e at is h built = rw h (a_isa n n (sort_at P w d e ∙ ap Some is) (in_set P C heights M b closes is_plain n))
-  sort_acts w d c (getter s) lt e at is h built = rw h (accessor_acts getting w s d e is)
-  sort_acts w d c (setter s) lt e at is h built = rw h (accessor_acts setting w s d e is)
-  sort_acts w d c (putter s) lt e at is h built = rw h (accessor_acts putting w s d e is)
-  sort_acts w d c generic lt e at is h built =
+  sort_acts : (w : ℕ) (d c : WordDef) (s : Sort) → w < P.top → is_past (Some s) ≡ false → (e : slice_get P.words w ≡ Some d) → slice_get C.program.words w ≡ Some c → d.sort ≡ s → ClosesSort P w s c.sort → IsSortOf (may_name P) d s → Acting P M w (sort_action C w (put w d e).place c.sort)
+  sort_acts w d c (prim_sort k) lt now e at is h built = rw h (a_prim k (sort_at P w d e ∙ ap Some is) built.is_built (first_prim C P M.words whole.words_differ does present w k d e is))
+  sort_acts w d c (core_sort k) lt now e at is h built = rw h (core_acts w k (sort_at P w d e ∙ ap Some is))
+  sort_acts w d c (body t) lt now e at is h built = rw h.1 (phrase_acts w d lt e (subst (λ (s : Sort). RunsPhrase (Some s)) (sym is) tt))
+  sort_acts w d c (method n g t) lt now e at is h built = rw h.1 (phrase_acts w d lt e (subst (λ (s : Sort). RunsPhrase (Some s)) (sym is) tt))
+  sort_acts w d c itself lt now e at is h built = rw h (a_itself (rw (sort_at P w d e ∙ ap Some is) tt))
+  sort_acts w d c (class n) lt now e at is h built = rw h (a_itself (rw (sort_at P w d e ∙ ap Some is) tt))
+  sort_acts w d c (isa n) lt now e at is h built = rw h (a_isa n n (sort_at P w d e ∙ ap Some is) (in_set P C heights M b closes is_plain n))
+  sort_acts w d c (getter s) lt now e at is h built = rw h (accessor_acts getting w s d e is)
+  sort_acts w d c (setter s) lt now e at is h built = rw h (accessor_acts setting w s d e is)
+  sort_acts w d c (putter s) lt now e at is h built = rw h (accessor_acts putting w s d e is)
+  sort_acts w d c generic lt now e at is h built =
       rw h (a_generic (generic_number C.program w) _ (sort_at P w d e ∙ ap Some is) (generic_row P C heights M b closes is_plain w c at h) refl (picked_same P C heights M b closes is_plain laws w))
-  sort_acts w d c _ lt e at is h built = absurd built
+  sort_acts w d c (past t) lt now e at is h built = absurd (cc)
 
-  action_there : (w : ℕ) → w < P.top → HasAction P M w
-  action_there w lt =
+  action_there : (w : ℕ) → w < P.top → is_top_phrase P w ≡ false → HasAction P M w
+  action_there w lt none =
       let found = word_below P b w lt in
       let p = put w found.def found.at in
-      record { row = word_row C p.place w p.closed; there = p.row; acts = sort_acts w found.def p.closed found.def.sort lt found.at p.at refl p.closes_word.sort found.from_source }
+      record { row = word_row C p.place w p.closed; there = p.row; acts = sort_acts w found.def p.closed found.def.sort lt (no_past P w found.def found.at none) found.at p.at refl p.closes_word.sort found.from_source }
 
   -- That of a next method.
   next_does : (F : List MValue) (m : ℕ) → IsMethod (sort_of P m) → Translates P M (template_phrases P) F (next_after m) (item_instr C (next_after m))
@@ -211,7 +214,7 @@ module _ (P : Program) (C : Closed) (heights : List (Option Height)) (M : Image)
   plain_does F (lit yes) h r n = t_true
   plain_does F (lit no) h r n = t_false
   plain_does F (lit (str cs)) h r n = t_text cs (text_number C cs) (text_in P C heights M b closes is_plain cs n.0)
-  plain_does F (lit (wrd w)) h r n = let there = row_there w r in t_reference w there.0 (no_top P b w r) there.1
+  plain_does F (lit (wrd w)) h r n = let there = row_there w (may_name_before P w r) in t_reference w there.0 (may_name_no_phrase P w r) there.1
   plain_does F (lit_arr a) h r n = t_array a
   plain_does F (word w) h r n = word_does_so F w r
   plain_does F next_method h r n = t_stuck (λ fits callable_height st. refl)
@@ -313,7 +316,7 @@ module _ (P : Program) (C : Closed) (heights : List (Option Height)) (M : Image)
         subst (λ (t : Phrase). Stands P M (template_phrases P) Ret [] a t) (ap (sort_phrase P w) (sym (sort_at P w found.def found.at)))
         (subst (λ (at : ℕ). Stands P M (template_phrases P) Ret [] at (sort_phrase P w (Some found.def.sort))) (one_place P C heights M b closes is_plain w a found.def p runs code) stands);
     templates = λ q r k e n whole. subst (λ (vs : List Value). Stands P M T Ret (kept_list k) r.entry (T q vs)) (sym (kept_list_view T k)) (template_stands q r (kept_list k) e n);
-    actions = λ w d e none. action_there w (before_top P b w d e none);
+    actions = λ w d e none. action_there w (before_top P b w d e none) none;
   }
 
   -- that of the top-level phrase

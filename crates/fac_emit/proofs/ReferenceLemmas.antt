@@ -1,6 +1,6 @@
 -- Each number in plain code and its tables names something.
 use Rattle.std.proofs.Common.{◌≡◌, ◌<◌, ℕ, zero, suc, ◌+◌, List, [], ◌∷◌, ◌++◌, length, map, drop, Bool, true, false, ◌&&◌, Option, Some, None, refl, ap, sym, subst, ◌∙◌, arith}
-use Rattle.std.proofs.lemmas.Bool.{lt-ltb, ltb-true}
+use Rattle.std.proofs.lemmas.Bool.{lt-ltb}
 use Rattle.std.proofs.lemmas.List.{length-map, append-nil}
 use Rattle.std.proofs.lemmas.List.Folds.{list_all-append}
 use Rattle.std.specs.Prelude.{nat_eq, nat_lt, slice_get}
@@ -16,7 +16,7 @@ use Rattle.fac_lang.specs.declared.core_table.CoreWord.{CoreWord}
 use Rattle.fac_lang.specs.declared.core_table.CoreWord.TheVariants.{Call as c_call, Dip as c_dip, If as c_if, Execute as c_execute, Boa as c_boa, Cond as c_cond}
 use Rattle.fac_lang.specs.declared.program.Sort.TheVariants.{Prim as prim_sort, Core as core_sort, Body as body, Past as past, Itself as itself, Class as class, Isa as isa, Getter as getter, Setter as setter, Putter as putter, Generic as generic, Method as method}
 use Rattle.fac_lang.specs.Phrases.{Literal, Phrase, quot, fry}
-use Rattle.fac_lang.proofs.SourcePrograms.{IsSourceProgram, IsSourceElement, AreSourceElements, AreSourceArrays}
+use Rattle.fac_lang.proofs.SourcePrograms.{IsSessionProgram, IsElementOf, AreElementsOf, AreArraysOf, may_name}
 use Rattle.fac_lang.specs.Meaning.{sort_of, generic_of, array_method}
 use Rattle.fac_lang.specs.Whole.{IsWhole, sort_fits, names_earlier, each_numbered, arrays_in, arrays_named}
 use Rattle.fac_locals.specs.declared.cell.Cell.{Cell}
@@ -25,7 +25,7 @@ use Rattle.fac_locals.specs.Literals.{Quoted, quoted_phrase, behind, first_of_wo
 use Rattle.fac_locals.specs.Closed.{IsMadeBy, Closes, ClosesElement, CloseElements, CloseArrays}
 use Rattle.fac_locals.specs.declared.closing.Closed.{Closed}
 use Rattle.fac_locals.proofs.Lookups.{word_open, word_closed, template_closed}
-use Rattle.fac_lang.proofs.FormsLemmas.{word_below, top_word}
+use Rattle.fac_lang.proofs.SessionWords.{word_below, top_word, may_name_before}
 use Rattle.fac_code.specs.declared.image.Instr.{Instr}
 use Rattle.fac_code.specs.declared.image.Instr.TheVariants.{Int, True, False, Text, Array, Word, Bind, Local, Callw, Call, If, Execute, CallEffect, ExecuteEffect, Ret, Generic, Next}
 use Rattle.fac_code.specs.declared.image.Action.{Action}
@@ -58,7 +58,7 @@ use Rattle.fac_emit.proofs.TableNumbers.{order_same}
 use Rattle.fac_emit.proofs.TableReferences.{sets_many, kinds_refer, sets_refer, pairs_refer_so}
 use Rattle.fac_emit.proofs.ClosedWords.{found_within, both_pass, first_true, one_passes, begins_within, core_refers, last_refers, word_doable, ClosedAs, closed_as}
 
-module _ (P : Program) (C : Closed) (heights : List (Option Height)) (built : IsSourceProgram P) (whole : IsWhole P) (laws : MethodLaws P) (closes : Closes P C.program C.templates) where
+module _ (P : Program) (C : Closed) (heights : List (Option Height)) (built : IsSessionProgram P) (whole : IsWhole P) (laws : MethodLaws P) (closes : Closes P C.program C.templates) where
   abbrev code : List Instr
   code = program_code C
 
@@ -103,7 +103,7 @@ module _ (P : Program) (C : Closed) (heights : List (Option Height)) (built : Is
   sort_refers w c (prim_sort k) e is h n = refl
   sort_refers w c (core_sort k) e is h n = core_refers T k
   sort_refers w c (body t) e is h n = code_named w c (body t) e is (λ at. refl)
-  sort_refers w c (past t) e is h n = absurd h
+  sort_refers w c (past t) e is h n = refl
   sort_refers w c (method m g t) e is h n = code_named w c (method m g t) e is (λ at. refl)
   sort_refers w c itself e is h n = word_row_there w c e
   sort_refers w c (class m) e is h n = word_row_there w c e
@@ -158,7 +158,7 @@ module _ (P : Program) (C : Closed) (heights : List (Option Height)) (built : Is
   phrase_refers last cells at t c l (c_text {c = d} cs h) lt n f = both_refer last (Text (text_number C cs)) d (text_below C cs n.0) (phrase_refers last _ _ _ d l h lt n.1 f.1)
   phrase_refers last cells at t c l (c_array {c = d} a h) lt n f = both_refer last (Array a) d (ap (nat_lt a) all_arrays ∙ f.0) (phrase_refers last _ _ _ d l h lt n f.1)
   phrase_refers last cells at t c l (c_ref {c = d} w below h) lt n f =
-      let found = word_below P built w below in
+      let found = word_below P built w (may_name_before P w below) in
       let closed = word_closed P C.program C.templates closes w found.def found.at in
       both_refer last (Word w) d (word_row_there w closed.closed closed.at) (phrase_refers last _ _ _ d l h lt n f.1)
   phrase_refers last cells at t c l (c_word {c = d} w below h) lt n f =
@@ -220,7 +220,7 @@ module _ (P : Program) (C : Closed) (heights : List (Option Height)) (built : Is
   action_within at w is_top c (prim_sort k) more e is h n there = h
   action_within at w is_top c (core_sort k) more e is h n there = core_within k
   action_within at w is_top c (body t) more e is h n there = begins_within code C (last_instr is_top) t at more there
-  action_within at w is_top c (past t) more e is h n there = absurd h
+  action_within at w is_top c (past t) more e is h n there = refl
   action_within at w is_top c (method m g t) more e is h n there = begins_within code C (last_instr is_top) t at more there
   action_within at w is_top c itself more e is h n there = refl
   action_within at w is_top c (class m) more e is h n there = refl
@@ -311,14 +311,14 @@ module _ (P : Program) (C : Closed) (heights : List (Option Height)) (built : Is
   abbrev Earlier : ℕ → List Lit → Type 0
   Earlier a ls = list_all (λ b. nat_lt b a) (arrays_in ls) ≡ true
 
-  element_refers : (m : Option ℕ) (i : ℕ) (is : List ℕ) (a : ℕ) (at : Literal) (l c : Lit) → at.around ≡ i ∷ is → ClosesElement P m at l c → IsSourceElement P.top l → Earlier a (l ∷ []) → Named (own_elements_texts (c ∷ [])) → elem_refers T a (elem_of C c) ≡ true
+  element_refers : (m : Option ℕ) (i : ℕ) (is : List ℕ) (a : ℕ) (at : Literal) (l c : Lit) → at.around ≡ i ∷ is → ClosesElement P m at l c → IsElementOf (may_name P) l → Earlier a (l ∷ []) → Named (own_elements_texts (c ∷ [])) → elem_refers T a (elem_of C c) ≡ true
   element_refers m i is a at (l_int z) c around h ok earlier n = rw h refl
   element_refers m i is a at l_yes c around h ok earlier n = rw h refl
   element_refers m i is a at l_no c around h ok earlier n = rw h refl
   element_refers m i is a at (l_str bs) c around h ok earlier n = let own = subst (λ (l : Lit). Named (own_elements_texts (l ∷ []))) h n in rw h (text_below C bs own.0)
   element_refers m i is a at (l_arr d) c around h ok earlier n = rw h (first_true (nat_lt d a) true earlier).0
   element_refers m i is a at (l_word w) c around h ok earlier n =
-      let found = word_below P built w (ltb-true w P.top ok) in
+      let found = word_below P built w (may_name_before P w ok) in
       let closed = word_closed P C.program C.templates closes w found.def found.at in
       rw h (word_row_there w closed.closed closed.at)
   element_refers m i is a at (l_quot t) c around h ok earlier n = rw h.1 (template_constant m h.0 i is at _ around h.2)
@@ -340,7 +340,7 @@ module _ (P : Program) (C : Closed) (heights : List (Option Height)) (built : Is
       let split : list_all test (arrays_in (l ∷ [])) && list_all test (arrays_in ls) ≡ true = sym (ap (list_all test) (first_arrays l ls) ∙ list_all-append test (arrays_in (l ∷ [])) (arrays_in ls)) ∙ h in
       first_true (list_all test (arrays_in (l ∷ []))) (list_all test (arrays_in ls)) split
 
-  elements_refer : (m : Option ℕ) (i : ℕ) (is : List ℕ) (a : ℕ) (at : Literal) (ls cs : List Lit) → at.around ≡ i ∷ is → CloseElements P m at ls cs → AreSourceElements P.top ls → Earlier a ls → Named (own_elements_texts cs) → list_all (elem_refers T a) (elems_of C cs) ≡ true
+  elements_refer : (m : Option ℕ) (i : ℕ) (is : List ℕ) (a : ℕ) (at : Literal) (ls cs : List Lit) → at.around ≡ i ∷ is → CloseElements P m at ls cs → AreElementsOf (may_name P) ls → Earlier a ls → Named (own_elements_texts cs) → list_all (elem_refers T a) (elems_of C cs) ≡ true
   elements_refer m i is a at [] cs around h ok earlier n = rw h refl
   elements_refer m i is a at (l ∷ ls) cs around h ok earlier n =
       let parts = both_earlier a l ls earlier in
@@ -348,7 +348,7 @@ module _ (P : Program) (C : Closed) (heights : List (Option Height)) (built : Is
       rw h.2 (and_true (elem_refers T a (elem_of C h.0)) (list_all (elem_refers T a) (elems_of C h.1))
       (element_refers m i is a at l h.0 around h.3 ok.0 parts.0 named.0) (elements_refer m i is a (behind at (element_item m l)) ls h.1 around h.4 ok.1 parts.1 named.1))
 
-  arrays_refer_so : (a : ℕ) (lss css : List (List Lit)) → CloseArrays P a lss css → AreSourceArrays P.top lss → each_numbered names_earlier a lss ≡ true → Named (arrays_texts css) → arrays_refer T a (map (elems_of C) css) ≡ true
+  arrays_refer_so : (a : ℕ) (lss css : List (List Lit)) → CloseArrays P a lss css → AreArraysOf (may_name P) lss → each_numbered names_earlier a lss ≡ true → Named (arrays_texts css) → arrays_refer T a (map (elems_of C) css) ≡ true
   arrays_refer_so a [] css h ok earlier n = rw h refl
   arrays_refer_so a (ls ∷ lss) css h ok earlier n =
       let parts = first_true (names_earlier a ls) (each_numbered names_earlier (suc a) lss) earlier in

@@ -11,7 +11,7 @@ use Rattle.fac_base.specs.Signatures.{Signature}
 use Rattle.fac_base.specs.Effects.{effect_height}
 use Rattle.fac_lang.specs.WordHeights.{word_height}
 use Rattle.fac_base.specs.HeightArithmetic.{fits}
-use Rattle.fac_lang.proofs.SourcePrograms.{IsSourceProgram}
+use Rattle.fac_lang.proofs.SourcePrograms.{IsSessionProgram}
 use Rattle.fac_lang.specs.Meaning.{is_past, is_top_phrase, word_fits}
 use Rattle.fac_lang.proofs.FormsLemmas.{sort_at}
 use Rattle.fac_locals.specs.Closed.{Closes}
@@ -58,7 +58,7 @@ tested_by : (h : Height) (q : Bool) (o : Option Height) → fits_in h (elim q [ 
 tested_by h true o = refl
 tested_by h false o = fits_so h o
 
-module _ (P : Program) (C : Closed) (heights : List (Option Height)) (M : Image) (b : IsSourceProgram P) (closes : Closes P C.program C.templates) (is_plain : IsPlain C heights M) where
+module _ (P : Program) (C : Closed) (heights : List (Option Height)) (M : Image) (b : IsSessionProgram P) (closes : Closes P C.program C.templates) (is_plain : IsPlain C heights M) where
   -- a word fits by its row as it fits in the meaning
   pub words_tested : (w : ℕ) (h : Height) → fits_in h (row_height (slice_get M.words w)) ≡ word_fits P fits h w
   words_tested w h = by (slice_get P.words w) refl

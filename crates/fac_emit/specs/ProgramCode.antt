@@ -9,7 +9,7 @@ use Rattle.fac_lang.specs.declared.program.WordDef.{WordDef}
 use Rattle.fac_lang.specs.declared.program.Sort.{Sort}
 use Rattle.fac_lang.specs.declared.core_table.CoreWord.{CoreWord}
 use Rattle.fac_lang.specs.declared.core_table.CoreWord.TheVariants.{Call as c_call, Dip as c_dip, If as c_if, Execute as c_execute, Boa as c_boa, Cond as c_cond}
-use Rattle.fac_lang.specs.declared.program.Sort.TheVariants.{Prim as prim_sort, Core as core_sort, Body as body, Itself as itself, Class as class, Isa as isa, Getter as getter, Setter as setter, Putter as putter, Generic as generic, Method as method}
+use Rattle.fac_lang.specs.declared.program.Sort.TheVariants.{Prim as prim_sort, Core as core_sort, Body as body, Past as past, Itself as itself, Class as class, Isa as isa, Getter as getter, Setter as setter, Putter as putter, Generic as generic, Method as method}
 use Rattle.fac_lang.specs.Phrases.{int, yes, no, str, wrd, Phrase, end, then, Item, lit, lit_arr, word, bind, local, call_effect, execute_effect, made, next_after}
 use Rattle.fac_locals.specs.declared.closing.Closed.{Closed}
 use Rattle.fac_code.specs.declared.image.Elem.{Elem}
@@ -132,10 +132,11 @@ module _ (C : Closed) where
   template_rows heights at q [] = []
   template_rows heights at q (t ∷ ts) = row_at (height_there (slice_get heights q)) at t ∷ template_rows heights (at + length (phrase_code Ret t.body)) (suc q) ts
 
-  -- what word w does, whose code, where it has code, stands at a place
+  -- What word w does, whose code, where it has code, stands at a place. Nothing runs an earlier top-level phrase, and its action is any.
   abbrev pub sort_action : ℕ → ℕ → Sort → Action
   sort_action w at (prim_sort k) = action.Prim k
   sort_action w at (core_sort k) = core_action k
+  sort_action w at (past t) = action.Itself
   sort_action w at itself = action.Itself
   sort_action w at (class c) = action.Itself
   sort_action w at (isa c) = action.Isa c

@@ -45,6 +45,7 @@ fn action_of(number: u32, place: u32, sort: &Sort) -> Action
     match sort {
         Sort::Prim(primitive) => Action::Prim(*primitive),
         Sort::Core(core) => action_of_core(*core),
+        Sort::Past(_) => Action::Itself,
         Sort::Itself => Action::Itself,
         Sort::Class(_) => Action::Itself,
         Sort::Isa(class) => Action::Isa(*class),

@@ -1,12 +1,12 @@
 -- The words of a whole program by their numbers, where it may have earlier top-level phrases.
-use Rattle.std.proofs.Common.{◌≡◌, ◌<◌, ℕ, zero, suc, List, [], ◌∷◌, Bool, true, false, not, ◌&&◌, Option, Some, None, refl, ap, subst, ◌∙◌, sym, true≢false, arith}
+use Rattle.std.proofs.Common.{◌≡◌, ◌<◌, ℕ, zero, suc, List, [], ◌∷◌, Bool, true, false, not, ◌&&◌, ◌||◌, Option, Some, None, refl, ap, subst, ◌∙◌, sym, true≢false, arith}
 use Rattle.std.proofs.lemmas.Bool.Decides.{Decides-ltb}
-use Rattle.std.specs.Prelude.{nat_lt, slice_get}
+use Rattle.std.specs.Prelude.{nat_eq, nat_lt, slice_get}
 use Rattle.fac_lang.specs.declared.program.Program.{Program}
 use Rattle.fac_lang.specs.declared.program.WordDef.{WordDef}
 use Rattle.fac_lang.specs.declared.program.Sort.TheVariants.{Body as body}
 use Rattle.fac_lang.specs.Phrases.{Phrase}
-use Rattle.fac_lang.specs.Meaning.{sort_of, sort_phrase, word_phrase, is_top_phrase}
+use Rattle.fac_lang.specs.Meaning.{sort_of, sort_phrase, word_phrase, is_past, is_top_phrase}
 use Rattle.fac_lang.specs.Whole.{is_nameable}
 use Rattle.fac_lang.proofs.SourcePrograms.{IsSessionProgram, IsSortOf, AreWordsOf, may_name, last_of}
 use Rattle.fac_lang.proofs.FormsLemmas.{sort_at, get_front}
@@ -40,15 +40,22 @@ both_true : (a b : Bool) → (a && b) ≡ true → (a ≡ true) × (b ≡ true)
 both_true true b h = (refl, h)
 both_true false b h = absurd (true≢false (sym h))
 
+second_false : (a b : Bool) → (a || b) ≡ false → b ≡ false
+second_false true b h = absurd (true≢false h)
+second_false false b h = h
+
 not_so : (a : Bool) → not a ≡ true → a ≡ false
 not_so true h = absurd (true≢false (sym h))
 not_so false h = refl
 
-pub named_below : (P : Program) (w : ℕ) → may_name P w ≡ true → nat_lt w P.top ≡ true
-named_below P w h = (both_true (nat_lt w P.top) (is_nameable P w) h).0
+pub no_past : (P : Program) (w : ℕ) (d : WordDef) → slice_get P.words w ≡ Some d → is_top_phrase P w ≡ false → is_past (Some d.sort) ≡ false
+no_past P w d e none = ap is_past (sym (sort_at P w d e)) ∙ second_false (nat_eq w P.top) (is_past (sort_of P w)) none
 
-pub named_before : (P : Program) (w : ℕ) → may_name P w ≡ true → w < P.top
-named_before P w h = (Decides-ltb w P.top).0 (named_below P w h)
+pub may_name_below : (P : Program) (w : ℕ) → may_name P w ≡ true → nat_lt w P.top ≡ true
+may_name_below P w h = (both_true (nat_lt w P.top) (is_nameable P w) h).0
 
-pub named_no_phrase : (P : Program) (w : ℕ) → may_name P w ≡ true → is_top_phrase P w ≡ false
-named_no_phrase P w h = not_so (is_top_phrase P w) (both_true (nat_lt w P.top) (is_nameable P w) h).1
+pub may_name_before : (P : Program) (w : ℕ) → may_name P w ≡ true → w < P.top
+may_name_before P w h = (Decides-ltb w P.top).0 (may_name_below P w h)
+
+pub may_name_no_phrase : (P : Program) (w : ℕ) → may_name P w ≡ true → is_top_phrase P w ≡ false
+may_name_no_phrase P w h = not_so (is_top_phrase P w) (both_true (nat_lt w P.top) (is_nameable P w) h).1

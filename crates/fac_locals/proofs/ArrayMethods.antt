@@ -70,25 +70,20 @@ by_words a ds = times_in a (joined (map arrays_named (word_phrases ds)))
 abbrev pub by_arrays : ℕ → List (List Lit) → ℕ
 by_arrays a lss = times_in a (joined (map arrays_in lss))
 
--- the phrase of a word, an earlier top-level one too
-abbrev own_phrase : Sort → Phrase
-own_phrase (past t) = t
-own_phrase s = phrase_of s
-
-sort_split : (a : ℕ) (s : Sort) (ts : List Phrase) → times_in a (joined (map arrays_named (with_phrase s ts))) ≡ times_in a (arrays_named (own_phrase s)) + times_in a (joined (map arrays_named ts))
+sort_split : (a : ℕ) (s : Sort) (ts : List Phrase) → times_in a (joined (map arrays_named (with_phrase s ts))) ≡ times_in a (arrays_named (phrase_of s)) + times_in a (joined (map arrays_named ts))
 sort_split a (body t) ts = times_both a (arrays_named t) (joined (map arrays_named ts))
 sort_split a (past t) ts = times_both a (arrays_named t) (joined (map arrays_named ts))
 sort_split a (method c g t) ts = times_both a (arrays_named t) (joined (map arrays_named ts))
 sort_split a _ ts = omega arith
 
-words_split : (a : ℕ) (d : WordDef) (ds : List WordDef) → by_words a (d ∷ ds) ≡ times_in a (arrays_named (own_phrase d.sort)) + by_words a ds
+pub words_split : (a : ℕ) (d : WordDef) (ds : List WordDef) → by_words a (d ∷ ds) ≡ times_in a (arrays_named (phrase_of d.sort)) + by_words a ds
 words_split a d ds = sort_split a d.sort (word_phrases ds)
 
 module _ (P : Program) where
   abbrev naming_sort : ℕ → ℕ → Sort → Option ℕ → Option ℕ
   naming_sort a k s o = elim s [ method c g t ↦ elim (phrase_names a t) [ true ↦ Some k | false ↦ o ] | _ ↦ o ]
 
-  passed_sort : (a k : ℕ) (s : Sort) (o : Option ℕ) → times_in a (arrays_named (own_phrase s)) ≡ 0 → naming_sort a k s o ≡ o
+  passed_sort : (a k : ℕ) (s : Sort) (o : Option ℕ) → times_in a (arrays_named (phrase_of s)) ≡ 0 → naming_sort a k s o ≡ o
   passed_sort a k (method c g t) o e = ap (λ (b : Bool). elim b [ true ↦ Some k | false ↦ o ]) (told_none (phrase_names a t) (times_in a (arrays_named t)) (phrase_tells a t) e)
   passed_sort a k _ o e = refl
 
@@ -97,26 +92,19 @@ module _ (P : Program) where
   found_sort a k _ o lt e = e
 
   -- what no word names is in no method
-  no_naming : (a k : ℕ) (ds : List WordDef) → by_words a ds ≡ 0 → method_naming P a k ds ≡ None
+  pub no_naming : (a k : ℕ) (ds : List WordDef) → by_words a ds ≡ 0 → method_naming P a k ds ≡ None
   no_naming a k [] e = refl
   no_naming a k (d ∷ ds) e =
       let split = words_split a d ds in
       passed_sort a k d.sort (method_naming P a (suc k) ds) (omega (arith, e, split)) ∙ no_naming a (suc k) ds (omega (arith, e, split))
-
-  own_least : (a : ℕ) (s : Sort) → times_in a (arrays_named (phrase_of s)) ≤ times_in a (arrays_named (own_phrase s))
-  own_least a (past t) = omega arith
-  own_least a (body t) = omega arith
-  own_least a (method c g t) = omega arith
-  own_least a _ = omega arith
 
   word_least : (a k : ℕ) (ds : List WordDef) (d : WordDef) → slice_get ds k ≡ Some d → times_in a (arrays_named (phrase_of d.sort)) ≤ by_words a ds
   word_least a k [] d e = absurd cc
   word_least a zero (x ∷ ds) d e =
       let same : x ≡ d = cc in
       let split = words_split a x ds in
-      let own = own_least a x.sort in
       let here = ap (λ (y : WordDef). times_in a (arrays_named (phrase_of y.sort))) same in
-      omega (arith, split, own, here)
+      omega (arith, split, here)
   word_least a (suc k) (x ∷ ds) d e =
       let split = words_split a x ds in
       let more = word_least a k ds d e in
@@ -129,9 +117,8 @@ module _ (P : Program) where
       let same : x ≡ d = cc in
       let here : k ≡ w = omega (arith, is) in
       let split = words_split a x ds in
-      let own = own_least a x.sort in
       let some = ap (λ (y : WordDef). times_in a (arrays_named (phrase_of y.sort))) same in
-      found_sort a k x.sort (method_naming P a (suc k) ds) (omega (arith, lt, some)) (no_naming a (suc k) ds (omega (arith, split, own, some, lt, once))) ∙ ap (λ (y : WordDef). method_of k y.sort) same ∙ ap (λ (v : ℕ). method_of v d.sort) here
+      found_sort a k x.sort (method_naming P a (suc k) ds) (omega (arith, lt, some)) (no_naming a (suc k) ds (omega (arith, split, some, lt, once))) ∙ ap (λ (y : WordDef). method_of k y.sort) same ∙ ap (λ (v : ℕ). method_of v d.sort) here
   one_naming a k (suc j) w (x ∷ ds) d is e lt once =
       let split = words_split a x ds in
       let least = word_least a j ds d e in
@@ -140,10 +127,10 @@ module _ (P : Program) where
   abbrev naming_array : ℕ → Bool → Option ℕ → Option ℕ
   naming_array k b o = elim b [ true ↦ Some k | false ↦ o ]
 
-  arrays_split : (a : ℕ) (ls : List Lit) (lss : List (List Lit)) → by_arrays a (ls ∷ lss) ≡ times_in a (arrays_in ls) + by_arrays a lss
+  pub arrays_split : (a : ℕ) (ls : List Lit) (lss : List (List Lit)) → by_arrays a (ls ∷ lss) ≡ times_in a (arrays_in ls) + by_arrays a lss
   arrays_split a ls lss = times_both a (arrays_in ls) (joined (map arrays_in lss))
 
-  no_array_naming : (a k : ℕ) (lss : List (List Lit)) → by_arrays a lss ≡ 0 → array_naming P a k lss ≡ None
+  pub no_array_naming : (a k : ℕ) (lss : List (List Lit)) → by_arrays a lss ≡ 0 → array_naming P a k lss ≡ None
   no_array_naming a k [] e = refl
   no_array_naming a k (ls ∷ lss) e =
       let split = arrays_split a ls lss in
@@ -179,7 +166,7 @@ module _ (P : Program) where
   not_below a k ls h lt (inl less) = less
   not_below a k ls h lt (inr le) = absurd (let none = absent a k (arrays_in ls) h le in omega (arith, none, lt))
 
-  naming_later : (a k c : ℕ) (lss : List (List Lit)) → each_numbered names_earlier k lss ≡ true → array_naming P a k lss ≡ Some c → (a < c) × (c < k + length lss)
+  pub naming_later : (a k c : ℕ) (lss : List (List Lit)) → each_numbered names_earlier k lss ≡ true → array_naming P a k lss ≡ Some c → (a < c) × (c < k + length lss)
   naming_later a k c [] h e = absurd cc
   naming_later a k c (ls ∷ lss) h e = go (literals_name a ls) refl (λ f g. naming_later a (suc k) c lss f g)
     where
@@ -225,7 +212,7 @@ module _ (P : Program) where
     nothing_around None (Some c) h = absurd (h c refl)
 
     -- as many arrays around one as there are behind it are enough
-    enough : (k a : ℕ) → length P.arrays ≤ suc (a + k) → array_method P k a ≡ array_method P (suc k) a
+    pub enough : (k a : ℕ) → length P.arrays ≤ suc (a + k) → array_method P k a ≡ array_method P (suc k) a
     enough zero a le = nothing_around (method_naming P a 0 P.words) (array_naming P a 0 P.arrays) (λ c e. let later = naming_later a 0 c P.arrays earlier e in omega (arith, later.0, later.1, le))
     enough (suc k) a le = more_around k (method_naming P a 0 P.words) (array_naming P a 0 P.arrays) (λ c e. let later = naming_later a 0 c P.arrays earlier e in enough k c (omega (arith, later.0, le)))
 

@@ -16,7 +16,7 @@ use Rattle.fac_locals.specs.declared.closing.ArrayStart.{ArrayStart}
 use Rattle.fac_locals.specs.declared.cell.Cell.{Cell}
 use Rattle.fac_locals.specs.Cells.{cells_behind, inner_cells}
 use Rattle.fac_locals.specs.inner.Numbering.{plain_phrase, phrase_of, method_of, phrase_behind, item_behind, closed_template, phrase_templates, item_templates, phrase_starts, item_starts, words_behind, words_templates, words_starts}
-use Rattle.fac_locals.proofs.LiteralArrays.{HasBuiltPhrase, HaveBuiltPhrases, IsClosable, IsClosableItem, AreClosable}
+use Rattle.fac_locals.proofs.LiteralArrays.{IsClosable, IsClosableItem, AreClosable}
 use Rattle.fac_locals.proofs.Puts.{counted, keys, IsPut, IsEntry, put_left, put_right, times_both, keys_both}
 
 -- this number lies among those of an array that starts here
@@ -160,20 +160,20 @@ module _ (counts : List ℕ) (bound : ℕ) where
       let m = method_of w d.sort in
       either_below (b < bound) b x (phrase_starts counts m n (phrase_of d.sort)) (words_starts counts (suc w) j ds) (phrase_noted_below m n (phrase_of d.sort) h.0 b x) (words_noted_below (suc w) j ds h.1 b x) e
 
-  sort_names : (top : ℕ) (s : Sort) (ds : List WordDef) → HasBuiltPhrase top s → arrays_named (phrase_of s) ++ joined (map arrays_named (word_phrases ds)) ≡ joined (map arrays_named (with_phrase s (word_phrases ds)))
-  sort_names top (body t) ds h = refl
-  sort_names top (past t) ds h = absurd h
-  sort_names top (method c g t) ds h = refl
-  sort_names top _ ds h = refl
+  sort_names : (s : Sort) (ds : List WordDef) → arrays_named (phrase_of s) ++ joined (map arrays_named (word_phrases ds)) ≡ joined (map arrays_named (with_phrase s (word_phrases ds)))
+  sort_names (body t) ds = refl
+  sort_names (past t) ds = refl
+  sort_names (method c g t) ds = refl
+  sort_names _ ds = refl
 
   -- the arrays that words name
-  pub words_names_noted : (top w n : ℕ) (ds : List WordDef) → HaveBuiltPhrases top ds → AreClosable bound ds → keys (words_starts counts w n ds) ≡ joined (map arrays_named (word_phrases ds))
-  words_names_noted top w n [] b h = refl
-  words_names_noted top w n (d ∷ ds) b h =
+  pub words_names_noted : (w n : ℕ) (ds : List WordDef) → AreClosable bound ds → keys (words_starts counts w n ds) ≡ joined (map arrays_named (word_phrases ds))
+  words_names_noted w n [] h = refl
+  words_names_noted w n (d ∷ ds) h =
       let j = phrase_behind counts n (phrase_of d.sort) in
       let m = method_of w d.sort in
       keys_both (phrase_starts counts m n (phrase_of d.sort)) (words_starts counts (suc w) j ds)
-      ∙ rw (phrase_names_noted m n (phrase_of d.sort) h.0, words_names_noted top (suc w) j ds b.1 h.1) (sort_names top d.sort ds b.0)
+      ∙ rw (phrase_names_noted m n (phrase_of d.sort) h.0, words_names_noted (suc w) j ds h.1) (sort_names d.sort ds)
 
 pub elements_names : (p : Place) (ls : List Lit) → arrays_named (plain_phrase p ls) ≡ arrays_in ls
 elements_names p [] = refl

@@ -18,7 +18,7 @@ use Rattle.fac_locals.specs.declared.cell.Cell.{Cell}
 use Rattle.fac_locals.specs.declared.cell.Cell.TheVariants.{Local, Hole}
 use Rattle.fac_locals.specs.Cells.{same_cell, number_from, cell_number, cells_behind, binds_cell, is_local, asks, item_asks, keeps_cell, captured_from, captured, kept_cells, hole_cells, inner_cells}
 use Rattle.fac_locals.specs.inner.Numbering.{plain_phrase, phrase_of}
-use Rattle.fac_locals.proofs.LiteralArrays.{HasBuiltPhrase, HaveBuiltPhrases, in_method, item_in}
+use Rattle.fac_locals.proofs.LiteralArrays.{in_method, item_in}
 
 -- A phrase asks for the same in a method.
 
@@ -263,25 +263,28 @@ AreUnder (d ∷ ds) = IsUnder [] (phrase_of d.sort) × AreUnder ds
 end_under : IsUnder [] end
 end_under = under_none end refl refl
 
-words_under : (bound : ℕ) (ds : List WordDef) → HaveBuiltPhrases bound ds → list_all (locals_bound []) (word_phrases ds) ≡ true → list_all (holes_within 0) (word_phrases ds) ≡ true → AreUnder ds
-words_under bound [] h e f = tt
-words_under bound (d ∷ ds) h e f = let both = go d.sort h.0 e f in (both.0, words_under bound ds h.1 both.1 both.2)
+words_under : (ds : List WordDef) → list_all (locals_bound []) (word_phrases ds) ≡ true → list_all (holes_within 0) (word_phrases ds) ≡ true → AreUnder ds
+words_under [] e f = tt
+words_under (d ∷ ds) e f = let both = go d.sort e f in (both.0, words_under ds both.1 both.2)
   where
     go :
-        (s : Sort) → HasBuiltPhrase bound s →
+        (s : Sort) →
         list_all (locals_bound []) (elim s [ body t ↦ t ∷ word_phrases ds | past t ↦ t ∷ word_phrases ds | method c g t ↦ t ∷ word_phrases ds | _ ↦ word_phrases ds ]) ≡ true →
         list_all (holes_within 0) (elim s [ body t ↦ t ∷ word_phrases ds | past t ↦ t ∷ word_phrases ds | method c g t ↦ t ∷ word_phrases ds | _ ↦ word_phrases ds ]) ≡ true →
         IsUnder [] (phrase_of s) × (list_all (locals_bound []) (word_phrases ds) ≡ true) × (list_all (holes_within 0) (word_phrases ds) ≡ true)
-    go (body t) h e f =
+    go (body t) e f =
         let locals = and_parts (locals_bound [] t) _ e in
         let holes = and_parts (holes_within 0 t) _ f in
         (under_none t locals.0 holes.0, locals.1, holes.1)
-    go (past t) h e f = absurd h
-    go (method c g t) h e f =
+    go (past t) e f =
         let locals = and_parts (locals_bound [] t) _ e in
         let holes = and_parts (holes_within 0 t) _ f in
         (under_none t locals.0 holes.0, locals.1, holes.1)
-    go _ h e f = (end_under, e, f)
+    go (method c g t) e f =
+        let locals = and_parts (locals_bound [] t) _ e in
+        let holes = and_parts (holes_within 0 t) _ f in
+        (under_none t locals.0 holes.0, locals.1, holes.1)
+    go _ e f = (end_under, e, f)
 
 first_all : (f : Phrase → Bool) (ts us : List Phrase) → list_all f (ts ++ us) ≡ true → list_all f ts ≡ true
 first_all f ts us e = (and_parts (list_all f ts) (list_all f us) (sym (list_all-append f ts us) ∙ e)).0
@@ -289,8 +292,8 @@ first_all f ts us e = (and_parts (list_all f ts) (list_all f us) (sym (list_all-
 second_all : (f : Phrase → Bool) (ts us : List Phrase) → list_all f (ts ++ us) ≡ true → list_all f us ≡ true
 second_all f ts us e = (and_parts (list_all f ts) (list_all f us) (sym (list_all-append f ts us) ∙ e)).1
 
-pub program_under : (P : Program) → HaveBuiltPhrases P.top P.words → IsWhole P → AreUnder P.words
-program_under P h w = words_under P.top P.words h (first_all (locals_bound []) (word_phrases P.words) (joined (map quotations P.arrays)) w.bound) (first_all (holes_within 0) (word_phrases P.words) (joined (map quotations P.arrays)) w.holes_in_fries)
+pub program_under : (P : Program) → IsWhole P → AreUnder P.words
+program_under P w = words_under P.words (first_all (locals_bound []) (word_phrases P.words) (joined (map quotations P.arrays)) w.bound) (first_all (holes_within 0) (word_phrases P.words) (joined (map quotations P.arrays)) w.holes_in_fries)
 
 -- the elements of an array
 elements_bound : (p : Place) (ls : List Lit) → list_all (locals_bound []) (quotations ls) ≡ true → locals_bound [] (plain_phrase p ls) ≡ true

@@ -13,7 +13,7 @@ use Rattle.fac_lang.specs.declared.program.Program.{Program}
 use Rattle.fac_lang.specs.declared.program.WordDef.{WordDef}
 use Rattle.fac_lang.specs.declared.program.Sort.{Sort}
 use Rattle.fac_lang.specs.declared.program.Sort.TheVariants.{Body as body, Past as past, Method as method}
-use Rattle.fac_lang.proofs.SourcePrograms.{IsSourceProgram}
+use Rattle.fac_lang.proofs.SourcePrograms.{IsSessionProgram}
 use Rattle.fac_lang.specs.Whole.{IsWhole, times_in, each_numbered, names_earlier, arrays_named, arrays_named_by, arrays_in, joined, word_phrases, all_arrays_named}
 use Rattle.fac_locals.specs.declared.cell.Cell.{Cell}
 use Rattle.fac_locals.specs.declared.cell.Cell.TheVariants.{Local, Hole}
@@ -22,7 +22,7 @@ use Rattle.fac_locals.specs.declared.closing.ArrayStart.{ArrayStart}
 use Rattle.fac_locals.specs.Literals.{Quoted, StandsIn, it_is, in_quotation, in_fry, in_array, further, StandsAt, array_phrase, element_item, first_of_word, first_of_literal, first_in_array, behind, literal_or, literal_numbered}
 use Rattle.fac_locals.specs.Closed.{IsMadeBy, Closes, CloseWords, ClosesSort, ClosesPhrase, ClosesItem, ClosesLiteral, CloseLiterals, ClosesElement, CloseElements, CloseArrays}
 use Rattle.fac_locals.specs.inner.Numbering.{put_all, start_of, plain_item, plain_phrase, phrase_of, method_of, next_in, cell_or, phrase_behind, item_behind, closed_item, closed_phrase, closed_template, phrase_templates, item_templates, phrase_starts, item_starts, closed_element, closed_elements, closed_sort, closed_word, closed_words, words_behind, words_templates, words_starts, counts_from, Stage, start_at, elements_at, array_closed, arrays_closed, PartsClosed}
-use Rattle.fac_locals.proofs.LiteralArrays.{HasBuiltPhrase, HaveBuiltPhrases, built_phrases, IsClosable, IsClosableItem, AreClosable, program_closable, array_closable, array_phrase_is, closable_more, in_method, item_in, in_method_is, body_of}
+use Rattle.fac_locals.proofs.LiteralArrays.{IsClosable, IsClosableItem, AreClosable, program_closable, array_closable, array_phrase_is, closable_more, in_method, item_in, in_method_is, body_of}
 use Rattle.fac_locals.proofs.AskedCells.{same_number, IsUnder, IsItemUnder, AreUnder, first_under, rest_under, quotation_under, fry_under, numbered_there, captured_in, quotation_cells_in, fry_cells_in, cells_behind_in, program_under, array_under}
 use Rattle.fac_locals.proofs.TemplateNumbers.{no_cells}
 use Rattle.fac_locals.proofs.PlacedLiterals.{Placed, placed_item, quoted_of, place_at, placed_in, placed_at, placed_words, array_placed, program_placed, placed_literals, placed_places, phrase_counted, item_counted, words_counted, array_unfolds, array_counted, found}
@@ -232,22 +232,23 @@ module _ (P : Program) (counts : List ℕ) (X : ℕ → Literal → Place → Li
         (closed_element counts n l, closed_elements counts (item_behind counts n i) ls, refl, element_closes n before (rest ++ after) at p l h.0 e (first_part before here rest after split), subst (λ (x : Literal). CloseElements P m x ls (closed_elements counts (item_behind counts n i) ls)) (same_behind at l h.0) more)
 
   -- Words from word w on, whose literals are the last ones.
-  sort_closes : (top n w : ℕ) (before after : List Placed) (s : Sort) → HasBuiltPhrase top s → IsClosable (length P.arrays) (phrase_of s) → IsUnder [] (phrase_of s) → length before ≡ n → all ≡ before ++ (placed_in X [] (first_of_word w) (body_of w s) ++ after) → ClosesSort P w s (closed_sort counts w n s)
-  sort_closes top n w before after (body t) b h u e is =
+  sort_closes : (n w : ℕ) (before after : List Placed) (s : Sort) → IsClosable (length P.arrays) (phrase_of s) → IsUnder [] (phrase_of s) → length before ≡ n → all ≡ before ++ (placed_in X [] (first_of_word w) (body_of w s) ++ after) → ClosesSort P w s (closed_sort counts w n s)
+  sort_closes n w before after (body t) h u e is =
       (closed_phrase counts None [] n t, refl, subst (λ (v : Phrase). ClosesPhrase P [] (first_of_word w) v (closed_phrase counts None [] n t)) (in_method_is (length P.arrays) None t h) (phrase_closes None n [] before after (first_of_word w) t h u e is))
-  sort_closes top n w before after (past t) b h u e is = absurd b
-  sort_closes top n w before after (method c g t) b h u e is =
+  sort_closes n w before after (past t) h u e is =
+      (closed_phrase counts None [] n t, refl, subst (λ (v : Phrase). ClosesPhrase P [] (first_of_word w) v (closed_phrase counts None [] n t)) (in_method_is (length P.arrays) None t h) (phrase_closes None n [] before after (first_of_word w) t h u e is))
+  sort_closes n w before after (method c g t) h u e is =
       (closed_phrase counts (Some w) [] n t, refl, subst (λ (v : Phrase). ClosesPhrase P [] (first_of_word w) v (closed_phrase counts (Some w) [] n t)) (in_method_is (length P.arrays) (Some w) t h) (phrase_closes (Some w) n [] before after (first_of_word w) t h u e is))
-  sort_closes top n w before after _ b h u e is = refl
+  sort_closes n w before after _ h u e is = refl
 
-  words_close : (top n w : ℕ) (before : List Placed) (ds : List WordDef) → HaveBuiltPhrases top ds → AreClosable (length P.arrays) ds → AreUnder ds → length before ≡ n → all ≡ before ++ placed_words X w ds → CloseWords P w ds (closed_words counts w n ds)
-  words_close top n w before [] b h u e is = refl
-  words_close top n w before (d ∷ ds) b h u e is =
+  words_close : (n w : ℕ) (before : List Placed) (ds : List WordDef) → AreClosable (length P.arrays) ds → AreUnder ds → length before ≡ n → all ≡ before ++ placed_words X w ds → CloseWords P w ds (closed_words counts w n ds)
+  words_close n w before [] h u e is = refl
+  words_close n w before (d ∷ ds) h u e is =
       let t = phrase_of d.sort in
       let here = placed_in X [] (first_of_word w) (body_of w d.sort) in
       let rest = placed_words X (suc w) ds in
       let j = phrase_behind counts n t in
-      (closed_word counts w n d, closed_words counts (suc w) j ds, refl, record { name = refl; sort = sort_closes top n w before rest d.sort b.0 h.0 u.0 e is; effect = refl; inline = refl; recursive = refl; place = refl }, words_close top j (suc w) (before ++ here) ds b.1 h.1 u.1 (phrase_counted X counts (length P.arrays) count (method_of w d.sort) n before [] (first_of_word w) t h.0 e) (is ∙ sym (append_assoc before here rest)))
+      (closed_word counts w n d, closed_words counts (suc w) j ds, refl, record { name = refl; sort = sort_closes n w before rest d.sort h.0 u.0 e is; effect = refl; inline = refl; recursive = refl; place = refl }, words_close j (suc w) (before ++ here) ds h.1 u.1 (phrase_counted X counts (length P.arrays) count (method_of w d.sort) n before [] (first_of_word w) t h.0 e) (is ∙ sym (append_assoc before here rest)))
 
   words_fill : (n w : ℕ) (before : List Placed) (ds : List WordDef) → AreClosable (length P.arrays) ds → AreUnder ds → length before ≡ n → all ≡ before ++ placed_words X w ds → AllOf Fills (words_templates counts w n ds)
   words_fill n w before [] h u e is = tt
@@ -267,25 +268,25 @@ module _ (P : Program) (counts : List ℕ) (X : ℕ → Literal → Place → Li
   abbrev OwnWords : ℕ → List WordDef → Type 0
   OwnWords w ds = (k v : ℕ) (d : WordDef) → v ≡ w + k → slice_get ds k ≡ Some d → slice_get P.words v ≡ Some d
 
-  word_phrase_is : (top w : ℕ) (d : WordDef) → slice_get P.words w ≡ Some d → HasBuiltPhrase top d.sort → IsClosable (length P.arrays) (phrase_of d.sort) → body_of w d.sort ≡ word_phrase P w
-  word_phrase_is top w d is b h = go d.sort b h ∙ ap (λ (o : Option WordDef). sort_phrase P w (elim o [ Some x ↦ Some x.sort | None ↦ None ])) (sym is)
+  word_phrase_is : (w : ℕ) (d : WordDef) → slice_get P.words w ≡ Some d → IsClosable (length P.arrays) (phrase_of d.sort) → body_of w d.sort ≡ word_phrase P w
+  word_phrase_is w d is h = go d.sort h ∙ ap (λ (o : Option WordDef). sort_phrase P w (elim o [ Some x ↦ Some x.sort | None ↦ None ])) (sym is)
     where
-      go : (s : Sort) → HasBuiltPhrase top s → IsClosable (length P.arrays) (phrase_of s) → body_of w s ≡ sort_phrase P w (Some s)
-      go (body t) b h = in_method_is (length P.arrays) None t h
-      go (past t) b h = absurd b
-      go (method c g t) b h = in_method_is (length P.arrays) (Some w) t h
-      go _ b h = refl
+      go : (s : Sort) → IsClosable (length P.arrays) (phrase_of s) → body_of w s ≡ sort_phrase P w (Some s)
+      go (body t) h = in_method_is (length P.arrays) None t h
+      go (past t) h = in_method_is (length P.arrays) None t h
+      go (method c g t) h = in_method_is (length P.arrays) (Some w) t h
+      go _ h = refl
 
-  words_stand : (top n w : ℕ) (before : List Placed) (ds : List WordDef) → HaveBuiltPhrases top ds → AreClosable (length P.arrays) ds → OwnArrays w ds → OwnWords w ds → length before ≡ n → all ≡ before ++ placed_words X w ds → AllOf Stands (words_starts counts w n ds)
-  words_stand top n w before [] b h own known e is = tt
-  words_stand top n w before (d ∷ ds) b h own known e is =
-      let up : (a : ℕ) (there : Literal) → StandsIn P (first_of_word w) (body_of w d.sort) a there → StandsAt P a there = λ (a : ℕ) (there : Literal) (s : StandsIn P (first_of_word w) (body_of w d.sort) a there). record { word = w; stands = subst (λ (u : Phrase). StandsIn P (first_of_word w) u a there) (word_phrase_is top w d (known 0 w d (omega arith) refl) b.0 h.0) s } in
+  words_stand : (n w : ℕ) (before : List Placed) (ds : List WordDef) → AreClosable (length P.arrays) ds → OwnArrays w ds → OwnWords w ds → length before ≡ n → all ≡ before ++ placed_words X w ds → AllOf Stands (words_starts counts w n ds)
+  words_stand n w before [] h own known e is = tt
+  words_stand n w before (d ∷ ds) h own known e is =
+      let up : (a : ℕ) (there : Literal) → StandsIn P (first_of_word w) (body_of w d.sort) a there → StandsAt P a there = λ (a : ℕ) (there : Literal) (s : StandsIn P (first_of_word w) (body_of w d.sort) a there). record { word = w; stands = subst (λ (u : Phrase). StandsIn P (first_of_word w) u a there) (word_phrase_is w d (known 0 w d (omega arith) refl) h.0) s } in
       let t = phrase_of d.sort in
       let m = method_of w d.sort in
       let here = placed_in X [] (first_of_word w) (body_of w d.sort) in
       let rest = placed_words X (suc w) ds in
       let j = phrase_behind counts n t in
-      all_both Stands (phrase_starts counts m n t) (words_starts counts (suc w) j ds) (starts_stand m n [] before rest (first_of_word w) t h.0 (λ b low some. own 0 w b d (omega arith) refl low some) up e is) (words_stand top j (suc w) (before ++ here) ds b.1 h.1 (λ k v b x is at low some. own (suc k) v b x (omega (arith, is)) at low some) (λ k v x is at. known (suc k) v x (omega (arith, is)) at) (phrase_counted X counts (length P.arrays) count m n before [] (first_of_word w) t h.0 e) (is ∙ sym (append_assoc before here rest)))
+      all_both Stands (phrase_starts counts m n t) (words_starts counts (suc w) j ds) (starts_stand m n [] before rest (first_of_word w) t h.0 (λ b low some. own 0 w b d (omega arith) refl low some) up e is) (words_stand j (suc w) (before ++ here) ds h.1 (λ k v b x is at low some. own (suc k) v b x (omega (arith, is)) at low some) (λ k v x is at. known (suc k) v x (omega (arith, is)) at) (phrase_counted X counts (length P.arrays) count m n before [] (first_of_word w) t h.0 e) (is ∙ sym (append_assoc before here rest)))
 
   -- a stage at which this array is closed, where it starts here and has these elements
   abbrev closed_with : ℕ → Stage → ArrayStart → List Lit → Stage
@@ -418,7 +419,7 @@ module _ (P : Program) (counts : List ℕ) (X : ℕ → Literal → Place → Li
         done = λ (b : ℕ) (xs : List Lit) (le : a ≤ b) (is_b : slice_get P.arrays b ≡ Some xs). done_now b xs le is_b (cases_eq b a);
       }
 
-    module _ (built : IsSourceProgram P) (whole : IsWhole P) (unfolds : (a : ℕ) (at : Literal) (p : Place) (ls : List Lit) → slice_get P.arrays a ≡ Some ls → a < length P.arrays → X a at p ≡ placed_in X [] (first_in_array at) (in_method (array_method P (length P.arrays) a) (plain_phrase p ls))) where
+    module _ (built : IsSessionProgram P) (whole : IsWhole P) (unfolds : (a : ℕ) (at : Literal) (p : Place) (ls : List Lit) → slice_get P.arrays a ≡ Some ls → a < length P.arrays → X a at p ≡ placed_in X [] (first_in_array at) (in_method (array_method P (length P.arrays) a) (plain_phrase p ls))) where
       step : (a : ℕ) (s : Stage) → a < length P.arrays → ClosedFrom (suc a) s → ClosedFrom a (array_closed counts a s)
       step a s within h =
           let here = found P.arrays a within in
@@ -452,13 +453,13 @@ module _ (P : Program) (counts : List ℕ) (X : ℕ → Literal → Place → Li
         words_end = sym (words_counted X counts (length P.arrays) count 0 0 [] P.words closable_words refl) ∙ sym (ap length all_is)
 
         words_filled : AllOf Fills word_templates
-        words_filled = words_fill 0 0 [] P.words closable_words (program_under P (built_phrases P built) whole) refl all_is
+        words_filled = words_fill 0 0 [] P.words closable_words (program_under P whole) refl all_is
 
         words_standing : AllOf Stands word_starts
-        words_standing = words_stand P.top 0 0 [] P.words (built_phrases P built) closable_words (λ k v b d is at low some. let here : k ≡ v = omega (arith, is) in word_array P once earlier v b d low (ap (slice_get P.words) (sym here) ∙ at) some) (λ k v d is at. let here : k ≡ v = omega (arith, is) in ap (slice_get P.words) (sym here) ∙ at) refl all_is
+        words_standing = words_stand 0 0 [] P.words closable_words (λ k v b d is at low some. let here : k ≡ v = omega (arith, is) in word_array P once earlier v b d low (ap (slice_get P.words) (sym here) ∙ at) some) (λ k v d is at. let here : k ≡ v = omega (arith, is) in ap (slice_get P.words) (sym here) ∙ at) refl all_is
 
         names_of_words : (b : ℕ) → times_in b (keys word_starts) ≡ times_in b (joined (map arrays_named (word_phrases P.words)))
-        names_of_words b = ap (times_in b) (words_names_noted counts (length P.arrays) P.top 0 0 P.words (built_phrases P built) closable_words)
+        names_of_words b = ap (times_in b) (words_names_noted counts (length P.arrays) 0 0 P.words closable_words)
 
         names_of_arrays : (b : ℕ) → times_in b (names_below (length P.arrays) P.arrays) ≡ times_in b (joined (map arrays_in P.arrays))
         names_of_arrays b = ap (times_in b) (names_all P.arrays)
@@ -524,11 +525,11 @@ mapped_at f [] k x e = absurd cc
 mapped_at f (y ∷ xs) zero x e = ap (λ z. Some (f z)) (some_same y x e)
 mapped_at f (y ∷ xs) (suc k) x e = mapped_at f xs k x e
 
-module _ (P : Program) (b : IsSourceProgram P) (w : IsWhole P) where
+module _ (P : Program) (b : IsSessionProgram P) (w : IsWhole P) where
   numbered : (k : ℕ) (l : Placed) → slice_get (program_placed P) k ≡ Some l → literal_numbered P k ≡ l.0
   numbered k l is = ap (literal_or P k) (ap (λ (ls : List Quoted). slice_get ls k) (sym (placed_literals P b w)) ∙ mapped_at quoted_of (program_placed P) k l is)
 
-  named_once : (a : ℕ) → a < length P.arrays → by_words a P.words + by_arrays a P.arrays ≡ 1
+  pub named_once : (a : ℕ) → a < length P.arrays → by_words a P.words + by_arrays a P.arrays ≡ 1
   named_once a lt = sym (times_both a (joined (map arrays_named (word_phrases P.words))) (joined (map arrays_in P.arrays))) ∙ below_once (λ (k : ℕ). times_in k (all_arrays_named P)) (length P.arrays) a w.arrays_once lt
 
   closes_stage : (counts : List ℕ) → counts ≡ counts_from [] P.arrays → (unfilled : List Template) (unmet : List ArrayStart) → length unfilled ≡ words_behind counts 0 P.words → length unmet ≡ length P.arrays → (s : Stage) → s ≡ arrays_closed counts (length P.arrays) (record { arrays = P.arrays; templates = put_all unfilled (words_templates counts 0 0 P.words); starts = put_all unmet (words_starts counts 0 0 P.words) }) → Closes P (record { words = closed_words counts 0 0 P.words; arrays = s.arrays; classes = P.classes; top = P.top }) s.templates
@@ -539,7 +540,7 @@ module _ (P : Program) (b : IsSourceProgram P) (w : IsWhole P) where
       let h = subst (ClosedFrom P counts X every count numbered 0) (sym s_is) (everything_closed P counts X every count numbered named_once w.arrays_earlier b w (array_unfolds P b w) refl unfilled unmet many_unfilled many_unmet) in
       let both = literals_close P every s.templates h.many_templates (all_filled P counts X every count numbered s h) in
       record {
-        words = words_close P counts X every count numbered P.top 0 0 [] P.words (built_phrases P b) (program_closable P b w) (program_under P (built_phrases P b) w) refl refl;
+        words = words_close P counts X every count numbered 0 0 [] P.words (program_closable P b w) (program_under P w) refl refl;
         templates_are = subst (λ (ls : List Quoted). CloseLiterals P ls s.templates) (placed_literals P b w) both.0;
         places = both.1 ∙ placed_places P b w;
         arrays = arrays_close P 0 P.arrays s.arrays h.many_arrays (λ (j a : ℕ) (ls : List Lit) (is : a ≡ 0 + j) (e : slice_get P.arrays j ≡ Some ls). let here : j ≡ a = omega (arith, is) in let found = h.done j ls (omega arith) e in (found.0, found.1, subst (λ (n : ℕ). IsClosedArray P n ls found.0) here found.2));

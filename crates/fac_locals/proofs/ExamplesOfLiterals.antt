@@ -1,5 +1,5 @@
 -- The literals of a small program, and its closed form.
-use Rattle.std.proofs.Common.{◌≡◌, ℕ, pos, List, [], ◌∷◌, false, None, refl}
+use Rattle.std.proofs.Common.{◌≡◌, ℕ, pos, List, [], ◌∷◌, ◌++◌, false, None, refl}
 use Rattle.std.specs.Prelude.{map, codes}
 use Rattle.fac_base.specs.declared.place.Place.{Place}
 use Rattle.fac_lang.specs.declared.phrase.Template.{Template}
@@ -7,7 +7,7 @@ use Rattle.fac_lang.specs.declared.program.Lit.{Lit}
 use Rattle.fac_lang.specs.declared.program.Lit.TheVariants.{Int as l_int, Arr as l_arr, Quot as l_quot, Made as l_made}
 use Rattle.fac_lang.specs.declared.program.Program.{Program}
 use Rattle.fac_lang.specs.declared.program.WordDef.{WordDef}
-use Rattle.fac_lang.specs.declared.program.Sort.TheVariants.{Body as body, Method as method}
+use Rattle.fac_lang.specs.declared.program.Sort.TheVariants.{Body as body, Past as past, Method as method}
 use Rattle.fac_base.specs.Signatures.{signature, no_inputs, leaves}
 use Rattle.fac_lang.specs.Phrases.{Phrase, end, then, Item, lit_arr, quot, word, next_method, made, next_after}
 use Rattle.fac_lang.specs.Meaning.{nowhere}
@@ -51,6 +51,22 @@ template is = template_of [] nowhere (quotation is) (phrase is)
 -- also in the templates
 pub templates_are : made_templates words [] ≡ template (number 2 ∷ made 1 ∷ number 4 ∷ []) ∷ template (number 3 ∷ []) ∷ template [] ∷ template (made 4 ∷ word 0 ∷ []) ∷ template (word 0 ∷ []) ∷ []
 templates_are = refl
+
+-- The phrase as an earlier one, and another behind it. What there was has the number that it had.
+abbrev earlier : List Item → WordDef
+earlier is = word_of (codes "scratchpad") (codes "w") (past (phrase is)) (signature None no_inputs (leaves None [])) false false
+
+abbrev later : List WordDef
+later = written (number 1 ∷ quotation (number 2 ∷ quotation (number 3 ∷ []) ∷ number 4 ∷ []) ∷ quotation [] ∷ []) ∷ earlier (quotation (quotation (word 0 ∷ []) ∷ word 0 ∷ []) ∷ number 5 ∷ []) ∷ written (quotation (number 6 ∷ []) ∷ []) ∷ []
+
+pub later_literals_are : literals (record { words = later; arrays = []; classes = []; top = 2 }) ≡ literals program ++ literal 2 0 (number 6 ∷ []) ∷ []
+later_literals_are = refl
+
+pub later_closed_are : made_words later [] ≡ written (number 1 ∷ made 0 ∷ made 2 ∷ []) ∷ earlier (made 3 ∷ number 5 ∷ []) ∷ written (made 5 ∷ []) ∷ []
+later_closed_are = refl
+
+pub later_templates_are : made_templates later [] ≡ made_templates words [] ++ template (number 6 ∷ []) ∷ []
+later_templates_are = refl
 
 abbrev token : ℕ → Place
 token n = record { file = 1; token = n }

@@ -1,5 +1,5 @@
 -- The literal arrays of a whole program: each names only earlier ones, and so many quotations are counted in each.
-use Rattle.std.proofs.Common.{◌≡◌, ◌<◌, ◌≤◌, ℕ, zero, suc, ◌+◌, List, [], ◌∷◌, ◌++◌, length, get_or, Option, Some, None, true, refl, sym, ap, ◌∙◌, subst, length-append, arith}
+use Rattle.std.proofs.Common.{◌≡◌, ◌<◌, ◌≤◌, ℕ, zero, suc, ◌+◌, List, [], ◌∷◌, ◌++◌, length, get_or, Option, Some, None, Bool, true, refl, sym, ap, ◌∙◌, subst, length-append, arith}
 use Rattle.std.specs.Prelude.{map, slice_get, nat_lt, ◌&&◌}
 use Rattle.std.specs.List.{list_all}
 use Rattle.std.proofs.lemmas.List.{get_or_append_left, get_or_at}
@@ -15,36 +15,36 @@ use Rattle.fac_lang.specs.declared.program.Program.{Program}
 use Rattle.fac_lang.specs.declared.program.WordDef.{WordDef}
 use Rattle.fac_lang.specs.declared.program.Sort.{Sort}
 use Rattle.fac_lang.specs.declared.program.Sort.TheVariants.{Body as body, Past as past, Method as method}
-use Rattle.fac_lang.proofs.SourcePrograms.{IsSourceProgram, IsSourcePhrase, IsSourceItem, IsSourceSort, AreSourceWords, AreSourceElements, AreSourceArrays}
+use Rattle.fac_lang.proofs.SourcePrograms.{IsSessionProgram, IsPhraseOf, IsItemOf, IsSortOf, AreWordsOf, AreElementsOf, AreArraysOf, may_name}
 use Rattle.fac_lang.specs.Whole.{IsWhole, each_item, each_inner, item_fits, word_phrases, quotations, joined, arrays_named, arrays_named_by, arrays_in, each_numbered, names_earlier}
 use Rattle.fac_locals.specs.Literals.{array_phrase, array_or_none, elements_phrase}
 use Rattle.fac_locals.specs.inner.Numbering.{phrase_behind, item_behind, plain_phrase, phrase_of, method_of, next_in, elements_count, counts_from}
 
 -- the phrase of a word, where it has one, has the items that a source can have
-abbrev pub HasBuiltPhrase : ℕ → Sort → Type 0
-HasBuiltPhrase bound (body t) = IsSourcePhrase bound t
-HasBuiltPhrase bound (past t) = ⊥
-HasBuiltPhrase bound (method c g t) = IsSourcePhrase bound t
-HasBuiltPhrase bound _ = Unit {0}
+abbrev pub HasBuiltPhrase : (ℕ → Bool) → Sort → Type 0
+HasBuiltPhrase named (body t) = IsPhraseOf named t
+HasBuiltPhrase named (past t) = IsPhraseOf named t
+HasBuiltPhrase named (method c g t) = IsPhraseOf named t
+HasBuiltPhrase named _ = Unit {0}
 
 -- likewise the phrases of words
-abbrev pub HaveBuiltPhrases : ℕ → List WordDef → Type 0
-HaveBuiltPhrases bound [] = Unit {0}
-HaveBuiltPhrases bound (d ∷ ds) = HasBuiltPhrase bound d.sort × HaveBuiltPhrases bound ds
+abbrev pub HaveBuiltPhrases : (ℕ → Bool) → List WordDef → Type 0
+HaveBuiltPhrases named [] = Unit {0}
+HaveBuiltPhrases named (d ∷ ds) = HasBuiltPhrase named d.sort × HaveBuiltPhrases named ds
 
-sort_built : (bound : ℕ) (d : WordDef) (s : Sort) → IsSourceSort bound d s → HasBuiltPhrase bound s
-sort_built bound d (body t) h = h
-sort_built bound d (past t) h = absurd h
-sort_built bound d (method c g t) h = h.1
-sort_built bound d _ h = tt
+sort_built : (named : ℕ → Bool) (d : WordDef) (s : Sort) → IsSortOf named d s → HasBuiltPhrase named s
+sort_built named d (body t) h = h
+sort_built named d (past t) h = h.1
+sort_built named d (method c g t) h = h.1
+sort_built named d _ h = tt
 
-phrases_built : (bound : ℕ) (ds : List WordDef) (d : WordDef) → AreSourceWords bound ds → HasBuiltPhrase bound d.sort → HaveBuiltPhrases bound (ds ++ d ∷ [])
-phrases_built bound [] d hs h = (h, tt)
-phrases_built bound (x ∷ ds) d hs h = (sort_built bound x x.sort hs.0, phrases_built bound ds d hs.1 h)
+phrases_built : (named : ℕ → Bool) (ds : List WordDef) (d : WordDef) → AreWordsOf named ds → HasBuiltPhrase named d.sort → HaveBuiltPhrases named (ds ++ d ∷ [])
+phrases_built named [] d hs h = (h, tt)
+phrases_built named (x ∷ ds) d hs h = (sort_built named x x.sort hs.0, phrases_built named ds d hs.1 h)
 
 -- each phrase of a whole program has such items
-pub built_phrases : (P : Program) → IsSourceProgram P → HaveBuiltPhrases P.top P.words
-built_phrases P b = rw b.words_are (phrases_built P.top b.words b.last_word b.words_from_source (rw b.last_word_is.sort_is b.last_word_is.from_source))
+pub built_phrases : (P : Program) → IsSessionProgram P → HaveBuiltPhrases (may_name P) P.words
+built_phrases P b = subst (HaveBuiltPhrases (may_name P)) (sym b.words_are) (phrases_built (may_name P) b.words b.last_word b.words_from_source (subst (HasBuiltPhrase (may_name P)) (sym b.last_word_is.sort_is) b.last_word_is.from_source))
 
 -- a phrase with such items that names only literal arrays before this one
 abbrev mutual
@@ -154,87 +154,87 @@ mutual
 
 -- a phrase whose items fit
 mutual
-  fitting_closable : (P : Program) (bound : ℕ) (t : Phrase) → IsSourcePhrase bound t → each_item (item_fits P) t ≡ true → IsClosable (length P.arrays) t
-  fitting_closable P bound end h e = tt
-  fitting_closable P bound (then i p t) h e =
+  fitting_closable : (P : Program) (named : ℕ → Bool) (t : Phrase) → IsPhraseOf named t → each_item (item_fits P) t ≡ true → IsClosable (length P.arrays) t
+  fitting_closable P named end h e = tt
+  fitting_closable P named (then i p t) h e =
       let later = and_parts _ (each_item (item_fits P) t) e in
-      (fitting_item P bound i h.0 later.0, fitting_closable P bound t h.1 later.1)
+      (fitting_item P named i h.0 later.0, fitting_closable P named t h.1 later.1)
 
-  fitting_item : (P : Program) (bound : ℕ) (i : Item) → IsSourceItem bound i → (item_fits P i && each_inner (item_fits P) i) ≡ true → IsClosableItem (length P.arrays) i
-  fitting_item P bound (lit q) h e = tt
-  fitting_item P bound (lit_arr b) h e = ltb-true b (length P.arrays) (and_parts (nat_lt b (length P.arrays)) true e).0
-  fitting_item P bound (word w) h e = tt
-  fitting_item P bound (quot t) h e = fitting_closable P bound t h (and_parts true (each_item (item_fits P) t) e).1
-  fitting_item P bound (bind x) h e = tt
-  fitting_item P bound (local x) h e = tt
-  fitting_item P bound (fry t n) h e = fitting_closable P bound t h (and_parts true (each_item (item_fits P) t) e).1
-  fitting_item P bound (hole k) h e = tt
-  fitting_item P bound next_method h e = tt
-  fitting_item P bound (call_effect g) h e = tt
-  fitting_item P bound (execute_effect g) h e = tt
-  fitting_item P bound _ h e = absurd h
+  fitting_item : (P : Program) (named : ℕ → Bool) (i : Item) → IsItemOf named i → (item_fits P i && each_inner (item_fits P) i) ≡ true → IsClosableItem (length P.arrays) i
+  fitting_item P named (lit q) h e = tt
+  fitting_item P named (lit_arr b) h e = ltb-true b (length P.arrays) (and_parts (nat_lt b (length P.arrays)) true e).0
+  fitting_item P named (word w) h e = tt
+  fitting_item P named (quot t) h e = fitting_closable P named t h (and_parts true (each_item (item_fits P) t) e).1
+  fitting_item P named (bind x) h e = tt
+  fitting_item P named (local x) h e = tt
+  fitting_item P named (fry t n) h e = fitting_closable P named t h (and_parts true (each_item (item_fits P) t) e).1
+  fitting_item P named (hole k) h e = tt
+  fitting_item P named next_method h e = tt
+  fitting_item P named (call_effect g) h e = tt
+  fitting_item P named (execute_effect g) h e = tt
+  fitting_item P named _ h e = absurd h
 
-words_closable : (P : Program) (bound : ℕ) (ds : List WordDef) → HaveBuiltPhrases bound ds → list_all (each_item (item_fits P)) (word_phrases ds) ≡ true → AreClosable (length P.arrays) ds
-words_closable P bound [] h e = tt
-words_closable P bound (d ∷ ds) h e = let both = go d.sort h.0 e in (both.0, words_closable P bound ds h.1 both.1) where
-  go : (s : Sort) → HasBuiltPhrase bound s → list_all (each_item (item_fits P)) (elim s [ body t ↦ t ∷ word_phrases ds | past t ↦ t ∷ word_phrases ds | method c g t ↦ t ∷ word_phrases ds | _ ↦ word_phrases ds ]) ≡ true → IsClosable (length P.arrays) (phrase_of s) × (list_all (each_item (item_fits P)) (word_phrases ds) ≡ true)
-  go (body t) h e = let both = and_parts (each_item (item_fits P) t) _ e in (fitting_closable P bound t h both.0, both.1)
-  go (past t) h e = absurd h
-  go (method c g t) h e = let both = and_parts (each_item (item_fits P) t) _ e in (fitting_closable P bound t h both.0, both.1)
+words_closable : (P : Program) (named : ℕ → Bool) (ds : List WordDef) → HaveBuiltPhrases named ds → list_all (each_item (item_fits P)) (word_phrases ds) ≡ true → AreClosable (length P.arrays) ds
+words_closable P named [] h e = tt
+words_closable P named (d ∷ ds) h e = let both = go d.sort h.0 e in (both.0, words_closable P named ds h.1 both.1) where
+  go : (s : Sort) → HasBuiltPhrase named s → list_all (each_item (item_fits P)) (elim s [ body t ↦ t ∷ word_phrases ds | past t ↦ t ∷ word_phrases ds | method c g t ↦ t ∷ word_phrases ds | _ ↦ word_phrases ds ]) ≡ true → IsClosable (length P.arrays) (phrase_of s) × (list_all (each_item (item_fits P)) (word_phrases ds) ≡ true)
+  go (body t) h e = let both = and_parts (each_item (item_fits P) t) _ e in (fitting_closable P named t h both.0, both.1)
+  go (past t) h e = let both = and_parts (each_item (item_fits P) t) _ e in (fitting_closable P named t h both.0, both.1)
+  go (method c g t) h e = let both = and_parts (each_item (item_fits P) t) _ e in (fitting_closable P named t h both.0, both.1)
   go _ h e = (tt, e)
 
 -- the phrases of a built and whole program name only arrays that are there
-pub program_closable : (P : Program) → IsSourceProgram P → IsWhole P → AreClosable (length P.arrays) P.words
+pub program_closable : (P : Program) → IsSessionProgram P → IsWhole P → AreClosable (length P.arrays) P.words
 program_closable P b w =
-    words_closable P P.top P.words (built_phrases P b) (and_parts _ _ (sym (list_all-append (each_item (item_fits P)) (word_phrases P.words) (joined (map quotations P.arrays))) ∙ w.items_fit)).0
+    words_closable P (may_name P) P.words (built_phrases P b) (and_parts _ _ (sym (list_all-append (each_item (item_fits P)) (word_phrases P.words) (joined (map quotations P.arrays))) ∙ w.items_fit)).0
 
 -- a phrase whose arrays are all before this one, by the same cases as for `fitting_closable`; the tests have nothing else in common
 mutual
-  naming_closable : (bound a : ℕ) (t : Phrase) → IsSourcePhrase bound t → list_all (λ (b : ℕ). nat_lt b a) (arrays_named t) ≡ true → IsClosable a t
-  naming_closable bound a end h e = tt
-  naming_closable bound a (then i p t) h e =
+  naming_closable : (named : ℕ → Bool) (a : ℕ) (t : Phrase) → IsPhraseOf named t → list_all (λ (b : ℕ). nat_lt b a) (arrays_named t) ≡ true → IsClosable a t
+  naming_closable named a end h e = tt
+  naming_closable named a (then i p t) h e =
       let both = and_parts _ _ (sym (list_all-append (λ (b : ℕ). nat_lt b a) (arrays_named_by i) (arrays_named t)) ∙ e) in
-      (naming_item bound a i h.0 both.0, naming_closable bound a t h.1 both.1)
+      (naming_item named a i h.0 both.0, naming_closable named a t h.1 both.1)
 
-  naming_item : (bound a : ℕ) (i : Item) → IsSourceItem bound i → list_all (λ (b : ℕ). nat_lt b a) (arrays_named_by i) ≡ true → IsClosableItem a i
-  naming_item bound a (lit q) h e = tt
-  naming_item bound a (lit_arr b) h e = ltb-true b a (and_parts (nat_lt b a) true e).0
-  naming_item bound a (word w) h e = tt
-  naming_item bound a (quot t) h e = naming_closable bound a t h e
-  naming_item bound a (bind x) h e = tt
-  naming_item bound a (local x) h e = tt
-  naming_item bound a (fry t n) h e = naming_closable bound a t h e
-  naming_item bound a (hole k) h e = tt
-  naming_item bound a next_method h e = tt
-  naming_item bound a (call_effect g) h e = tt
-  naming_item bound a (execute_effect g) h e = tt
-  naming_item bound a _ h e = absurd h
+  naming_item : (named : ℕ → Bool) (a : ℕ) (i : Item) → IsItemOf named i → list_all (λ (b : ℕ). nat_lt b a) (arrays_named_by i) ≡ true → IsClosableItem a i
+  naming_item named a (lit q) h e = tt
+  naming_item named a (lit_arr b) h e = ltb-true b a (and_parts (nat_lt b a) true e).0
+  naming_item named a (word w) h e = tt
+  naming_item named a (quot t) h e = naming_closable named a t h e
+  naming_item named a (bind x) h e = tt
+  naming_item named a (local x) h e = tt
+  naming_item named a (fry t n) h e = naming_closable named a t h e
+  naming_item named a (hole k) h e = tt
+  naming_item named a next_method h e = tt
+  naming_item named a (call_effect g) h e = tt
+  naming_item named a (execute_effect g) h e = tt
+  naming_item named a _ h e = absurd h
 
-elements_closable : (bound a : ℕ) (p : Place) (ls : List Lit) → AreSourceElements bound ls → list_all (λ (b : ℕ). nat_lt b a) (arrays_in ls) ≡ true → IsClosable a (plain_phrase p ls)
-elements_closable bound a p [] h e = tt
-elements_closable bound a p (l_int z ∷ ls) h e = (tt, elements_closable bound a p ls h.1 e)
-elements_closable bound a p (l_yes ∷ ls) h e = (tt, elements_closable bound a p ls h.1 e)
-elements_closable bound a p (l_no ∷ ls) h e = (tt, elements_closable bound a p ls h.1 e)
-elements_closable bound a p (l_str s ∷ ls) h e = (tt, elements_closable bound a p ls h.1 e)
-elements_closable bound a p (l_arr b ∷ ls) h e = let both = and_parts (nat_lt b a) _ e in (ltb-true b a both.0, elements_closable bound a p ls h.1 both.1)
-elements_closable bound a p (l_word w ∷ ls) h e = (tt, elements_closable bound a p ls h.1 e)
-elements_closable bound a p (l_quot t ∷ ls) h e =
+elements_closable : (named : ℕ → Bool) (a : ℕ) (p : Place) (ls : List Lit) → AreElementsOf named ls → list_all (λ (b : ℕ). nat_lt b a) (arrays_in ls) ≡ true → IsClosable a (plain_phrase p ls)
+elements_closable named a p [] h e = tt
+elements_closable named a p (l_int z ∷ ls) h e = (tt, elements_closable named a p ls h.1 e)
+elements_closable named a p (l_yes ∷ ls) h e = (tt, elements_closable named a p ls h.1 e)
+elements_closable named a p (l_no ∷ ls) h e = (tt, elements_closable named a p ls h.1 e)
+elements_closable named a p (l_str s ∷ ls) h e = (tt, elements_closable named a p ls h.1 e)
+elements_closable named a p (l_arr b ∷ ls) h e = let both = and_parts (nat_lt b a) _ e in (ltb-true b a both.0, elements_closable named a p ls h.1 both.1)
+elements_closable named a p (l_word w ∷ ls) h e = (tt, elements_closable named a p ls h.1 e)
+elements_closable named a p (l_quot t ∷ ls) h e =
     let both = and_parts _ _ (sym (list_all-append (λ (b : ℕ). nat_lt b a) (arrays_named t) (arrays_in ls)) ∙ e) in
-    (naming_closable bound a t h.0 both.0, elements_closable bound a p ls h.1 both.1)
-elements_closable bound a p (l_made k ∷ ls) h e = absurd h.0
+    (naming_closable named a t h.0 both.0, elements_closable named a p ls h.1 both.1)
+elements_closable named a p (l_made k ∷ ls) h e = absurd h.0
 
-arrays_closable : (bound k a j : ℕ) (p : Place) (lss : List (List Lit)) (ls : List Lit) → AreSourceArrays bound lss → each_numbered names_earlier k lss ≡ true → a ≡ k + j → slice_get lss j ≡ Some ls → IsClosable a (plain_phrase p ls)
-arrays_closable bound k a j p [] ls h e is at = absurd cc
-arrays_closable bound k a zero p (xs ∷ lss) ls h e is at =
+arrays_closable : (named : ℕ → Bool) (k a j : ℕ) (p : Place) (lss : List (List Lit)) (ls : List Lit) → AreArraysOf named lss → each_numbered names_earlier k lss ≡ true → a ≡ k + j → slice_get lss j ≡ Some ls → IsClosable a (plain_phrase p ls)
+arrays_closable named k a j p [] ls h e is at = absurd cc
+arrays_closable named k a zero p (xs ∷ lss) ls h e is at =
     let same : xs ≡ ls = cc in
     let here : k ≡ a = omega (arith, is) in
     let both = and_parts (names_earlier k xs) _ e in
-    subst (λ (ys : List Lit). IsClosable a (plain_phrase p ys)) same (subst (λ (n : ℕ). IsClosable n (plain_phrase p xs)) here (elements_closable bound k p xs h.0 both.0))
-arrays_closable bound k a (suc j) p (xs ∷ lss) ls h e is at = arrays_closable bound (suc k) a j p lss ls h.1 (and_parts (names_earlier k xs) _ e).1 (omega (arith, is)) at
+    subst (λ (ys : List Lit). IsClosable a (plain_phrase p ys)) same (subst (λ (n : ℕ). IsClosable n (plain_phrase p xs)) here (elements_closable named k p xs h.0 both.0))
+arrays_closable named k a (suc j) p (xs ∷ lss) ls h e is at = arrays_closable named (suc k) a j p lss ls h.1 (and_parts (names_earlier k xs) _ e).1 (omega (arith, is)) at
 
 -- the elements of a literal array name only earlier ones
-pub array_closable : (P : Program) → IsSourceProgram P → IsWhole P → (a : ℕ) (p : Place) (ls : List Lit) → slice_get P.arrays a ≡ Some ls → IsClosable a (plain_phrase p ls)
-array_closable P b w a p ls at = arrays_closable P.top 0 a a p P.arrays ls b.arrays_from_source w.arrays_earlier (omega arith) at
+pub array_closable : (P : Program) → IsSessionProgram P → IsWhole P → (a : ℕ) (p : Place) (ls : List Lit) → slice_get P.arrays a ≡ Some ls → IsClosable a (plain_phrase p ls)
+array_closable P b w a p ls at = arrays_closable (may_name P) 0 a a p P.arrays ls b.arrays_from_source w.arrays_earlier (omega arith) at
 
 -- the items of a literal array that stands in a method, or in none
 pub elements_in : (a : ℕ) (m : Option ℕ) (p : Place) (ls : List Lit) → IsClosable a (plain_phrase p ls) → in_method m (plain_phrase p ls) ≡ elements_phrase m p ls
@@ -248,7 +248,7 @@ elements_in a m p (l_word w ∷ ls) h = ap (then (lit (wrd w)) p) (elements_in a
 elements_in a m p (l_quot t ∷ ls) h = both_items (quot (in_method m t)) (quot (of_method_if m t)) p (in_method m (plain_phrase p ls)) (elements_phrase m p ls) (ap quot (in_method_is a m t h.0)) (elements_in a m p ls h.1)
 elements_in a m p (l_made k ∷ ls) h = absurd h.0
 
-pub array_phrase_is : (P : Program) → IsSourceProgram P → IsWhole P → (a : ℕ) (p : Place) (ls : List Lit) → slice_get P.arrays a ≡ Some ls → array_phrase P a p ≡ in_method (array_method P (length P.arrays) a) (plain_phrase p ls)
+pub array_phrase_is : (P : Program) → IsSessionProgram P → IsWhole P → (a : ℕ) (p : Place) (ls : List Lit) → slice_get P.arrays a ≡ Some ls → array_phrase P a p ≡ in_method (array_method P (length P.arrays) a) (plain_phrase p ls)
 array_phrase_is P b w a p ls at = ap (λ (o : Option (List Lit)). elements_phrase (array_method P (length P.arrays) a) p (array_or_none o)) at ∙ sym (elements_in a (array_method P (length P.arrays) a) p ls (array_closable P b w a p ls at))
 
 -- Counts.
@@ -297,5 +297,5 @@ counts_at P k a zero cs (xs ∷ lss) ls long is at h =
 counts_at P k a (suc j) cs (xs ∷ lss) ls long is at h = counts_at P (suc k) a j (cs ++ elements_count cs xs ∷ []) lss ls (one_longer cs (elements_count cs xs) k long) (omega (arith, is)) at h
 
 -- so many quotations are counted in a literal array as its elements have
-pub counted_elements : (P : Program) → IsSourceProgram P → IsWhole P → (a : ℕ) (ls : List Lit) → slice_get P.arrays a ≡ Some ls → get_or (counts_from [] P.arrays) a 0 ≡ elements_count (counts_from [] P.arrays) ls
+pub counted_elements : (P : Program) → IsSessionProgram P → IsWhole P → (a : ℕ) (ls : List Lit) → slice_get P.arrays a ≡ Some ls → get_or (counts_from [] P.arrays) a 0 ≡ elements_count (counts_from [] P.arrays) ls
 counted_elements P b w a ls at = counts_at P 0 a a [] P.arrays ls refl (omega arith) at (array_closable P b w a nowhere ls at)

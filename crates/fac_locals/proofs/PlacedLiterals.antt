@@ -11,14 +11,14 @@ use Rattle.fac_lang.specs.declared.program.Program.{Program}
 use Rattle.fac_lang.specs.declared.program.WordDef.{WordDef}
 use Rattle.fac_lang.specs.declared.program.Sort.{Sort}
 use Rattle.fac_lang.specs.declared.program.Sort.TheVariants.{Body as body, Past as past, Method as method}
-use Rattle.fac_lang.proofs.SourcePrograms.{IsSourceProgram}
+use Rattle.fac_lang.proofs.SourcePrograms.{IsSessionProgram}
 use Rattle.fac_lang.specs.Whole.{IsWhole}
 use Rattle.fac_locals.specs.declared.cell.Cell.{Cell}
 use Rattle.fac_locals.specs.Cells.{cells_behind, inner_cells}
 use Rattle.fac_locals.specs.Literals.{Quoted, first_of_word, first_of_literal, first_in_array, behind, literals_in, literals_at, array_literals, sort_literals, word_literals, literals, places_in, places_at, array_places, sort_places, word_places, literal_places, array_phrase, array_or_none, elements_phrase, element_item}
 use Rattle.fac_lang.specs.Meaning.{array_method}
 use Rattle.fac_locals.specs.inner.Numbering.{phrase_behind, item_behind, plain_item, plain_phrase, phrase_of, method_of, words_behind, counts_from}
-use Rattle.fac_locals.proofs.LiteralArrays.{HasBuiltPhrase, HaveBuiltPhrases, built_phrases, IsClosable, IsClosableItem, AreClosable, array_closable, array_phrase_is, counted_elements, in_method, item_in, in_method_is, body_of, program_closable}
+use Rattle.fac_locals.proofs.LiteralArrays.{IsClosable, IsClosableItem, AreClosable, array_closable, array_phrase_is, counted_elements, in_method, item_in, in_method_is, body_of, program_closable}
 
 -- a literal and the place of its template
 abbrev pub Placed : Type 0
@@ -85,16 +85,16 @@ module _ (X : ℕ → Literal → Place → List Placed) (Y : ℕ → Literal �
     quoted_at cells at p (held v) = refl
     quoted_at cells at p (known m) = refl
 
-  quoted_sort : (P : Program) (bound n w : ℕ) (s : Sort) → Y ≡ array_literals P (length P.arrays) → HasBuiltPhrase bound s → IsClosable n (phrase_of s) → map quoted_of (placed_in X [] (first_of_word w) (body_of w s)) ≡ sort_literals P w s
-  quoted_sort P bound n w (body t) e h c = quoted_in [] (first_of_word w) (in_method None t) ∙ ap (literals_in Y [] (first_of_word w)) (in_method_is n None t c) ∙ ap (λ (Z : ℕ → Literal → List Quoted). literals_in Z [] (first_of_word w) t) e
-  quoted_sort P bound n w (past t) e h c = absurd h
-  quoted_sort P bound n w (method k g t) e h c =
+  quoted_sort : (P : Program) (n w : ℕ) (s : Sort) → Y ≡ array_literals P (length P.arrays) → IsClosable n (phrase_of s) → map quoted_of (placed_in X [] (first_of_word w) (body_of w s)) ≡ sort_literals P w s
+  quoted_sort P n w (body t) e c = quoted_in [] (first_of_word w) (in_method None t) ∙ ap (literals_in Y [] (first_of_word w)) (in_method_is n None t c) ∙ ap (λ (Z : ℕ → Literal → List Quoted). literals_in Z [] (first_of_word w) t) e
+  quoted_sort P n w (past t) e c = quoted_in [] (first_of_word w) (in_method None t) ∙ ap (literals_in Y [] (first_of_word w)) (in_method_is n None t c) ∙ ap (λ (Z : ℕ → Literal → List Quoted). literals_in Z [] (first_of_word w) t) e
+  quoted_sort P n w (method k g t) e c =
       quoted_in [] (first_of_word w) (in_method (Some w) t) ∙ ap (literals_in Y [] (first_of_word w)) (in_method_is n (Some w) t c) ∙ ap (λ (Z : ℕ → Literal → List Quoted). literals_in Z [] (first_of_word w) (of_method w t)) e
-  quoted_sort P bound n w _ e h c = refl
+  quoted_sort P n w _ e c = refl
 
-  quoted_words : (P : Program) (bound n w : ℕ) (ds : List WordDef) → Y ≡ array_literals P (length P.arrays) → HaveBuiltPhrases bound ds → AreClosable n ds → map quoted_of (placed_words X w ds) ≡ word_literals P w ds
-  quoted_words P bound n w [] e h c = refl
-  quoted_words P bound n w (d ∷ ds) e h c = both_mapped quoted_of (placed_in X [] (first_of_word w) (body_of w d.sort)) (placed_words X (suc w) ds) (sort_literals P w d.sort) (word_literals P (suc w) ds) (quoted_sort P bound n w d.sort e h.0 c.0) (quoted_words P bound n (suc w) ds e h.1 c.1)
+  quoted_words : (P : Program) (n w : ℕ) (ds : List WordDef) → Y ≡ array_literals P (length P.arrays) → AreClosable n ds → map quoted_of (placed_words X w ds) ≡ word_literals P w ds
+  quoted_words P n w [] e c = refl
+  quoted_words P n w (d ∷ ds) e c = both_mapped quoted_of (placed_in X [] (first_of_word w) (body_of w d.sort)) (placed_words X (suc w) ds) (sort_literals P w d.sort) (word_literals P (suc w) ds) (quoted_sort P n w d.sort e c.0) (quoted_words P n (suc w) ds e c.1)
 
 -- where the elements of an array are placed is nothing to its literals
 elements_anywhere : (Y : ℕ → Literal → List Quoted) (m : Option ℕ) (p q : Place) (cells : List Cell) (at : Literal) (ls : List Lit) → literals_in Y cells at (elements_phrase m p ls) ≡ literals_in Y cells at (elements_phrase m q ls)
@@ -130,15 +130,15 @@ module _ (X : ℕ → Literal → Place → List Placed) (Y : ℕ → Place → 
     place_at_item cells at p (held v) = refl
     place_at_item cells at p (known m) = refl
 
-  place_sort : (P : Program) (bound n w : ℕ) (s : Sort) → Y ≡ array_places P (length P.arrays) → HasBuiltPhrase bound s → IsClosable n (phrase_of s) → map place_at (placed_in X [] (first_of_word w) (body_of w s)) ≡ sort_places P w s
-  place_sort P bound n w (body t) e h c = place_in [] (first_of_word w) (in_method None t) ∙ ap (places_in Y) (in_method_is n None t c) ∙ ap (λ (Z : ℕ → Place → List Place). places_in Z t) e
-  place_sort P bound n w (past t) e h c = absurd h
-  place_sort P bound n w (method k g t) e h c = place_in [] (first_of_word w) (in_method (Some w) t) ∙ ap (places_in Y) (in_method_is n (Some w) t c) ∙ ap (λ (Z : ℕ → Place → List Place). places_in Z (of_method w t)) e
-  place_sort P bound n w _ e h c = refl
+  place_sort : (P : Program) (n w : ℕ) (s : Sort) → Y ≡ array_places P (length P.arrays) → IsClosable n (phrase_of s) → map place_at (placed_in X [] (first_of_word w) (body_of w s)) ≡ sort_places P w s
+  place_sort P n w (body t) e c = place_in [] (first_of_word w) (in_method None t) ∙ ap (places_in Y) (in_method_is n None t c) ∙ ap (λ (Z : ℕ → Place → List Place). places_in Z t) e
+  place_sort P n w (past t) e c = place_in [] (first_of_word w) (in_method None t) ∙ ap (places_in Y) (in_method_is n None t c) ∙ ap (λ (Z : ℕ → Place → List Place). places_in Z t) e
+  place_sort P n w (method k g t) e c = place_in [] (first_of_word w) (in_method (Some w) t) ∙ ap (places_in Y) (in_method_is n (Some w) t c) ∙ ap (λ (Z : ℕ → Place → List Place). places_in Z (of_method w t)) e
+  place_sort P n w _ e c = refl
 
-  place_words : (P : Program) (bound n w : ℕ) (ds : List WordDef) → Y ≡ array_places P (length P.arrays) → HaveBuiltPhrases bound ds → AreClosable n ds → map place_at (placed_words X w ds) ≡ word_places P w ds
-  place_words P bound n w [] e h c = refl
-  place_words P bound n w (d ∷ ds) e h c = both_mapped place_at (placed_in X [] (first_of_word w) (body_of w d.sort)) (placed_words X (suc w) ds) (sort_places P w d.sort) (word_places P (suc w) ds) (place_sort P bound n w d.sort e h.0 c.0) (place_words P bound n (suc w) ds e h.1 c.1)
+  place_words : (P : Program) (n w : ℕ) (ds : List WordDef) → Y ≡ array_places P (length P.arrays) → AreClosable n ds → map place_at (placed_words X w ds) ≡ word_places P w ds
+  place_words P n w [] e c = refl
+  place_words P n w (d ∷ ds) e c = both_mapped place_at (placed_in X [] (first_of_word w) (body_of w d.sort)) (placed_words X (suc w) ds) (sort_places P w d.sort) (word_places P (suc w) ds) (place_sort P n w d.sort e c.0) (place_words P n (suc w) ds e c.1)
 
 place_array : (P : Program) (n a : ℕ) (at : Literal) (p : Place) → map place_at (array_placed P n a at p) ≡ array_places P n a p
 place_array P zero a at p = refl
@@ -148,11 +148,11 @@ place_array P (suc n) a at p = place_in (array_placed P n) (array_places P n) (p
 abbrev pub program_placed : Program → List Placed
 program_placed P = placed_words (array_placed P (length P.arrays)) 0 P.words
 
-pub placed_literals : (P : Program) → IsSourceProgram P → IsWhole P → map quoted_of (program_placed P) ≡ literals P
-placed_literals P b w = quoted_words (array_placed P (length P.arrays)) (array_literals P (length P.arrays)) (quoted_array P (length P.arrays)) P P.top (length P.arrays) 0 P.words refl (built_phrases P b) (program_closable P b w)
+pub placed_literals : (P : Program) → IsSessionProgram P → IsWhole P → map quoted_of (program_placed P) ≡ literals P
+placed_literals P b w = quoted_words (array_placed P (length P.arrays)) (array_literals P (length P.arrays)) (quoted_array P (length P.arrays)) P (length P.arrays) 0 P.words refl (program_closable P b w)
 
-pub placed_places : (P : Program) → IsSourceProgram P → IsWhole P → map place_at (program_placed P) ≡ literal_places P
-placed_places P b w = place_words (array_placed P (length P.arrays)) (array_places P (length P.arrays)) (place_array P (length P.arrays)) P P.top (length P.arrays) 0 P.words refl (built_phrases P b) (program_closable P b w)
+pub placed_places : (P : Program) → IsSessionProgram P → IsWhole P → map place_at (program_placed P) ≡ literal_places P
+placed_places P b w = place_words (array_placed P (length P.arrays)) (array_places P (length P.arrays)) (place_array P (length P.arrays)) P (length P.arrays) 0 P.words refl (program_closable P b w)
 
 -- A phrase has so many.
 no_more : {A : Type 0} (xs : List A) (n : ℕ) → length xs ≡ n → length (xs ++ []) ≡ n
@@ -204,7 +204,7 @@ module _ (X : ℕ → Literal → Place → List Placed) (counts : List ℕ) (bo
 -- Two ways to find the literals of arrays agree on a phrase where they agree on the arrays that it names.
 module _ (X Y : ℕ → Literal → Place → List Placed) (bound : ℕ) (same : (b : ℕ) (at : Literal) (p : Place) → b < bound → X b at p ≡ Y b at p) where
   mutual
-    phrase_same : (m : Option ℕ) (cells : List Cell) (at : Literal) (t : Phrase) → IsClosable bound t → placed_in X cells at (in_method m t) ≡ placed_in Y cells at (in_method m t)
+    pub phrase_same : (m : Option ℕ) (cells : List Cell) (at : Literal) (t : Phrase) → IsClosable bound t → placed_in X cells at (in_method m t) ≡ placed_in Y cells at (in_method m t)
     phrase_same m cells at end h = refl
     phrase_same m cells at (then i p t) h = rw (item_same m cells at p i h.0, phrase_same m (cells_behind cells (item_in m i)) (behind at (item_in m i)) t h.1) refl
 
@@ -233,13 +233,13 @@ behind_anywhere : (counts : List ℕ) (n : ℕ) (p q : Place) (ls : List Lit) �
 behind_anywhere counts n p q [] = refl
 behind_anywhere counts n p q (l ∷ ls) = behind_anywhere counts (item_behind counts n (plain_item l)) p q ls
 
-module _ (P : Program) (b : IsSourceProgram P) (w : IsWhole P) where
+module _ (P : Program) (b : IsSessionProgram P) (w : IsWhole P) where
   -- the method in which a literal array stands
   abbrev around : ℕ → Option ℕ
   around a = array_method P (length P.arrays) a
 
   -- As many nestings as arrays before an array are enough.
-  arrays_same : (f g a : ℕ) (at : Literal) (p : Place) → a < f → a < g → a < length P.arrays → array_placed P f a at p ≡ array_placed P g a at p
+  pub arrays_same : (f g a : ℕ) (at : Literal) (p : Place) → a < f → a < g → a < length P.arrays → array_placed P f a at p ≡ array_placed P g a at p
   arrays_same zero g a at p lt le inside = absurd (omega (arith, lt))
   arrays_same (suc f) zero a at p lt le inside = absurd (omega (arith, le))
   arrays_same (suc f) (suc g) a at p lt le inside =

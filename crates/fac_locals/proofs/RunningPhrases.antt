@@ -1,6 +1,5 @@
 -- The phrases of a whole program as they run: which items stand in those of its words and of its literals.
 use Rattle.std.proofs.Common.{◌≡◌, ◌<◌, ℕ, zero, suc, ◌+◌, List, [], ◌∷◌, ◌++◌, length, Bool, true, false, Option, Some, None, refl, ap, sym, subst, ◌∙◌, arith}
-use Rattle.std.proofs.lemmas.Bool.{ltb-true}
 use Rattle.std.specs.Prelude.{slice_get}
 use Rattle.fac_base.specs.declared.place.Place.{Place}
 use Rattle.fac_lang.specs.declared.program.Program.{Program}
@@ -11,7 +10,7 @@ use Rattle.fac_lang.specs.declared.program.Sort.{Sort}
 use Rattle.fac_lang.specs.declared.program.Sort.TheVariants.{Body as body, Past as past, Method as method}
 use Rattle.fac_lang.specs.Phrases.{int, yes, no, str, wrd, Literal, Phrase, end, then, Item, lit, lit_arr, quot, word, bind, local, fry, hole, call_effect, execute_effect, next_method, next_after}
 use Rattle.fac_lang.specs.Substitution.{of_method, of_method_item}
-use Rattle.fac_lang.proofs.SourcePrograms.{IsSourceProgram, IsSourcePhrase, IsSourceItem, IsSourceSort, AreSourceWords, AreSourceElements, AreSourceArrays}
+use Rattle.fac_lang.proofs.SourcePrograms.{IsSessionProgram, IsPhraseOf, IsItemOf, IsSortOf, AreWordsOf, AreElementsOf, AreArraysOf, may_name}
 use Rattle.fac_lang.specs.Meaning.{sort_of, of_method_if, method_naming, array_naming, array_method, phrase_names, nowhere}
 use Rattle.fac_lang.proofs.FormsLemmas.{sort_at}
 use Rattle.fac_locals.specs.declared.cell.Cell.{Cell}
@@ -35,14 +34,14 @@ module _ (P : Program) where
     IsRunItem (lit yes) = Unit {0}
     IsRunItem (lit no) = Unit {0}
     IsRunItem (lit (str cs)) = Unit {0}
-    IsRunItem (lit (wrd w)) = w < P.top
+    IsRunItem (lit (wrd w)) = may_name P w ≡ true
     IsRunItem (lit_arr a) = Unit {0}
     IsRunItem (quot t) = IsRun t
     IsRunItem (bind x) = Unit {0}
     IsRunItem (local x) = Unit {0}
     IsRunItem (fry t n) = IsRun t
     IsRunItem (hole k) = Unit {0}
-    IsRunItem (word w) = w < P.top
+    IsRunItem (word w) = may_name P w ≡ true
     IsRunItem next_method = Unit {0}
     IsRunItem (next_after m) = IsMethod (sort_of P m)
     IsRunItem (call_effect g) = Unit {0}
@@ -51,23 +50,23 @@ module _ (P : Program) where
 
   -- a phrase with the items that a source can have
   mutual
-    pub built_runs : (t : Phrase) → IsSourcePhrase P.top t → IsRun t
+    pub built_runs : (t : Phrase) → IsPhraseOf (may_name P) t → IsRun t
     built_runs end h = tt
     built_runs (then i p t) h = (built_item_runs i h.0, built_runs t h.1)
 
-    built_item_runs : (i : Item) → IsSourceItem P.top i → IsRunItem i
+    built_item_runs : (i : Item) → IsItemOf (may_name P) i → IsRunItem i
     built_item_runs (lit (int z)) h = tt
     built_item_runs (lit yes) h = tt
     built_item_runs (lit no) h = tt
     built_item_runs (lit (str cs)) h = tt
-    built_item_runs (lit (wrd w)) h = ltb-true w P.top h
+    built_item_runs (lit (wrd w)) h = h
     built_item_runs (lit_arr a) h = tt
     built_item_runs (quot t) h = built_runs t h
     built_item_runs (bind x) h = tt
     built_item_runs (local x) h = tt
     built_item_runs (fry t n) h = built_runs t h
     built_item_runs (hole k) h = tt
-    built_item_runs (word w) h = ltb-true w P.top h
+    built_item_runs (word w) h = h
     built_item_runs next_method h = tt
     built_item_runs (call_effect g) h = tt
     built_item_runs (execute_effect g) h = tt
@@ -76,23 +75,23 @@ module _ (P : Program) where
   -- in a method
   module _ (m : ℕ) (is : IsMethod (sort_of P m)) where
     mutual
-      pub method_runs : (t : Phrase) → IsSourcePhrase P.top t → IsRun (of_method m t)
+      pub method_runs : (t : Phrase) → IsPhraseOf (may_name P) t → IsRun (of_method m t)
       method_runs end h = tt
       method_runs (then i p t) h = (method_item_runs i h.0, method_runs t h.1)
 
-      method_item_runs : (i : Item) → IsSourceItem P.top i → IsRunItem (of_method_item m i)
+      method_item_runs : (i : Item) → IsItemOf (may_name P) i → IsRunItem (of_method_item m i)
       method_item_runs (lit (int z)) h = tt
       method_item_runs (lit yes) h = tt
       method_item_runs (lit no) h = tt
       method_item_runs (lit (str cs)) h = tt
-      method_item_runs (lit (wrd w)) h = ltb-true w P.top h
+      method_item_runs (lit (wrd w)) h = h
       method_item_runs (lit_arr a) h = tt
       method_item_runs (quot t) h = method_runs t h
       method_item_runs (bind x) h = tt
       method_item_runs (local x) h = tt
       method_item_runs (fry t n) h = method_runs t h
       method_item_runs (hole k) h = tt
-      method_item_runs (word w) h = ltb-true w P.top h
+      method_item_runs (word w) h = h
       method_item_runs next_method h = is
       method_item_runs (call_effect g) h = tt
       method_item_runs (execute_effect g) h = tt
@@ -101,24 +100,24 @@ module _ (P : Program) where
   -- what word w runs, where it is of this sort
   abbrev pub RunsAs : ℕ → Sort → Type 0
   RunsAs w (body t) = IsRun t
-  RunsAs w (past t) = ⊥
+  RunsAs w (past t) = IsRun t
   RunsAs w (method c g t) = IsRun (of_method w t)
   RunsAs w _ = Unit {0}
 
   -- a sort with such a phrase, where it has one
   abbrev HasBuilt : Sort → Type 0
-  HasBuilt (body t) = IsSourcePhrase P.top t
-  HasBuilt (past t) = ⊥
-  HasBuilt (method c g t) = IsSourcePhrase P.top t
+  HasBuilt (body t) = IsPhraseOf (may_name P) t
+  HasBuilt (past t) = IsPhraseOf (may_name P) t
+  HasBuilt (method c g t) = IsPhraseOf (may_name P) t
   HasBuilt _ = Unit {0}
 
-  sort_built : (d : WordDef) (s : Sort) → IsSourceSort P.top d s → HasBuilt s
+  sort_built : (d : WordDef) (s : Sort) → IsSortOf (may_name P) d s → HasBuilt s
   sort_built d (body t) h = h
-  sort_built d (past t) h = absurd h
+  sort_built d (past t) h = h.1
   sort_built d (method c g t) h = h.1
   sort_built d _ h = tt
 
-  among : (ds : List WordDef) (d : WordDef) (w : ℕ) (x : WordDef) → AreSourceWords P.top ds → HasBuilt d.sort → slice_get (ds ++ d ∷ []) w ≡ Some x → HasBuilt x.sort
+  among : (ds : List WordDef) (d : WordDef) (w : ℕ) (x : WordDef) → AreWordsOf (may_name P) ds → HasBuilt d.sort → slice_get (ds ++ d ∷ []) w ≡ Some x → HasBuilt x.sort
   among [] d zero x h f e = let same : d ≡ x = cc in subst (λ (y : WordDef). HasBuilt y.sort) same f
   among [] d (suc w) x h f e = absurd (cc)
   among (y ∷ ds) d zero x h f e = let same : y ≡ x = cc in subst (λ (z : WordDef). HasBuilt z.sort) same (sort_built y y.sort h.0)
@@ -126,11 +125,11 @@ module _ (P : Program) where
 
   runs_as : (w : ℕ) (s : Sort) → sort_of P w ≡ Some s → HasBuilt s → RunsAs w s
   runs_as w (body t) e h = built_runs t h
-  runs_as w (past t) e h = absurd h
+  runs_as w (past t) e h = built_runs t h
   runs_as w (method c g t) e h = method_runs w (rw e tt) t h
   runs_as w _ e h = tt
 
-  module _ (b : IsSourceProgram P) where
+  module _ (b : IsSessionProgram P) where
     pub word_runs : (w : ℕ) (d : WordDef) → slice_get P.words w ≡ Some d → RunsAs w d.sort
     word_runs w d e =
         let last : HasBuilt b.last_word.sort = rw b.last_word_is.sort_is b.last_word_is.from_source in
@@ -165,22 +164,22 @@ module _ (P : Program) where
     array_method_is zero a = naming_is a 0 P.words (λ j d e. let n : 0 + j ≡ j = omega arith in ap (slice_get P.words) n ∙ e)
     array_method_is (suc n) a = around_is n (method_naming P a 0 P.words) (array_naming P a 0 P.arrays) (naming_is a 0 P.words (λ j d e. let n : 0 + j ≡ j = omega arith in ap (slice_get P.words) n ∙ e)) (array_method_is n)
 
-    pub quoted_runs : (m : Option ℕ) → IsMethodIf m → (t : Phrase) → IsSourcePhrase P.top t → IsRun (of_method_if m t)
+    pub quoted_runs : (m : Option ℕ) → IsMethodIf m → (t : Phrase) → IsPhraseOf (may_name P) t → IsRun (of_method_if m t)
     quoted_runs None is t h = built_runs t h
     quoted_runs (Some m) is t h = method_runs m is t h
 
-    elements_run : (m : Option ℕ) → IsMethodIf m → (p : Place) (ls : List Lit) → AreSourceElements P.top ls → IsRun (elements_phrase m p ls)
+    elements_run : (m : Option ℕ) → IsMethodIf m → (p : Place) (ls : List Lit) → AreElementsOf (may_name P) ls → IsRun (elements_phrase m p ls)
     elements_run m is p [] h = tt
     elements_run m is p (l_int z ∷ ls) h = (tt, elements_run m is p ls h.1)
     elements_run m is p (l_yes ∷ ls) h = (tt, elements_run m is p ls h.1)
     elements_run m is p (l_no ∷ ls) h = (tt, elements_run m is p ls h.1)
     elements_run m is p (l_str bs ∷ ls) h = (tt, elements_run m is p ls h.1)
     elements_run m is p (l_arr a ∷ ls) h = (tt, elements_run m is p ls h.1)
-    elements_run m is p (l_word w ∷ ls) h = (ltb-true w P.top h.0, elements_run m is p ls h.1)
+    elements_run m is p (l_word w ∷ ls) h = (h.0, elements_run m is p ls h.1)
     elements_run m is p (l_quot t ∷ ls) h = (quoted_runs m is t h.0, elements_run m is p ls h.1)
     elements_run m is p (l_made k ∷ ls) h = absurd h.0
 
-    array_built : (a : ℕ) (lss : List (List Lit)) → AreSourceArrays P.top lss → AreSourceElements P.top (array_or_none (slice_get lss a))
+    array_built : (a : ℕ) (lss : List (List Lit)) → AreArraysOf (may_name P) lss → AreElementsOf (may_name P) (array_or_none (slice_get lss a))
     array_built a [] h = tt
     array_built zero (ls ∷ lss) h = h.0
     array_built (suc a) (ls ∷ lss) h = array_built a lss h.1
@@ -209,14 +208,14 @@ module _ (P : Program) where
       item_literals cells at (lit_arr a) h = arrays_run a at
       item_literals cells at _ h = tt
 
-  module _ (b : IsSourceProgram P) where
+  module _ (b : IsSessionProgram P) where
     array_literals_run : (n a : ℕ) (at : Literal) → AllRun (array_literals P n a at)
     array_literals_run zero a at = tt
     array_literals_run (suc n) a at = phrase_literals (array_literals P n) (array_literals_run n) [] (first_in_array at) (array_phrase P a nowhere) (array_runs b a nowhere)
 
     sort_literals_run : (w : ℕ) (s : Sort) → RunsAs w s → AllRun (sort_literals P w s)
     sort_literals_run w (body t) h = phrase_literals (array_literals P (length P.arrays)) (array_literals_run (length P.arrays)) [] (first_of_word w) t h
-    sort_literals_run w (past t) h = absurd h
+    sort_literals_run w (past t) h = phrase_literals (array_literals P (length P.arrays)) (array_literals_run (length P.arrays)) [] (first_of_word w) t h
     sort_literals_run w (method c g t) h = phrase_literals (array_literals P (length P.arrays)) (array_literals_run (length P.arrays)) [] (first_of_word w) (of_method w t) h
     sort_literals_run w _ h = tt
 

@@ -493,6 +493,15 @@ fn close_sort(
             let body = close_whole(phrase, around, closing)?;
             Ok(Sort::Body(body))
         }
+        Sort::Past(phrase) => {
+            let around = Around {
+                alloc,
+                counts,
+                method: None,
+            };
+            let body = close_whole(phrase, around, closing)?;
+            Ok(Sort::Past(body))
+        }
         Sort::Method {
             class,
             generic,

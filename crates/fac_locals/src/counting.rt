@@ -127,6 +127,7 @@ fn behind_sort(sort: &Sort, counts: &[u32], number: u32) -> Result<u32, Memory>
 {
     match sort {
         Sort::Body(phrase) => behind_phrase(phrase, counts, number),
+        Sort::Past(phrase) => behind_phrase(phrase, counts, number),
         Sort::Method { body, .. } => behind_phrase(body, counts, number),
         _ => Ok(number),
     }

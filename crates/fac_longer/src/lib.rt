@@ -1,6 +1,6 @@
-//! What the checker finds in a program, it finds in each program that goes on with it: laws, with no code.
+//! What a program that goes on with another one keeps of it, as what the checker finds and which literals it has: laws, with no code.
 #![tactic(auto)]
 
 mod laws;
 
-pub use laws::found_stays;
+pub use laws::{found_stays, literals_stay, places_stay, templates_stay, verdicts_stay};

@@ -1,4 +1,4 @@
--- Which closed programs the walk takes: numbers, truth values, strings, words as values, literal arrays, quotations, fries, locals, words, next methods and calls with a declared effect in phrases, and words of all sorts but earlier top-level phrases, with built primitives.
+-- Which closed programs the walk takes: numbers, truth values, strings, words as values, literal arrays, quotations, fries, locals, words, next methods and calls with a declared effect in phrases, and words of all sorts, with built primitives.
 use Rattle.std.specs.Prelude.{ℕ, List, Bool, true, false, ◌&&◌, nat_lt, nat_le, length}
 use Rattle.std.specs.List.{list_all}
 use Rattle.fac_lang.specs.declared.phrase.Template.{Template}
@@ -41,7 +41,7 @@ abbrev pub takes_sort : ℕ → ℕ → Sort → Bool
 takes_sort top count (prim k) = is_built_primitive k
 takes_sort top count (body t) = takes_phrase top count t
 takes_sort top count (method c g t) = takes_phrase top count t
-takes_sort top count (past t) = false
+takes_sort top count (past t) = takes_phrase top count t
 takes_sort top count _ = true
 
 -- no effect has more inputs than a word's effect has names

@@ -1,7 +1,7 @@
 -- Numbers of words, and what they name in instructions and actions.
 use Rattle.std.specs.Prelude.{ℕ, List, Some, None, slice_get, false}
 use Rattle.fac_lang.specs.declared.program.Sort.{Sort}
-use Rattle.fac_lang.specs.declared.program.Sort.TheVariants.{Prim as prim_sort, Core as core_sort, Body as body, Itself as itself, Class as class, Isa as isa, Getter as getter, Setter as setter, Putter as putter, Generic as generic, Method as method}
+use Rattle.fac_lang.specs.declared.program.Sort.TheVariants.{Prim as prim_sort, Core as core_sort, Body as body, Past as past, Itself as itself, Class as class, Isa as isa, Getter as getter, Setter as setter, Putter as putter, Generic as generic, Method as method}
 use Rattle.fac_code.specs.declared.image.Instr.{Instr}
 use Rattle.fac_code.specs.declared.image.Instr.TheVariants.{Word, Prim, Callw, Get, Set, Put, Isa, Generic}
 use Rattle.fac_code.specs.declared.image.Action.{Action}
@@ -31,6 +31,7 @@ numbered_instr n w _ = stuck_instr
 abbrev pub numbered_action : ℕ → ℕ → Sort → Action
 numbered_action n at (prim_sort k) = action.Prim k
 numbered_action n at (core_sort k) = core_action k
+numbered_action n at (past t) = action.Itself
 numbered_action n at itself = action.Itself
 numbered_action n at (class c) = action.Itself
 numbered_action n at (isa c) = action.Isa c

@@ -9,7 +9,7 @@ use Rattle.fac_lang.specs.declared.phrase.What.TheVariants.{Quot, Choices, Bind,
 use Rattle.fac_lang.specs.declared.phrase.Template.{Template}
 use Rattle.fac_lang.specs.declared.program.WordDef.{WordDef}
 use Rattle.fac_lang.specs.declared.program.Sort.{Sort}
-use Rattle.fac_lang.specs.declared.program.Sort.TheVariants.{Body as body, Method as method}
+use Rattle.fac_lang.specs.declared.program.Sort.TheVariants.{Body as body, Past as past, Method as method}
 use Rattle.fac_lang.specs.declared.program.Lit.{Lit}
 use Rattle.fac_lang.specs.declared.program.Lit.TheVariants.{Quot as l_quot, Made as l_made}
 use Rattle.fac_lang.specs.PhraseView.{choices_behind, what_item, items_phrase}
@@ -44,9 +44,10 @@ plain_item l = element_item None l
 abbrev pub plain_phrase : Place → List Lit → Phrase
 plain_phrase p ls = elements_phrase None p ls
 
--- the phrase of a word that is defined by one, and of a method
+-- the phrase of a word that is defined by one, of an earlier top-level phrase, and of a method
 abbrev pub phrase_of : Sort → Phrase
 phrase_of (body t) = t
+phrase_of (past t) = t
 phrase_of (method c g t) = t
 phrase_of _ = end
 
@@ -175,6 +176,7 @@ module _ (counts : List ℕ) where
   -- what word w is, where the first quotation of its phrase gets this number
   abbrev pub closed_sort : ℕ → ℕ → Sort → Sort
   closed_sort w n (body t) = body (closed_phrase None [] n t)
+  closed_sort w n (past t) = past (closed_phrase None [] n t)
   closed_sort w n (method c g t) = method c g (closed_phrase (Some w) [] n t)
   closed_sort w n s = s
 

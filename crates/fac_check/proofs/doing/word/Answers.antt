@@ -1,7 +1,7 @@
 use Rattle.std.proofs.Common.{◌≡◌, ℕ, length, Some, sym, ◌∙◌, ap, subst}
 use Rattle.std.specs.Prelude.{slice_get}
 use Rattle.fac_abs.specs.SeenMarks.{stack_of, base_seen}
-use Rattle.fac_lang.proofs.SourcePrograms.{source_of_whole}
+use Rattle.fac_lang.proofs.SourcePrograms.{session_of_whole}
 use Rattle.fac_locals.proofs.Lookups.{word_open}
 use Rattle.fac_check.specs.Flow.{breaks, word_doing}
 use Rattle.fac_abs.specs.declared.rule.Rule.TheVariants.{NotKnown}
@@ -33,7 +33,7 @@ pub returns-then-number-subject-clause-does : goal.returns-then-number-subject-c
 returns-then-number-subject-clause-does c = λ O.
     let base = base_seen O.naming c.args.base in
     let marks = stack_of O.naming c.args.marks.now c.args.stack in
-    subst (λ (w : ℕ). breaks NotKnown ≡ word_doing O.program O.word w (slice_get O.program.words w) base marks) (sym (c.if-number-subject.true ∙ O.closes.top)) (top_item O.program (source_of_whole O.program O.whole) O.word base marks)
+    subst (λ (w : ℕ). breaks NotKnown ≡ word_doing O.program O.word w (slice_get O.program.words w) base marks) (sym (c.if-number-subject.true ∙ O.closes.top)) (top_item O.program (session_of_whole O.program O.whole) O.word base marks)
 
 pub returns-in-None-clause-does : goal.returns-in-None-clause-does
 returns-in-None-clause-does c = λ O.

@@ -1,5 +1,5 @@
 use Rattle.std.proofs.lemmas.Result.{IfOk-weaker}
-use Rattle.fac_lang.proofs.SourcePrograms.{source_of_whole}
+use Rattle.fac_lang.proofs.SourcePrograms.{session_of_whole}
 use Rattle.fac_generic.proofs.WholeMethods.{whole_has}
 use Rattle.fac_emit.specs.ProgramCode.{IsPlain}
 use Rattle.fac_emit.proofs.AgreeingTables.{agrees}
@@ -29,4 +29,4 @@ pub returns-clause-stands : goal.returns-clause-stands
 returns-clause-stands c =
     let closed = c.args.closed.now in
     let laws = c.methods_are_lawful.ensures in
-    IfOk-weaker c.plain_image.result (IsPlain closed c.args.heights.now) _ (λ image plain P closes whole. plain_code P closed c.args.heights.now image (source_of_whole P whole) whole (laws P (whole_has P whole)) closes plain) c.plain_image.ensures
+    IfOk-weaker c.plain_image.result (IsPlain closed c.args.heights.now) _ (λ image plain P closes whole. plain_code P closed c.args.heights.now image (session_of_whole P whole) whole (laws P (whole_has P whole)) closes plain) c.plain_image.ensures
