@@ -194,7 +194,7 @@ generic_late ds cs w (method_of c g) is h = absurd (no_body (sym (ap (λ (s : So
     no_body : false ≡ true → ⊥
     no_body e = cc
 
-finished_at : (ds : List Draft) (cs : List ClassDef) (xs : List Draft) (more_words : List WordDef) (w : ℕ) (d : Draft) → slice_get xs w ≡ Some d → slice_get (map (finished ds cs) xs ++ more_words) w ≡ Some (finished ds cs d)
+pub finished_at : (ds : List Draft) (cs : List ClassDef) (xs : List Draft) (more_words : List WordDef) (w : ℕ) (d : Draft) → slice_get xs w ≡ Some d → slice_get (map (finished ds cs) xs ++ more_words) w ≡ Some (finished ds cs d)
 finished_at ds cs [] more_words w d h = absurd (cc)
 finished_at ds cs (x ∷ xs) more_words zero d h = let same : x ≡ d = cc in ap (λ (y : Draft). Some (finished ds cs y)) same
 finished_at ds cs (x ∷ xs) more_words (suc w) d h = finished_at ds cs xs more_words w d h

@@ -9,6 +9,7 @@ use Rattle.std.proofs.lemmas.List.Folds.{list_all-append}
 use Rattle.fac_base.specs.Signatures.{Signature}
 use Rattle.fac_base.specs.declared.name.Name.{Name as FullName}
 use Rattle.fac_lang.proofs.SourcePrograms.{AreArraysOf, AreElementsOf, AreWordsOf, IsItemOf, IsPhraseOf, IsSessionProgram, IsSortOf, may_name, session_of_whole}
+use Rattle.fac_lang.specs.LongerPrograms.{as_earlier as past_sort, with_earlier}
 use Rattle.fac_lang.specs.Meaning.{is_past, sort_of}
 use Rattle.fac_lang.specs.Phrases.{Phrase, end, then, Item, lit, int, yes, no, str, wrd, lit_arr, quot, word, bind, local, fry, hole, call_effect, execute_effect, next_method}
 use Rattle.fac_lang.specs.Whole.{IsWhole, all_arrays_named, all_phrases, arrays_in, arrays_named, arrays_named_by, each_below, each_inner, each_item, effect_eq, effect_of, has_generic_effect, has_its_holes, holes_within, is_body, is_effect, is_generic, is_nameable, is_word, item_fits, joined, literal_fits, locals_bound, name_count, no_two, quotations, same_method, same_word, sort_fits, tests_small, times_in, word_phrases}
@@ -35,7 +36,7 @@ use Rattle.fac_endings.proofs.EndedClasses.{class_in, draft_fits, late_in}
 use Rattle.fac_names.specs.Forms.{changed}
 use Rattle.fac_names.specs.KnownPrograms.{IsKnown, IsEntryOf, HasItsWord, accessor_text, may_be_found}
 use Rattle.fac_names.specs.Resolution.{settled_draft}
-use Rattle.fac_names.specs.Resolved.{Known, as_earlier, beginning, drafts_of, earlier_words, past_sort}
+use Rattle.fac_names.specs.Resolved.{Known, as_earlier, beginning, drafts_of}
 use Rattle.fac_names.proofs.ArrayReadings.{Spared, named_in, names_by}
 use Rattle.fac_names.proofs.BuiltForms.{BuiltUp, up}
 use Rattle.fac_names.proofs.BuiltReadings.{DraftsBuilt, draft_ok, length_changed, ok_changed}
@@ -56,11 +57,11 @@ use Rattle.fac_names.proofs.Together.{differ_last, sort_names}
 abbrev to_past : WordDef → WordDef
 to_past d = record d { sort = past_sort d.sort }
 
-last_changed : (f : WordDef → WordDef) (ws : List WordDef) (x : WordDef) → changed f (length ws) (ws ++ x ∷ []) ≡ ws ++ f x ∷ []
-last_changed f [] x = refl
-last_changed f (d ∷ ws) x = ap (λ (es : List WordDef). d ∷ es) (last_changed f ws x)
+last_earlier : (ws : List WordDef) (x : WordDef) → with_earlier (length ws) (ws ++ x ∷ []) ≡ ws ++ to_past x ∷ []
+last_earlier [] x = refl
+last_earlier (d ∷ ws) x = ap (λ (es : List WordDef). d ∷ es) (last_earlier ws x)
 
-pub earlier_drafts : (n : ℕ) (ws : List WordDef) → changed as_earlier n (map settled_draft ws) ≡ map settled_draft (changed to_past n ws)
+pub earlier_drafts : (n : ℕ) (ws : List WordDef) → changed as_earlier n (map settled_draft ws) ≡ map settled_draft (with_earlier n ws)
 earlier_drafts n [] = refl
 earlier_drafts zero (d ∷ ws) = refl
 earlier_drafts (suc n) (d ∷ ws) = ap (λ (ds : List Draft). settled_draft d ∷ ds) (earlier_drafts n ws)
@@ -68,8 +69,8 @@ earlier_drafts (suc n) (d ∷ ws) = ap (λ (ds : List Draft). settled_draft d �
 abbrev front_of : (P : Program) → IsSessionProgram P → List WordDef
 front_of P b = b.words ++ to_past b.last_word ∷ []
 
-front_is : (P : Program) (b : IsSessionProgram P) → earlier_words P ≡ front_of P b
-front_is P b = ap (changed to_past P.top) b.words_are ∙ ap (λ (n : ℕ). changed to_past n (b.words ++ b.last_word ∷ [])) b.top_is ∙ last_changed to_past b.words b.last_word
+front_is : (P : Program) (b : IsSessionProgram P) → with_earlier P.top P.words ≡ front_of P b
+front_is P b = ap (with_earlier P.top) b.words_are ∙ ap (λ (n : ℕ). with_earlier n (b.words ++ b.last_word ∷ [])) b.top_is ∙ last_earlier b.words b.last_word
 
 drafts_are : (P : Program) (b : IsSessionProgram P) → drafts_of P ≡ map settled_draft (front_of P b)
 drafts_are P b = earlier_drafts P.top P.words ∙ ap (map settled_draft) (front_is P b)

@@ -1,7 +1,7 @@
 -- Laws of names.
 use Rattle.std.specs.Prelude.{◌≡◌, List, [], ◌++◌, map, fold, Option, Ok, Bool, false}
 use Rattle.fac_base.specs.declared.name.Name.{Name as FullName}
-use Rattle.fac_lang.specs.declared.program.Program.{Program}
+use Rattle.fac_lang.specs.LongerPrograms.{IsLonger}
 use Rattle.fac_source.specs.declared.refusal.NameFault.{NameFault}
 use Rattle.fac_source.specs.declared.tree.Form.{Form as Flat}
 use Rattle.fac_parse.specs.Trees.{AreWellFormed, IsWellFormed}
@@ -13,7 +13,7 @@ use Rattle.fac_names.specs.Forms.{Reading, take}
 use Rattle.fac_names.specs.FromFlat.{form_of}
 use Rattle.fac_names.specs.KnownPrograms.{IsKnown}
 use Rattle.fac_names.specs.Resolution.{first_reading}
-use Rattle.fac_names.specs.Resolved.{Known, beginning, earlier_words, going_on, read_files}
+use Rattle.fac_names.specs.Resolved.{Known, beginning, going_on, read_files}
 
 -- Numbers.
 
@@ -42,15 +42,9 @@ pub record Grows (r q : Reading) : Type 0 where
 abbrev pub FormsGrow : Type 0
 FormsGrow = (form : Form) (r : Reading) → Grows r (take form r)
 
--- The words, arrays and classes of one program come first in another, with its phrase as an earlier one.
-pub record GoesOn (P Q : Program) : Type 0 where
-  pub words : Longer (earlier_words P) Q.words
-  pub arrays : Longer P.arrays Q.arrays
-  pub classes : Longer P.classes Q.classes
-
--- What was known comes first in what files come to behind it.
+-- What was known comes first in what files come to behind it, with its phrase as an earlier one.
 abbrev pub KnownStays : Type 0
-KnownStays = (k q : Known) (files : List (List Form)) (keep : Bool) → IsKnown k → read_files (beginning k) files keep ≡ Ok q → GoesOn k.program q.program
+KnownStays = (k q : Known) (files : List (List Form)) (keep : Bool) → IsKnown k → read_files (beginning k) files keep ≡ Ok q → IsLonger k.program q.program
 
 -- Whatever text follows, what is known behind it belongs together again, so its program is whole.
 abbrev pub KnownGoesOn : Type 0
