@@ -183,7 +183,7 @@ class_word : (keep : Bool) (r : Reading) (b : BuiltUp r) (h : IsEnded r) (c : �
 class_word keep r b h c d at =
     let held = b.held h.first in
     let found = subst (ClassAt r.words r.scope.table d.name) (let e : 0 + c ≡ c = omega arith in e)
-          (class_at r.words r.scope.table 0 c r.old_classes r.classes d held.0 (subst (λ (n : ℕ). NewHeld r.words r.scope.table n r.classes) (let e : length r.old_classes ≡ length r.old_classes + 0 = omega arith in e) held.1) at) in
+    (class_at r.words r.scope.table 0 c r.old_classes r.classes d held.0 (subst (λ (n : ℕ). NewHeld r.words r.scope.table n r.classes) (let e : length r.old_classes ≡ length r.old_classes + 0 = omega arith in e) held.1) at) in
     let w = found.is_held in
     record {
       word = found.word;
