@@ -232,7 +232,7 @@ below_true : (test : ℕ → Bool) (n k : ℕ) → each_below test n ≡ true �
 below_true test zero k h lt = absurd (omega (arith, lt))
 below_true test (suc n) k h lt = elim (at_or_behind n k) [
   | inl low ↦ below_true test n k (true_both (test n) (each_below test n) h).1 low
-  | inr le ↦ let same : n ≡ k = omega (arith, le, lt) in sym (ap test (sym same)) ∙ (true_both (test n) (each_below test n) h).0
+  | inr le ↦ let same : n ≡ k = omega (arith, le, lt) in ap test (sym same) ∙ (true_both (test n) (each_below test n) h).0
 ]
 
 not_so : (b : Bool) → not b ≡ true → b ≡ false

@@ -510,7 +510,7 @@ below_true test (suc n) k h lt = one (nat_eq k n) refl
     less a n e k = grind arith
 
     one : (c : Bool) → nat_eq k n ≡ c → test k ≡ true
-    one true e = sym (ap test (sym (here k n e))) ∙ both.0
+    one true e = ap test (sym (here k n e)) ∙ both.0
     one false e = below_true test n k both.1 (less k n e lt)
 
 one_is : (a : ℕ) → nat_eq a 1 ≡ true → a ≡ 1
