@@ -52,12 +52,12 @@ use_built k c r t b =
     (scoped_built k c r (using_vocab t.text r.scope) b (record { table = b.scope.table; brought = b.scope.brought }) refl)
     (one_refused k c r (fault NoVocab t) b)
 
-bringing_built : (k c : ℕ) (t : Tok) (r : Reading) (o : Option ℕ) (b : Built k c r) → WordIn (is_found b.fronted.front (length r.words)) o → Built k c (bringing_one t r o)
+bringing_built : (k c : ℕ) (t : Tok) (r : Reading) (o : Option ℕ) (b : Built k c r) → WordIn (is_found b.front (length r.words)) o → Built k c (bringing_one t r o)
 bringing_built k c t r (Some w) b h = scoped_built k c r (bringing (named t.text w) r.scope) b (record { table = b.scope.table; brought = (h, b.scope.brought) }) refl
 bringing_built k c t r None b h = one_refused k c r (fault Unknown t) b
 
 bring_built : (k c : ℕ) (vocab : List ℕ) (r : Reading) (t : Tok) → Built k c r → Built k c (bring_one vocab r t)
-bring_built k c vocab r t b = bringing_built k c t r (word_held r.scope.table vocab t.text) b (word_in_held (is_found b.fronted.front (length r.words)) r.scope.table vocab t.text b.scope.table)
+bring_built k c vocab r t b = bringing_built k c t r (word_held r.scope.table vocab t.text) b (word_in_held (is_found b.front (length r.words)) r.scope.table vocab t.text b.scope.table)
 
 pub fold_built : {A : Type 0} (k c : ℕ) (f : Reading → A → Reading) → ((r : Reading) (a : A) → Built k c r → Built k c (f r a)) → (xs : List A) (r : Reading) → Built k c r → Built k c (fold f r xs)
 fold_built k c f h [] r b = b
@@ -66,7 +66,7 @@ fold_built k c f h (x ∷ xs) r b = fold_built k c f h xs (f r x) (h r x b)
 -- Words of one sort.
 
 -- a word that names no array is told
-plain_told : (k c : ℕ) (n : Numbered) (s : Sort) (e : Signature) (b : Built k c n.reading) → names_by s ≡ [] → IsTold b.fronted.front k n s e false false settled → Begins n → Built k c (told s e false false settled n)
+plain_told : (k c : ℕ) (n : Numbered) (s : Sort) (e : Signature) (b : Built k c n.reading) → names_by s ≡ [] → IsTold b.front k n s e false false settled → Begins n → Built k c (told s e false false settled n)
 plain_told k c n s e b none t begins = told_built k c n s e false false settled n.reading.arrays n.reading.first b t (λ is. is) b.arrays (subst (Adds n.reading.arrays n.reading.arrays) (sym none) (adds_none n.reading.arrays)) begins
 
 symbol_built : (k c : ℕ) (t : Tok) (r : Reading) → Built k c r → Built k c (take (f_symbol t) r)
@@ -101,7 +101,7 @@ declared_built may s (given e) u inline recursive d h is = is
 declared_built may s (makes t) u inline recursive d h is = record { built = is; not_inline = h.0; not_recursive = h.1 }
 
 -- the phrase of items, and the arrays behind it
-items_read : (k c : ℕ) (r : Reading) (b : Built k c r) (ns : Nodes) → AreReadPlain ns → (may : ℕ → Bool) → Covers b.fronted.front (length r.words) may →
+items_read : (k c : ℕ) (r : Reading) (b : Built k c r) (ns : Nodes) → AreReadPlain ns → (may : ℕ → Bool) → Covers b.front (length r.words) may →
     (let m = phrase_of r.scope [] (read_items (is_cond r.scope) [] ns) r.arrays 0 in IsPhraseOf may m.phrase × AreArraysOf may m.arrays)
 items_read k c r b ns plain may within = phrase_built may r.scope [] false (read_items (is_cond r.scope) [] ns) r.arrays 0 (first_found k c r b may within) (scope_covered k c r b may within) (plain (is_cond r.scope)) (b.arrays may within)
 

@@ -149,18 +149,18 @@ all_sound keep r c h =
     list_all-append is_sound (word_phrases P.words) (joined (map quotations r.arrays)) ∙ and_true (list_all is_sound (word_phrases P.words)) (are_sound r.arrays) words c.arrays
 
 -- the words of earlier texts, and those behind them
-pub words_are : (keep : Bool) (r : Reading) (b : BuiltUp r) → (program_of keep r).words ≡ b.fronted.front ++ (map (finished r.words (all_classes r)) b.fronted.rest ++ top_word (top_phrase keep r) ∷ [])
+pub words_are : (keep : Bool) (r : Reading) (b : BuiltUp r) → (program_of keep r).words ≡ b.front ++ (map (finished r.words (all_classes r)) b.fronted.rest ++ top_word (top_phrase keep r) ∷ [])
 words_are keep r b =
-    ap (λ (ws : List WordDef). ws ++ top_word (top_phrase keep r) ∷ []) (front_words r.words (all_classes r) b.fronted)
-    ∙ append_assoc b.fronted.front (map (finished r.words (all_classes r)) b.fronted.rest) (top_word (top_phrase keep r) ∷ [])
+    ap (λ (ws : List WordDef). ws ++ top_word (top_phrase keep r) ∷ []) (front_words r.words (all_classes r) b.front b.fronted)
+    ∙ append_assoc b.front (map (finished r.words (all_classes r)) b.fronted.rest) (top_word (top_phrase keep r) ∷ [])
 
 front_there : (front more_words : List WordDef) (w : ℕ) (d : WordDef) → slice_get front w ≡ Some d → slice_get (front ++ more_words) w ≡ Some d
 front_there [] more_words w d h = absurd (cc)
 front_there (x ∷ front) more_words zero d h = h
 front_there (x ∷ front) more_words (suc w) d h = front_there front more_words w d h
 
-front_stays : (keep : Bool) (r : Reading) (b : BuiltUp r) → FrontStays b.fronted.front (program_of keep r)
-front_stays keep r b w d at = ap (λ (ws : List WordDef). slice_get ws w) (words_are keep r b) ∙ front_there b.fronted.front (map (finished r.words (all_classes r)) b.fronted.rest ++ top_word (top_phrase keep r) ∷ []) w d at
+front_stays : (keep : Bool) (r : Reading) (b : BuiltUp r) → FrontStays b.front (program_of keep r)
+front_stays keep r b w d at = ap (λ (ws : List WordDef). slice_get ws w) (words_are keep r b) ∙ front_there b.front (map (finished r.words (all_classes r)) b.fronted.rest ++ top_word (top_phrase keep r) ∷ []) w d at
 
 -- No phrase names an earlier one.
 
@@ -191,13 +191,13 @@ is_other : (a b : ℕ) → a < b → nat_eq a b ≡ false
 is_other a b lt = grind arith
 
 -- what a name may find, a phrase may name
-pub found_named : (keep : Bool) (r : Reading) (b : BuiltUp r) → IsEnded r → Covers b.fronted.front (length r.words) (may_name (program_of keep r))
+pub found_named : (keep : Bool) (r : Reading) (b : BuiltUp r) → IsEnded r → Covers b.front (length r.words) (may_name (program_of keep r))
 found_named keep r b h w found =
     let P = program_of keep r in
     let cs = all_classes r in
-    let front = b.fronted.front in
+    let front = b.front in
     let lt = found_low front (length r.words) w found in
-    let news = rest_pass r.words cs is_no_past b.fronted (no_past_passes r.words (length cs)) h.ok h.finishes in
+    let news = rest_pass r.words cs is_no_past b.front b.fronted (no_past_passes r.words (length cs)) h.ok h.finishes in
     let last = list_all-append is_no_past (map (finished r.words cs) b.fronted.rest) (top_word (top_phrase keep r) ∷ []) ∙ and_true (list_all is_no_past (map (finished r.words cs) b.fronted.rest)) true news refl in
     let none = ap (λ (ws : List WordDef). past_at ws w) (words_are keep r b) ∙ past_in front (map (finished r.words cs) b.fronted.rest ++ top_word (top_phrase keep r) ∷ []) w last (true_both (nat_lt w (length r.words)) (spares_past front w) found).1 in
     and_true (nat_lt w P.top) (is_nameable P w) (true_both (nat_lt w (length r.words)) (spares_past front w) found).0 (neither (nat_eq w P.top) (is_past (sort_of P w)) (is_other w P.top lt) none)
@@ -264,7 +264,7 @@ is_together keep r b c h =
     let cs = all_classes r in
     let last = top_word (top_phrase keep r) in
     let held = b.held h.first in
-    let front = b.fronted.front in
+    let front = b.front in
     let front_is = front_stays keep r b in
     record {
       closed = sound_closed (all_phrases P) (all_sound keep r c h);
@@ -272,15 +272,15 @@ is_together keep r b c h =
       few = all_pass ds cs (λ (d : WordDef). nat_le (name_count d.effect) 65) last (few_pass (length cs) ds h.ok) refl h.ok h.finishes;
       once = named_once keep r h.finishes b.counted;
       earlier = b.counted.earlier;
-      names_fit = split_pass ds cs (λ (d : WordDef). sort_named P d.sort) last b.fronted (fronts_named P front front front_is (front_ok (length cs) ds b.fronted h.ok) b.fronted.methods) (names_pass P ds (stay keep r h)) refl h.ok h.finishes;
+      names_fit = split_pass ds cs (λ (d : WordDef). sort_named P d.sort) last front b.fronted (fronts_named P front front front_is (front_ok (length cs) ds front b.fronted h.ok) b.fronted.methods) (names_pass P ds (stay keep r h)) refl h.ok h.finishes;
       shapes_fit = shapes_fit ds P r.old_classes r.classes refl h.few h.fits h.classes;
-      method_effects = split_pass ds cs (has_generic_effect P) last b.fronted (fronts_effects P front front front_is b.fronted.methods) (effects_pass P ds (stay keep r h)) refl h.ok h.finishes;
+      method_effects = split_pass ds cs (has_generic_effect P) last front b.fronted (fronts_effects P front front front_is b.fronted.methods) (effects_pass P ds (stay keep r h)) refl h.ok h.finishes;
       slots_differ = each_below_is (λ c. no_two bytes_eq (slots_within (length cs) cs c)) (length cs) (λ c less. slots_apart (length cs) cs c h.tested.ends h.tested.slots (omega arith));
       few_slots = each_below_is (λ c. nat_le (length (slots_within (length cs) cs c)) 64) (length cs) (λ c less. is_small (length (slots_within (length cs) cs c)) (slots_few (length cs) cs c h.tested.ends h.tested.slots (omega arith)));
       class_names_differ = classes_differ ds r.scope.table r.old_classes r.classes held.0 held.1;
       classes_end = each_below_is (λ c. not (reaches (length cs) cs c c)) (length cs) (λ c less. ap not (h.tested.ends c));
       words_differ = words_differ r.scope.table P.words (ap has_no_repeats (numbers_alone (words_in r) last (top_phrase keep r) refl ∙ numbers_same ds cs ds h.finishes) ∙ b.distinct) (accessor_words ds cs r.scope.table 0 ds last refl h.finishes b.accessors);
-      methods_differ = methods_differ (words_in r) last (top_phrase keep r) refl (all_apart ds cs b.fronted h.fits h.words);
+      methods_differ = methods_differ (words_in r) last (top_phrase keep r) refl (all_apart ds cs front b.fronted h.fits h.words);
     }
 
 -- Resolved programs.

@@ -63,12 +63,13 @@ AreHeld r = OldHeld r.words r.scope.table 0 r.old_classes × NewHeld r.words r.s
 -- Words name classes below k, and there are c of them.
 pub record Built (k c : ℕ) (r : Reading) : Type 0 where
   pub some : 0 < length r.words
-  pub fronted : Fronted r.words
-  pub scope : ScopeIn (is_found fronted.front (length r.words)) r.scope
-  pub words : (may : ℕ → Bool) → Covers fronted.front (length r.words) may → DraftsBuilt may r.words
+  pub front : List WordDef
+  pub fronted : Fronted front r.words
+  pub scope : ScopeIn (is_found front (length r.words)) r.scope
+  pub words : (may : ℕ → Bool) → Covers front (length r.words) may → DraftsBuilt may r.words
   pub ok : list_all (draft_ok k) r.words ≡ true
-  pub top : (may : ℕ → Bool) → Covers fronted.front (length r.words) may → IsPhraseOf may r.top
-  pub main : (may : ℕ → Bool) → Covers fronted.front (length r.words) may → IsPhraseOf may r.main
+  pub top : (may : ℕ → Bool) → Covers front (length r.words) may → IsPhraseOf may r.top
+  pub main : (may : ℕ → Bool) → Covers front (length r.words) may → IsPhraseOf may r.main
   pub distinct : has_no_repeats (numbers_in r.words) ≡ true
   pub old : AreSettled r.old_classes
   pub own : list_all (λ (d : NewClass). own_few d.names) r.classes ≡ true
@@ -76,31 +77,32 @@ pub record Built (k c : ℕ) (r : Reading) : Type 0 where
   pub named : AreNamed r.words r.scope.table
   pub accessors : AccessorsHeld r.scope.table 0 r.words
   pub held : r.first ≡ None → AreHeld r
-  pub arrays : (may : ℕ → Bool) → Covers fronted.front (length r.words) may → AreArraysOf may r.arrays
+  pub arrays : (may : ℕ → Bool) → Covers front (length r.words) may → AreArraysOf may r.arrays
   pub counted : Counted r
 
 -- What names find.
 
 pub table_below : (k c : ℕ) (r : Reading) → Built k c r → EntriesBelow (length r.words) r.scope.table
-table_below k c r b = entries_below (is_found b.fronted.front (length r.words)) (length r.words) r.scope.table (found_low b.fronted.front (length r.words)) b.scope.table
+table_below k c r b = entries_below (is_found b.front (length r.words)) (length r.words) r.scope.table (found_low b.front (length r.words)) b.scope.table
 
 -- the word that a name finds which is refused
-pub first_found : (k c : ℕ) (r : Reading) (b : Built k c r) (may : ℕ → Bool) → Covers b.fronted.front (length r.words) may → may 0 ≡ true
-first_found k c r b may covers = covers 0 (found_by b.fronted.front (length r.words) 0 b.some b.fronted.first)
+pub first_found : (k c : ℕ) (r : Reading) (b : Built k c r) (may : ℕ → Bool) → Covers b.front (length r.words) may → may 0 ≡ true
+first_found k c r b may covers = covers 0 (found_by b.front (length r.words) 0 b.some b.fronted.first)
 
-pub scope_covered : (k c : ℕ) (r : Reading) (b : Built k c r) (may : ℕ → Bool) → Covers b.fronted.front (length r.words) may → ScopeIn may r.scope
-scope_covered k c r b may covers = scope_more (is_found b.fronted.front (length r.words)) may r.scope covers b.scope
+pub scope_covered : (k c : ℕ) (r : Reading) (b : Built k c r) (may : ℕ → Bool) → Covers b.front (length r.words) may → ScopeIn may r.scope
+scope_covered k c r b may covers = scope_more (is_found b.front (length r.words)) may r.scope covers b.scope
 
 -- the same but for the first refusal
 pub refused_built : (k c : ℕ) (r : Reading) (first : Option NameFault) → (first ≡ None → r.first ≡ None) → Built k c r → Built k c (record r { first = first })
 refused_built k c r first before b =
-    record { some = b.some; fronted = b.fronted; scope = b.scope; words = b.words; ok = b.ok; top = b.top; main = b.main; distinct = b.distinct; old = b.old; own = b.own; count = b.count; named = b.named; accessors = b.accessors; held = λ none. b.held (before none); arrays = b.arrays; counted = refused_counted r first b.counted }
+    record { some = b.some; front = b.front; fronted = b.fronted; scope = b.scope; words = b.words; ok = b.ok; top = b.top; main = b.main; distinct = b.distinct; old = b.old; own = b.own; count = b.count; named = b.named; accessors = b.accessors; held = λ none. b.held (before none); arrays = b.arrays; counted = refused_counted r first b.counted }
 
 -- another scope with words that there are, and the same table
-pub scoped_built : (k c : ℕ) (r : Reading) (s : Scope) (b : Built k c r) → ScopeIn (is_found b.fronted.front (length r.words)) s → s.table ≡ r.scope.table → Built k c (record r { scope = s })
+pub scoped_built : (k c : ℕ) (r : Reading) (s : Scope) (b : Built k c r) → ScopeIn (is_found b.front (length r.words)) s → s.table ≡ r.scope.table → Built k c (record r { scope = s })
 scoped_built k c r s b h same =
     record {
       some = b.some;
+      front = b.front;
       fronted = b.fronted;
       scope = h;
       words = b.words;
@@ -145,7 +147,7 @@ drafts_more k (d ∷ ds) h = let both = true_both (draft_ok k d) (list_all (draf
 
 pub one_class_more : (k c : ℕ) (r : Reading) → Built k c r → Built (suc k) c r
 one_class_more k c r b =
-    record { some = b.some; fronted = b.fronted; scope = b.scope; words = b.words; ok = drafts_more k r.words b.ok; top = b.top; main = b.main; distinct = b.distinct; old = b.old; own = b.own; count = b.count; named = b.named; accessors = b.accessors; held = b.held; arrays = b.arrays; counted = b.counted }
+    record { some = b.some; front = b.front; fronted = b.fronted; scope = b.scope; words = b.words; ok = drafts_more k r.words b.ok; top = b.top; main = b.main; distinct = b.distinct; old = b.old; own = b.own; count = b.count; named = b.named; accessors = b.accessors; held = b.held; arrays = b.arrays; counted = b.counted }
 
 -- What stays of words and tables.
 
@@ -175,14 +177,15 @@ pub record Adds_word (front : List WordDef) (r : Reading) (s : Scope) (vocab : L
 pub word_keeps : (front : List WordDef) (r : Reading) (s : Scope) (vocab : List ℕ) (t : Tok) (first : Option NameFault) → Adds_word front r s vocab t first → Keeps r (record r { scope = s; words = r.words ++ draft_of vocab t ∷ []; first = first })
 word_keeps front r s vocab t first a = record { names = names_push r.words (draft_of vocab t); words = told_push r.words (draft_of vocab t); table = a.table; first = a.first_before }
 
-pub with_word : (k c : ℕ) (r : Reading) (s : Scope) (vocab : List ℕ) (t : Tok) (first : Option NameFault) (b : Built k c r) → Adds_word b.fronted.front r s vocab t first → Counted (record r { scope = s; words = r.words ++ draft_of vocab t ∷ []; first = first }) → Built k c (record r { scope = s; words = r.words ++ draft_of vocab t ∷ []; first = first })
+pub with_word : (k c : ℕ) (r : Reading) (s : Scope) (vocab : List ℕ) (t : Tok) (first : Option NameFault) (b : Built k c r) → Adds_word b.front r s vocab t first → Counted (record r { scope = s; words = r.words ++ draft_of vocab t ∷ []; first = first }) → Built k c (record r { scope = s; words = r.words ++ draft_of vocab t ∷ []; first = first })
 with_word k c r s vocab t first b a counted =
-    let front = b.fronted.front in
+    let front = b.front in
     let longer = length_push r.words (draft_of vocab t) in
     let keeps = word_keeps front r s vocab t first a in
     record {
       some = omega (arith, longer);
-      fronted = fronted_push r.words (draft_of vocab t) refl b.fronted;
+      front = front;
+      fronted = fronted_push front r.words (draft_of vocab t) refl b.fronted;
       scope = subst (λ (n : ℕ). ScopeIn (is_found front n) s) (sym longer) a.below;
       words = λ may covers. drafts_with may r.words (draft_of vocab t) (b.words may (covers_fewer front (length r.words) (length (r.words ++ draft_of vocab t ∷ [])) may (omega (arith, longer)) covers)) tt;
       ok = list_all-append (draft_ok k) r.words (draft_of vocab t ∷ []) ∙ and_true (list_all (draft_ok k) r.words) true b.ok refl;
@@ -257,14 +260,15 @@ moved_keeps r vocab name p n = record { names = names_changed (at_place p) (λ d
 
 pub moved_built : (k c : ℕ) (r : Reading) (vocab name : List ℕ) (p : Place) (n : ℕ) → ((d : Draft) → slice_get r.words n ≡ Some d → d.late ≡ deferred) → Counted (moved r vocab name p n) → Built k c r → Built k c (moved r vocab name p n)
 moved_built k c r vocab name p n untold counted b =
-    let front = b.fronted.front in
+    let front = b.front in
     let same = length_changed (at_place p) n r.words in
     let below = b.some in
     let keeps = moved_keeps r vocab name p n in
     let table = now_defined vocab name r.scope.table in
     record {
       some = omega (arith, same, below);
-      fronted = fronted_changed (at_place p) n r.words (λ d h. h) untold b.fronted;
+      front = front;
+      fronted = fronted_changed front (at_place p) n r.words (λ d h. h) untold b.fronted;
       scope = subst (λ (m : ℕ). ScopeIn (is_found front m) (record r.scope { table = table })) (sym same) (record { table = entries_defined (is_found front (length r.words)) vocab name r.scope.table b.scope.table; brought = b.scope.brought });
       words = λ may covers. drafts_changed may (at_place p) n r.words (λ d h. placed_late may d.word p d.late h) (b.words may (covers_fewer front (length r.words) (length (changed (at_place p) n r.words)) may (omega (arith, same)) covers));
       ok = ok_changed k (at_place p) n r.words (λ d h. h) b.ok;
@@ -294,19 +298,20 @@ pub told_keeps : (n : Numbered) (s : Sort) (e : Signature) (inline recursive : B
 told_keeps n s e inline recursive late arrays first before begins =
     record { names = names_changed (with_told s e inline recursive late) (λ d. refl) n.word n.reading.words; words = told_other (with_told s e inline recursive late) n.word n.reading.words (λ d at. (begins.fresh.untold d at).1); table = held_same n.reading.scope.table; first = before }
 
-pub told_built : (k c : ℕ) (n : Numbered) (s : Sort) (e : Signature) (inline recursive : Bool) (late : Late) (arrays : List (List Lit)) (first : Option NameFault) (b : Built k c n.reading) → IsTold b.fronted.front k n s e inline recursive late → (first ≡ None → n.reading.first ≡ None) →
-    ((may : ℕ → Bool) → Covers b.fronted.front (length n.reading.words) may → AreArraysOf may arrays) → Adds n.reading.arrays arrays (names_by s) → Begins n → Built k c (told s e inline recursive late (record { word = n.word; reading = record n.reading { arrays = arrays; first = first } }))
+pub told_built : (k c : ℕ) (n : Numbered) (s : Sort) (e : Signature) (inline recursive : Bool) (late : Late) (arrays : List (List Lit)) (first : Option NameFault) (b : Built k c n.reading) → IsTold b.front k n s e inline recursive late → (first ≡ None → n.reading.first ≡ None) →
+    ((may : ℕ → Bool) → Covers b.front (length n.reading.words) may → AreArraysOf may arrays) → Adds n.reading.arrays arrays (names_by s) → Begins n → Built k c (told s e inline recursive late (record { word = n.word; reading = record n.reading { arrays = arrays; first = first } }))
 told_built k c n s e inline recursive late arrays first b t before is_built adds begins =
     let r = n.reading in
     let w = n.word in
     let f = with_told s e inline recursive late in
-    let front = b.fronted.front in
+    let front = b.front in
     let same = length_changed f w r.words in
     let below = b.some in
     let keeps = told_keeps n s e inline recursive late arrays first before begins in
     record {
       some = omega (arith, same, below);
-      fronted = fronted_changed f w r.words (λ d h. t.new) (λ d at. (begins.fresh.untold d at).1) b.fronted;
+      front = front;
+      fronted = fronted_changed front f w r.words (λ d h. t.new) (λ d at. (begins.fresh.untold d at).1) b.fronted;
       scope = subst (λ (m : ℕ). ScopeIn (is_found front m) r.scope) (sym same) b.scope;
       words = λ may covers. (let fewer = covers_fewer front (length r.words) (length (changed f w r.words)) may (omega (arith, same)) covers in drafts_changed may f w r.words (λ d is. t.built may fewer d.word) (b.words may fewer));
       ok = ok_changed k f w r.words (λ d h. t.ok) b.ok;
@@ -325,14 +330,14 @@ told_built k c n s e inline recursive late arrays first b t before is_built adds
 
 -- The top-level phrase.
 
-pub with_top : (k c : ℕ) (r : Reading) (t : Phrase) (arrays : List (List Lit)) (first : Option NameFault) (b : Built k c r) → (first ≡ None → r.first ≡ None) → ((may : ℕ → Bool) → Covers b.fronted.front (length r.words) may → IsPhraseOf may (append r.top t)) → ((may : ℕ → Bool) → Covers b.fronted.front (length r.words) may → AreArraysOf may arrays) → Adds r.arrays arrays (arrays_named t) →
+pub with_top : (k c : ℕ) (r : Reading) (t : Phrase) (arrays : List (List Lit)) (first : Option NameFault) (b : Built k c r) → (first ≡ None → r.first ≡ None) → ((may : ℕ → Bool) → Covers b.front (length r.words) may → IsPhraseOf may (append r.top t)) → ((may : ℕ → Bool) → Covers b.front (length r.words) may → AreArraysOf may arrays) → Adds r.arrays arrays (arrays_named t) →
     Built k c (record r { top = append r.top t; arrays = arrays; first = first })
 with_top k c r t arrays first b before h is_built adds =
-    record { some = b.some; fronted = b.fronted; scope = b.scope; words = b.words; ok = b.ok; top = h; main = b.main; distinct = b.distinct; old = b.old; own = b.own; count = b.count; named = b.named; accessors = b.accessors; held = λ none. b.held (before none); arrays = is_built; counted = items_counted r t arrays first adds b.counted }
+    record { some = b.some; front = b.front; fronted = b.fronted; scope = b.scope; words = b.words; ok = b.ok; top = h; main = b.main; distinct = b.distinct; old = b.old; own = b.own; count = b.count; named = b.named; accessors = b.accessors; held = λ none. b.held (before none); arrays = is_built; counted = items_counted r t arrays first adds b.counted }
 
-pub with_main : (k c : ℕ) (r : Reading) (t : Phrase) (first : Option NameFault) (b : Built k c r) → (first ≡ None → r.first ≡ None) → ((may : ℕ → Bool) → Covers b.fronted.front (length r.words) may → IsPhraseOf may t) → arrays_named t ≡ [] → Built k c (record r { main = t; first = first })
+pub with_main : (k c : ℕ) (r : Reading) (t : Phrase) (first : Option NameFault) (b : Built k c r) → (first ≡ None → r.first ≡ None) → ((may : ℕ → Bool) → Covers b.front (length r.words) may → IsPhraseOf may t) → arrays_named t ≡ [] → Built k c (record r { main = t; first = first })
 with_main k c r t first b before h none =
-    record { some = b.some; fronted = b.fronted; scope = b.scope; words = b.words; ok = b.ok; top = b.top; main = h; distinct = b.distinct; old = b.old; own = b.own; count = b.count; named = b.named; accessors = b.accessors; held = λ is_none. b.held (before is_none); arrays = b.arrays; counted = main_counted r t first none b.counted }
+    record { some = b.some; front = b.front; fronted = b.fronted; scope = b.scope; words = b.words; ok = b.ok; top = b.top; main = h; distinct = b.distinct; old = b.old; own = b.own; count = b.count; named = b.named; accessors = b.accessors; held = λ is_none. b.held (before is_none); arrays = b.arrays; counted = main_counted r t first none b.counted }
 
 -- A class more.
 
@@ -342,6 +347,7 @@ with_class k c r d first before few is_held b =
     let count = b.count in
     record {
       some = b.some;
+      front = b.front;
       fronted = b.fronted;
       scope = b.scope;
       words = b.words;

@@ -74,20 +74,20 @@ name_there ds w name None at h = absurd (cc)
 name_there ds w name (Some d) at h = (d, at, (let same : d.word.name ≡ name = cc in same))
 
 -- a new word, with an entry or with none
-with_entry_word : (r : Reading) (vocab : List ℕ) (t : Tok) (b : Bool) (k c : ℕ) (built : Built k c r) → Adds_word built.fronted.front r (with_entry vocab t.text (length r.words) b r.scope) vocab t r.first
+with_entry_word : (r : Reading) (vocab : List ℕ) (t : Tok) (b : Bool) (k c : ℕ) (built : Built k c r) → Adds_word built.front r (with_entry vocab t.text (length r.words) b r.scope) vocab t r.first
 with_entry_word r vocab t b k c built =
     let e : Entry = record { vocab = vocab; name = t.text; word = length r.words; is_defined = b } in
     record {
-      below = entered_word built.fronted.front (length r.words) r.scope vocab t.text b (new_spared r.words built.fronted) built.scope;
+      below = entered_word built.front (length r.words) r.scope vocab t.text b (new_spared built.front r.words built.fronted) built.scope;
       table = held_with r.scope.table e;
       named = named_with (r.words ++ draft_of vocab t ∷ []) r.scope.table e (named_kept r.words (r.words ++ draft_of vocab t ∷ []) r.scope.table (names_push r.words (draft_of vocab t)) built.named) (ap (option_map (λ (d : Draft). d.word.name)) (last_at r.words (draft_of vocab t)));
       first_before = λ none. none;
     }
 
-pub with_no_entry : (r : Reading) (vocab : List ℕ) (t : Tok) (first : Option NameFault) (k c : ℕ) → (first ≡ None → r.first ≡ None) → (built : Built k c r) → Adds_word built.fronted.front r r.scope vocab t first
+pub with_no_entry : (r : Reading) (vocab : List ℕ) (t : Tok) (first : Option NameFault) (k c : ℕ) → (first ≡ None → r.first ≡ None) → (built : Built k c r) → Adds_word built.front r r.scope vocab t first
 with_no_entry r vocab t first k c before built =
     record {
-      below = wider built.fronted.front (length r.words) r.scope built.scope;
+      below = wider built.front (length r.words) r.scope built.scope;
       table = held_same r.scope.table;
       named = named_kept r.words (r.words ++ draft_of vocab t ∷ []) r.scope.table (names_push r.words (draft_of vocab t)) built.named;
       first_before = before;
@@ -99,7 +99,7 @@ new_defined k c vocab t r none b =
     let begins = defining_begins vocab t r [] none (table_below k c r b) b.counted in
     record {
       built = with_word k c r _ vocab t r.first b adds begins.counted;
-      keeps = word_keeps b.fronted.front r _ vocab t r.first adds;
+      keeps = word_keeps b.front r _ vocab t r.first adds;
       begins = begins;
       name_held = λ is_none. record { draft = draft_of vocab t; at = last_at r.words (draft_of vocab t); held = held_new r.scope.table _ none };
     }
@@ -110,7 +110,7 @@ refused_defined k c vocab t r b begins =
     let adds = with_no_entry r vocab t first k c (none_before r.first (fault Twice t ∷ [])) b in
     record {
       built = with_word k c r r.scope vocab t first b adds begins.counted;
-      keeps = word_keeps b.fronted.front r r.scope vocab t first adds;
+      keeps = word_keeps b.front r r.scope vocab t first adds;
       begins = begins;
       name_held = λ none. absurd (no_more r.first (fault Twice t) none);
     }

@@ -60,8 +60,7 @@ is_generic_of (Some d) e = is_generic (Some d.sort) && effect_eq d.effect e
 abbrev pub method_stands : List WordDef → WordDef → Bool
 method_stands front d = elim d.sort [ method c g t ↦ is_generic_of (slice_get front g) d.effect | _ ↦ true ]
 
-pub record Fronted (ds : List Draft) : Type 0 where
-  pub front : List WordDef
+pub record Fronted (front : List WordDef) (ds : List Draft) : Type 0 where
   pub rest : List Draft
   pub are : ds ≡ map settled_draft front ++ rest
   pub new : list_all is_new rest ≡ true
@@ -70,19 +69,18 @@ pub record Fronted (ds : List Draft) : Type 0 where
   pub methods : list_all (method_stands front) front ≡ true
   pub apart : no_two same_method front ≡ true
 
-pub new_spared : (ds : List Draft) (h : Fronted ds) → spares_past h.front (length ds) ≡ true
-new_spared ds h =
-    let all = ap length h.are ∙ length-append (map settled_draft h.front) h.rest in
-    let front = length-map h.front settled_draft in
-    none_behind h.front (length ds) (omega (arith, all, front))
+pub new_spared : (front : List WordDef) (ds : List Draft) → Fronted front ds → spares_past front (length ds) ≡ true
+new_spared front ds h =
+    let all = ap length h.are ∙ length-append (map settled_draft front) h.rest in
+    let before = length-map front settled_draft in
+    none_behind front (length ds) (omega (arith, all, before))
 
 -- a word more
-pub fronted_push : (ds : List Draft) (d : Draft) → is_new d ≡ true → Fronted ds → Fronted (ds ++ d ∷ [])
-fronted_push ds d new h =
+pub fronted_push : (front : List WordDef) (ds : List Draft) (d : Draft) → is_new d ≡ true → Fronted front ds → Fronted front (ds ++ d ∷ [])
+fronted_push front ds d new h =
     record {
-      front = h.front;
       rest = h.rest ++ d ∷ [];
-      are = ap (λ (xs : List Draft). xs ++ d ∷ []) h.are ∙ append_assoc (map settled_draft h.front) h.rest (d ∷ []);
+      are = ap (λ (xs : List Draft). xs ++ d ∷ []) h.are ∙ append_assoc (map settled_draft front) h.rest (d ∷ []);
       new = list_all-append is_new h.rest (d ∷ []) ∙ and_true (list_all is_new h.rest) (is_new d && true) h.new (and_true (is_new d) true new refl);
       first = h.first;
       methods = h.methods;
@@ -110,13 +108,12 @@ new_changed f n [] keeps h = refl
 new_changed f zero (d ∷ ds) keeps h = let both = true_both (is_new d) (list_all is_new ds) h in and_true (is_new (f d)) (list_all is_new ds) (keeps d both.0) both.1
 new_changed f (suc n) (d ∷ ds) keeps h = let both = true_both (is_new d) (list_all is_new ds) h in and_true (is_new d) (list_all is_new (changed f n ds)) both.0 (new_changed f n ds keeps both.1)
 
-pub fronted_changed : (f : Draft → Draft) (n : ℕ) (ds : List Draft) → ((d : Draft) → is_new d ≡ true → is_new (f d) ≡ true) → ((d : Draft) → slice_get ds n ≡ Some d → d.late ≡ deferred) → Fronted ds → Fronted (changed f n ds)
-fronted_changed f n ds keeps untold h =
+pub fronted_changed : (front : List WordDef) (f : Draft → Draft) (n : ℕ) (ds : List Draft) → ((d : Draft) → is_new d ≡ true → is_new (f d) ≡ true) → ((d : Draft) → slice_get ds n ≡ Some d → d.late ≡ deferred) → Fronted front ds → Fronted front (changed f n ds)
+fronted_changed front f n ds keeps untold h =
     record {
-      front = h.front;
-      rest = changed f (number_behind h.front n) h.rest;
-      are = ap (changed f n) h.are ∙ changed_behind f h.front h.rest n (λ d at. untold d (ap (λ (xs : List Draft). slice_get xs n) h.are ∙ at));
-      new = new_changed f (number_behind h.front n) h.rest keeps h.new;
+      rest = changed f (number_behind front n) h.rest;
+      are = ap (changed f n) h.are ∙ changed_behind f front h.rest n (λ d at. untold d (ap (λ (xs : List Draft). slice_get xs n) h.are ∙ at));
+      new = new_changed f (number_behind front n) h.rest keeps h.new;
       first = h.first;
       methods = h.methods;
       apart = h.apart;

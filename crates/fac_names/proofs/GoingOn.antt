@@ -267,10 +267,9 @@ past_no_method c d t is = one c.sort
     one (method a g u) = ap (λ (z : Sort). elim z [ method b h v ↦ nat_eq a b && nat_eq g h | _ ↦ false ]) is
     one s = refl
 
-fronted : (P : Program) (b : IsSessionProgram P) → IsWhole P → is_nameable P 0 ≡ true → Fronted (drafts_of P)
+fronted : (P : Program) (b : IsSessionProgram P) → IsWhole P → is_nameable P 0 ≡ true → Fronted (front_of P b) (drafts_of P)
 fronted P b whole first =
     record {
-      front = front_of P b;
       rest = [];
       are = drafts_are P b ∙ sym (append-nil (map settled_draft (front_of P b)));
       new = refl;
@@ -291,13 +290,18 @@ class_fits P (isa c) h = h
 class_fits P (method c g t) h = (true_both (nat_lt c (length P.classes)) (is_generic (sort_of P g)) h).0
 class_fits P s h = refl
 
+late_settled : (s : Sort) → late_in s settled ≡ true
+late_settled itself = refl
+late_settled (body t) = refl
+late_settled s = refl
+
 words_ok : (P : Program) (ws : List WordDef) → list_all (λ (d : WordDef). sort_fits P d.sort) ws ≡ true → list_all (λ (d : WordDef). nat_le (name_count d.effect) 65) ws ≡ true → list_all (draft_ok (length P.classes)) (map settled_draft ws) ≡ true
 words_ok P [] h k = refl
 words_ok P (d ∷ ws) h k =
     let fits = true_both (sort_fits P d.sort) (list_all (λ (e : WordDef). sort_fits P e.sort) ws) h in
     let few = true_both (nat_le (name_count d.effect) 65) (list_all (λ (e : WordDef). nat_le (name_count e.effect) 65) ws) k in
     and_true (draft_ok (length P.classes) (settled_draft d)) (list_all (draft_ok (length P.classes)) (map settled_draft ws))
-    (and_true (class_in (length P.classes) d.sort && true) (nat_le (name_count d.effect) 65) (and_true (class_in (length P.classes) d.sort) true (class_fits P d.sort fits.0) refl) few.0)
+    (and_true (draft_fits (length P.classes) (settled_draft d)) (nat_le (name_count d.effect) 65) (and_true (class_in (length P.classes) d.sort) (late_in d.sort settled) (class_fits P d.sort fits.0) (late_settled d.sort)) few.0)
     (words_ok P ws fits.1 few.1)
 
 past_class : (n : ℕ) (s : Sort) → class_in n s ≡ true → class_in n (past_sort s) ≡ true
@@ -308,7 +312,7 @@ past_ok : (n : ℕ) (d : Draft) → draft_ok n d ≡ true → draft_ok n (as_ear
 past_ok n d h =
     let both = true_both (draft_fits n d) (nat_le (name_count d.word.effect) 65) h in
     let parts = true_both (class_in n d.word.sort) (late_in d.word.sort d.late) both.0 in
-    and_true (class_in n (past_sort d.word.sort) && true) (nat_le (name_count d.word.effect) 65) (and_true (class_in n (past_sort d.word.sort)) true (past_class n d.word.sort parts.0) refl) both.1
+    and_true (draft_fits n (as_earlier d)) (nat_le (name_count d.word.effect) 65) (and_true (class_in n (past_sort d.word.sort)) (late_in (past_sort d.word.sort) settled) (past_class n d.word.sort parts.0) (late_settled (past_sort d.word.sort))) both.1
 
 -- Primitives.
 
@@ -426,22 +430,25 @@ words_names : (ws : List WordDef) → named_in (map settled_draft ws) ≡ joined
 words_names [] = refl
 words_names (d ∷ ws) = ap (λ (xs : List ℕ). names_by d.sort ++ xs) (words_names ws) ∙ sym (sort_names d.sort (word_phrases ws))
 
-below_one : (n a : ℕ) → a < n → below n a ≡ 1
-below_one zero a lt = absurd (omega (arith, lt))
-below_one (suc n) a lt = one (nat_eq a n) refl
+below_step : (n a : ℕ) (c : Bool) → nat_eq a n ≡ c → a < suc n → (a < n → below n a ≡ 1) → times_in a (n ∷ []) + below n a ≡ 1
+below_step n a true e lt rest =
+    let own : times_in a (n ∷ []) ≡ 1 = ap (λ (d : Bool). elim d [ true ↦ suc (times_in a []) | false ↦ times_in a [] ]) e in
+    let none = not_below n a (here a n e) in
+    omega (arith, own, none)
   where
-    when : Bool → ℕ
-    when c = elim c [ true ↦ 1 | false ↦ 0 ]
-
     here : (a n : ℕ) → nat_eq a n ≡ true → n ≤ a
     here a n e = grind arith
-
+below_step n a false e lt rest =
+    let own : times_in a (n ∷ []) ≡ 0 = ap (λ (d : Bool). elim d [ true ↦ suc (times_in a []) | false ↦ times_in a [] ]) e in
+    let one = rest (less a n e lt) in
+    omega (arith, own, one)
+  where
     less : (a n : ℕ) → nat_eq a n ≡ false → a < suc n → a < n
     less a n e k = grind arith
 
-    one : (c : Bool) → nat_eq a n ≡ c → times_in a (n ∷ []) + below n a ≡ 1
-    one true e = let own : times_in a (n ∷ []) ≡ 1 = ap (λ (d : Bool). elim d [ true ↦ suc (times_in a []) | false ↦ times_in a [] ]) e in let none = not_below n a (here a n e) in omega (arith, own, none)
-    one false e = let own : times_in a (n ∷ []) ≡ 0 = ap (λ (d : Bool). elim d [ true ↦ suc (times_in a []) | false ↦ times_in a [] ]) e in let rest = below_one n a (less a n e lt) in omega (arith, own, rest)
+below_one : (n a : ℕ) → a < n → below n a ≡ 1
+below_one zero a lt = absurd (omega (arith, lt))
+below_one (suc n) a lt = below_step n a (nat_eq a n) refl lt (λ less. below_one n a less)
 
 both_below : (n : ℕ) (xs ys : List ℕ) → all_below n xs ≡ true → all_below n ys ≡ true → all_below n (xs ++ ys) ≡ true
 both_below n xs ys h k = list_all-append (λ (a : ℕ). nat_lt a n) xs ys ∙ and_true (all_below n xs) (all_below n ys) h k
@@ -496,22 +503,21 @@ never n a (x ∷ xs) le h =
     is_other : (a x n : ℕ) → n ≤ a → x < n → nat_eq a x ≡ false
     is_other a x n k lt = grind arith
 
-below_true : (test : ℕ → Bool) (n k : ℕ) → each_below test n ≡ true → k < n → test k ≡ true
-below_true test zero k h lt = absurd (omega (arith, lt))
-below_true test (suc n) k h lt = one (nat_eq k n) refl
+true_step : (test : ℕ → Bool) (n k : ℕ) (c : Bool) → nat_eq k n ≡ c → test n ≡ true → k < suc n → (k < n → test k ≡ true) → test k ≡ true
+true_step test n k true e h lt rest = ap test (here k n e) ∙ h
   where
-    both : (test n ≡ true) × (each_below test n ≡ true)
-    both = true_both (test n) (each_below test n) h
-
-    here : (a n : ℕ) → nat_eq a n ≡ true → n ≡ a
+    here : (a n : ℕ) → nat_eq a n ≡ true → a ≡ n
     here a n e = grind arith
-
+true_step test n k false e h lt rest = rest (less k n e lt)
+  where
     less : (a n : ℕ) → nat_eq a n ≡ false → a < suc n → a < n
     less a n e k = grind arith
 
-    one : (c : Bool) → nat_eq k n ≡ c → test k ≡ true
-    one true e = ap test (sym (here k n e)) ∙ both.0
-    one false e = below_true test n k both.1 (less k n e lt)
+below_true : (test : ℕ → Bool) (n k : ℕ) → each_below test n ≡ true → k < n → test k ≡ true
+below_true test zero k h lt = absurd (omega (arith, lt))
+below_true test (suc n) k h lt =
+    let both = true_both (test n) (each_below test n) h in
+    true_step test n k (nat_eq k n) refl both.0 lt (λ less. below_true test n k both.1 less)
 
 one_is : (a : ℕ) → nat_eq a 1 ≡ true → a ≡ 1
 one_is a h = grind arith
@@ -558,6 +564,7 @@ begins_built k h =
     up c (beginning k)
     (record {
       some = omega (arith, count, all);
+      front = front;
       fronted = fronted P b h.whole (true_both (is_word P 0) (is_nameable P 0) h.first).1;
       scope = record {
         table = entries_in (is_found front n) k.scope.table (λ i e at. may_found P b e.word (h.entries i e at).found);
@@ -571,7 +578,7 @@ begins_built k h =
       old = whole_settled P h.whole;
       own = refl;
       count = class_count k;
-      named = are_named (drafts_of P) k.scope.table (λ i e at. let entry = h.entries i e at in name_before P e.word entry.def entry.at ∙ ap (λ (x : FullName). Some x) entry.name_is);
+      named = are_named (drafts_of P) k.scope.table (λ i e at. (let entry = h.entries i e at in name_before P e.word entry.def entry.at ∙ ap (λ (x : FullName). Some x) entry.name_is));
       accessors = subst (AccessorsHeld k.scope.table 0) (sym (drafts_are P b)) (accessors_from k.scope.table 0 front (λ w d name at is. subst (λ (m : ℕ). word_held k.scope.table (codes "accessors") name ≡ Some m) (let e : w ≡ w + 0 = omega arith in e) (h.accessors w d name (in_program P b is_accessor refl w d at (accessor_is d.sort name is)) is)));
       held = λ none. (old_held (drafts_of P) k.scope.table 0 P.classes (λ j d at. subst (ClassHeld (drafts_of P) k.scope.table d.name) (let e : j ≡ j + 0 = omega arith in e) (class_held k b j d (h.classes j d at))), tt);
       arrays = λ may covers. arrays_more (may_name P) may (named_found P b may covers) P.arrays b.arrays_from_source;

@@ -36,7 +36,7 @@ use Rattle.fac_names.specs.Resolution.{first_reading}
 use Rattle.fac_names.specs.Resolved.{Known, answer, beginning, first_fault, going_on, program_of, read_files, top_phrase}
 use Rattle.fac_names.specs.inner.Taking.{take_all}
 use Rattle.fac_names.proofs.ArrayReadings.{IsUntold, Spared}
-use Rattle.fac_names.proofs.BuiltForms.{BuiltUp}
+use Rattle.fac_names.proofs.BuiltForms.{BuiltUp, classes_in}
 use Rattle.fac_names.proofs.BuiltPrograms.{IsEnded, all_classes, ended, files_built, files_closed, forms_built, forms_closed, found_named, sound, words_in}
 use Rattle.fac_names.proofs.BuiltReadings.{first_found}
 use Rattle.fac_names.proofs.BuiltScopes.{BroughtIn, EntriesBelow, EntriesIn, entries_below}
@@ -173,11 +173,11 @@ entry_of keep r b h i e at =
       def = finished r.words (all_classes r) d.0;
       at = word_there keep r e.word d.0 d.1;
       name_is = same_name r.words (length (all_classes r)) d.0.word (finished r.words (all_classes r) d.0) d.0.late (finish_at r.words (all_classes r) r.words e.word d.0 h.finishes d.1) ∙ d.2;
-      found = named_found (program_of keep r) e.word (counted_words keep r) (found_named keep r b h e.word (entry_at (is_found b.fronted.front (length r.words)) r.scope.table i e b.scope.table at));
+      found = named_found (program_of keep r) e.word (counted_words keep r) (found_named keep r b h e.word (entry_at (is_found b.front (length r.words)) r.scope.table i e b.scope.table at));
     }
 
 entry_low : (r : Reading) (b : BuiltUp r) (i : ℕ) (e : Entry) → slice_get r.scope.table i ≡ Some e → e.word < length r.words
-entry_low r b i e at = found_low b.fronted.front (length r.words) e.word (entry_at (is_found b.fronted.front (length r.words)) r.scope.table i e b.scope.table at)
+entry_low r b i e at = found_low b.front (length r.words) e.word (entry_at (is_found b.front (length r.words)) r.scope.table i e b.scope.table at)
 
 class_word : (keep : Bool) (r : Reading) (b : BuiltUp r) (h : IsEnded r) (c : ℕ) (d : ClassDef) → slice_get (program_of keep r).classes c ≡ Some d → HasItsWord (known_of keep r) c d
 class_word keep r b h c d at =
@@ -205,11 +205,11 @@ known_then keep r b c none =
     let P = program_of keep r in
     record {
       whole = sound keep r b c none;
-      first = named_found P 0 (counted_words keep r) (first_found _ _ r b (may_name P) (found_named keep r b h));
+      first = named_found P 0 (counted_words keep r) (first_found (classes_in r) (classes_in r) r b (may_name P) (found_named keep r b h));
       entries = entry_of keep r b h;
       all_defined = all_defined r.scope.table (λ i e at. entry_defined e (spared_at e.word r.scope.table i e (ap (λ (n : ℕ). all_spare n r.scope.table) (let same : e.word ≡ e.word + 0 = omega arith in same) ∙ word_spared r.words (all_classes r) 0 r.words r.scope.table e.word (entry_low r b i e at) h.finishes b.counted.spared) at));
       ascending = λ i j e f at there lt. ascending_at 0 r.scope.table i j e f b.counted.ascending at there lt;
-      brought = λ i name w at. named_found P w (counted_words keep r) (found_named keep r b h w (brought_at (is_found b.fronted.front (length r.words)) r.scope.brought i name w b.scope.brought at));
+      brought = λ i name w at. named_found P w (counted_words keep r) (found_named keep r b h w (brought_at (is_found b.front (length r.words)) r.scope.brought i name w b.scope.brought at));
       classes = class_word keep r b h;
       accessors = accessor_there keep r b h;
     }

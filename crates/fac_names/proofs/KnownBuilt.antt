@@ -178,10 +178,9 @@ known_kinds : list_all (λ (d : ClassDef). is_kind d.shape) known_classes ≡ tr
 unfolding known_classes
 known_kinds = refl
 
-known_front : Fronted (map settled_draft known_words)
+known_front : Fronted known_words (map settled_draft known_words)
 known_front =
     record {
-      front = known_words;
       rest = [];
       are = sym (append-nil (map settled_draft known_words));
       new = refl;
@@ -198,6 +197,7 @@ first_built =
     let n = length (map settled_draft known_words) in
     up 12 first_reading (record {
       some = omega (arith, count, some);
+      front = known_words;
       fronted = known_front;
       scope = record { table = entries_fit (is_found known_words n) 0 n known_words (λ w lt. found_by known_words n w lt (new_spares known_words known_new w)) (omega (arith, count)); brought = tt };
       words = λ may covers. settled_built may known_words (known_built may);

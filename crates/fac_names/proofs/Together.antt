@@ -202,15 +202,15 @@ words_split : (ds : List Draft) (cs : List ClassDef) (front : List WordDef) (res
 words_split ds cs [] rest = refl
 words_split ds cs (d ∷ front) rest = ap (λ (ws : List WordDef). d ∷ ws) (words_split ds cs front rest)
 
-pub front_words : (ds : List Draft) (cs : List ClassDef) (h : Fronted ds) → map (finished ds cs) ds ≡ h.front ++ map (finished ds cs) h.rest
-front_words ds cs h = ap (map (finished ds cs)) h.are ∙ words_split ds cs h.front h.rest
+pub front_words : (ds : List Draft) (cs : List ClassDef) (front : List WordDef) (h : Fronted front ds) → map (finished ds cs) ds ≡ front ++ map (finished ds cs) h.rest
+front_words ds cs front h = ap (map (finished ds cs)) h.are ∙ words_split ds cs front h.rest
 
 finishes_behind : (ds : List Draft) (cs : List ClassDef) (front : List WordDef) (rest : List Draft) → FinishesOf ds cs (map settled_draft front ++ rest) → FinishesOf ds cs rest
 finishes_behind ds cs [] rest h = h
 finishes_behind ds cs (d ∷ front) rest h = finishes_behind ds cs front rest h.1
 
-test_split : (f : Draft → Bool) (ds : List Draft) (h : Fronted ds) → list_all f ds ≡ true → (list_all f (map settled_draft h.front) ≡ true) × (list_all f h.rest ≡ true)
-test_split f ds h all = true_both (list_all f (map settled_draft h.front)) (list_all f h.rest) (sym (list_all-append f (map settled_draft h.front) h.rest) ∙ sym (ap (list_all f) h.are) ∙ all)
+test_split : (f : Draft → Bool) (ds : List Draft) (front : List WordDef) (h : Fronted front ds) → list_all f ds ≡ true → (list_all f (map settled_draft front) ≡ true) × (list_all f h.rest ≡ true)
+test_split f ds front h all = true_both (list_all f (map settled_draft front)) (list_all f h.rest) (sym (list_all-append f (map settled_draft front) h.rest) ∙ sym (ap (list_all f) h.are) ∙ all)
 
 new_finish : (ds : List Draft) (cs : List ClassDef) (f : WordDef → Bool) → ((w e : WordDef) (l : Late) → draft_ok (length cs) (draft_with w l) ≡ true → is_new_sort w.sort ≡ true → FinishOf ds (length cs) w l e → f e ≡ true) → (xs : List Draft) → list_all (draft_ok (length cs)) xs ≡ true → list_all is_new xs ≡ true → FinishesOf ds cs xs → list_all f (map (finished ds cs) xs) ≡ true
 new_finish ds cs f each [] ok new h = refl
@@ -219,16 +219,16 @@ new_finish ds cs f each (x ∷ xs) ok new h =
     let fresh = true_both (is_new x) (list_all is_new xs) new in
     and_true (f (finished ds cs x)) (list_all f (map (finished ds cs) xs)) (each x.word (finished ds cs x) x.late both.0 fresh.0 h.0) (new_finish ds cs f each xs both.1 fresh.1 h.1)
 
-pub rest_pass : (ds : List Draft) (cs : List ClassDef) (f : WordDef → Bool) (h : Fronted ds) → ((w e : WordDef) (l : Late) → draft_ok (length cs) (draft_with w l) ≡ true → is_new_sort w.sort ≡ true → FinishOf ds (length cs) w l e → f e ≡ true) → list_all (draft_ok (length cs)) ds ≡ true → FinishesOf ds cs ds → list_all f (map (finished ds cs) h.rest) ≡ true
-rest_pass ds cs f h each ok finishes = new_finish ds cs f each h.rest (test_split (draft_ok (length cs)) ds h ok).1 h.new (finishes_behind ds cs h.front h.rest (subst (FinishesOf ds cs) h.are finishes))
+pub rest_pass : (ds : List Draft) (cs : List ClassDef) (f : WordDef → Bool) (front : List WordDef) (h : Fronted front ds) → ((w e : WordDef) (l : Late) → draft_ok (length cs) (draft_with w l) ≡ true → is_new_sort w.sort ≡ true → FinishOf ds (length cs) w l e → f e ≡ true) → list_all (draft_ok (length cs)) ds ≡ true → FinishesOf ds cs ds → list_all f (map (finished ds cs) h.rest) ≡ true
+rest_pass ds cs f front h each ok finishes = new_finish ds cs f each h.rest (test_split (draft_ok (length cs)) ds front h ok).1 h.new (finishes_behind ds cs front h.rest (subst (FinishesOf ds cs) h.are finishes))
 
 -- with the words of earlier texts and that of the top-level phrase
-pub split_pass : (ds : List Draft) (cs : List ClassDef) (f : WordDef → Bool) (last : WordDef) (h : Fronted ds) → list_all f h.front ≡ true → ((w e : WordDef) (l : Late) → draft_ok (length cs) (draft_with w l) ≡ true → is_new_sort w.sort ≡ true → FinishOf ds (length cs) w l e → f e ≡ true) → f last ≡ true → list_all (draft_ok (length cs)) ds ≡ true → FinishesOf ds cs ds →
+pub split_pass : (ds : List Draft) (cs : List ClassDef) (f : WordDef → Bool) (last : WordDef) (front : List WordDef) (h : Fronted front ds) → list_all f front ≡ true → ((w e : WordDef) (l : Late) → draft_ok (length cs) (draft_with w l) ≡ true → is_new_sort w.sort ≡ true → FinishOf ds (length cs) w l e → f e ≡ true) → f last ≡ true → list_all (draft_ok (length cs)) ds ≡ true → FinishesOf ds cs ds →
     list_all f (map (finished ds cs) ds ++ last ∷ []) ≡ true
-split_pass ds cs f last h old each at_last ok finishes =
+split_pass ds cs f last front h old each at_last ok finishes =
     list_all-append f (map (finished ds cs) ds) (last ∷ [])
     ∙ and_true (list_all f (map (finished ds cs) ds)) (f last && true)
-    (ap (list_all f) (front_words ds cs h) ∙ list_all-append f h.front (map (finished ds cs) h.rest) ∙ and_true (list_all f h.front) (list_all f (map (finished ds cs) h.rest)) old (rest_pass ds cs f h each ok finishes))
+    (ap (list_all f) (front_words ds cs front h) ∙ list_all-append f front (map (finished ds cs) h.rest) ∙ and_true (list_all f front) (list_all f (map (finished ds cs) h.rest)) old (rest_pass ds cs f front h each ok finishes))
     (and_true (f last) true at_last refl)
 
 -- Methods of earlier texts have their generics still.
@@ -267,8 +267,8 @@ fronts_effects P front (d ∷ ws) stay h =
     let both = true_both (method_stands front d) (list_all (method_stands front) ws) h in
     and_true (has_generic_effect P d) (list_all (has_generic_effect P) ws) (front_effect P front d.effect d.sort stay both.0) (fronts_effects P front ws stay both.1)
 
-pub front_ok : (n : ℕ) (ds : List Draft) (h : Fronted ds) → list_all (draft_ok n) ds ≡ true → list_all (draft_ok n) (map settled_draft h.front) ≡ true
-front_ok n ds h ok = (test_split (draft_ok n) ds h ok).0
+pub front_ok : (n : ℕ) (ds : List Draft) (front : List WordDef) (h : Fronted front ds) → list_all (draft_ok n) ds ≡ true → list_all (draft_ok n) (map settled_draft front) ≡ true
+front_ok n ds front h ok = (test_split (draft_ok n) ds front h ok).0
 
 -- No two methods are the same.
 
@@ -306,8 +306,8 @@ faults_behind : (ds : List Draft) (cs : List ClassDef) (front earlier : List Wor
 faults_behind ds cs [] earlier rest = refl
 faults_behind ds cs (d ∷ front) earlier rest = faults_behind ds cs front (d ∷ earlier) rest
 
-pub all_apart : (ds : List Draft) (cs : List ClassDef) (h : Fronted ds) → DraftsFit (length cs) ds → words_faults ds cs [] ds ≡ [] → no_two same_method (map (finished ds cs) ds) ≡ true
-all_apart ds cs h fits none =
-    ap (no_two same_method) (front_words ds cs h)
-    ∙ differ_behind same_method methods_turn (back h.front []) h.front (map (finished ds cs) h.rest) h.apart (λ x there. λ f out. there f (none_in_back f h.front [] out).0)
-    (words_apart ds cs (back h.front []) h.rest (test_split (draft_fits (length cs)) ds h fits).1 h.new (sym (faults_behind ds cs h.front [] h.rest) ∙ sym (ap (words_faults ds cs []) h.are) ∙ none))
+pub all_apart : (ds : List Draft) (cs : List ClassDef) (front : List WordDef) (h : Fronted front ds) → DraftsFit (length cs) ds → words_faults ds cs [] ds ≡ [] → no_two same_method (map (finished ds cs) ds) ≡ true
+all_apart ds cs front h fits none =
+    ap (no_two same_method) (front_words ds cs front h)
+    ∙ differ_behind same_method methods_turn (back front []) front (map (finished ds cs) h.rest) h.apart (λ x there. λ f out. there f (none_in_back f front [] out).0)
+    (words_apart ds cs (back front []) h.rest (test_split (draft_fits (length cs)) ds front h fits).1 h.new (sym (faults_behind ds cs front [] h.rest) ∙ sym (ap (words_faults ds cs []) h.are) ∙ none))
