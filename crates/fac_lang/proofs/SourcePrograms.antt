@@ -9,11 +9,11 @@ use Rattle.fac_lang.specs.CoreWords.{core_word}
 use Rattle.fac_lang.specs.declared.core_table.CoreWord.{CoreWord}
 use Rattle.fac_lang.specs.declared.core_table.CoreWord.TheVariants.{Call, Dip, If, Execute, Boa, Cond}
 use Rattle.fac_lang.specs.Meaning.{sort_of, is_past}
-use Rattle.fac_lang.specs.Phrases.{int, yes, no, str, iota, wrd, arr, tup, Phrase, end, then, Item, lit, lit_arr, quot, word, bind, local, fry, hole, call_effect, execute_effect, next_method}
+use Rattle.fac_lang.specs.Phrases.{int, yes, no, str, wrd, Phrase, end, then, Item, lit, lit_arr, quot, word, bind, local, fry, hole, call_effect, execute_effect, next_method}
 use Rattle.fac_lang.specs.PrimitiveWords.{PrimitiveWord, written_effect}
 use Rattle.fac_lang.specs.Primitives.{Primitive, prim_numbered, primitive_word, built_primitives, built_count, is_built_primitive}
 use Rattle.fac_base.specs.Signatures.{Signature, signature, no_inputs, leaves}
-use Rattle.fac_lang.specs.Whole.{IsWhole, is_word, is_nameable, item_fits, item_spares, literal_fits, literal_spares, each_item, each_inner, each_numbered, word_phrases, quotations, joined, all_phrases, sort_fits, is_body, is_effect, effect_eq, effect_of, effect_written, has_written_effect, plain_effect, marks_fit}
+use Rattle.fac_lang.specs.Whole.{IsWhole, is_word, is_nameable, item_fits, item_spares, literal_fits, literal_spares, each_item, each_inner, each_numbered, word_phrases, quotations, joined, sort_fits, is_body, is_effect, effect_eq, effect_of, effect_written, has_written_effect, plain_effect, marks_fit}
 use Rattle.fac_lang.specs.declared.program.Lit.{Lit}
 use Rattle.fac_lang.specs.declared.program.Lit.TheVariants.{Int as l_int, True as l_yes, False as l_no, Str as l_str, Arr as l_arr, Wref as l_word, Quot as l_quot, Made as l_made}
 use Rattle.fac_lang.specs.declared.program.Program.{Program}

@@ -17,6 +17,7 @@ use Rattle.fac_locals.specs.Frames.{filled, template_phrase}
 use Rattle.fac_locals.specs.Literals.{Quoted, first_of_word, first_in_array, elements_phrase, array_or_none, array_phrase, literals, literal_places, literal_or, literal_numbered}
 use Rattle.fac_locals.specs.inner.Numbering.{phrase_of, method_of, plain_phrase}
 use Rattle.fac_locals.proofs.ArrayMethods.{by_words, by_arrays, words_split, arrays_split, no_naming, no_array_naming, naming_later, enough}
+use Rattle.fac_locals.proofs.ArrayNames.{with_phrase}
 use Rattle.fac_locals.proofs.ClosedPrograms.{named_once}
 use Rattle.fac_locals.proofs.LiteralArrays.{AreClosable, program_closable, array_closable, array_phrase_is, in_method, body_of}
 use Rattle.fac_locals.proofs.PlacedLiterals.{Placed, quoted_of, place_at, placed_in, array_placed, placed_words, program_placed, placed_literals, placed_places, phrase_same, arrays_same, found}
@@ -28,13 +29,10 @@ earlier_phrases : (n : ℕ) (ds : List WordDef) → word_phrases (with_earlier n
 earlier_phrases n [] = refl
 earlier_phrases zero (d ∷ ds) = by d.sort
   where
-    abbrev with_own : Sort → List Phrase
-    with_own s = elim s [ body t ↦ t ∷ word_phrases ds | past t ↦ t ∷ word_phrases ds | method c g t ↦ t ∷ word_phrases ds | _ ↦ word_phrases ds ]
-
-    by : (s : Sort) → with_own (as_earlier s) ≡ with_own s
+    by : (s : Sort) → with_phrase (as_earlier s) (word_phrases ds) ≡ with_phrase s (word_phrases ds)
     by (body t) = refl
     by _ = refl
-earlier_phrases (suc n) (d ∷ ds) = ap (λ (ts : List Phrase). elim d.sort [ body t ↦ t ∷ ts | past t ↦ t ∷ ts | method c g t ↦ t ∷ ts | _ ↦ ts ]) (earlier_phrases n ds)
+earlier_phrases (suc n) (d ∷ ds) = ap (with_phrase d.sort) (earlier_phrases n ds)
 
 -- the literals of words, of which one is an earlier phrase
 earlier_placed : (X : ℕ → Literal → Place → List Placed) (n w : ℕ) (ds : List WordDef) → placed_words X w (with_earlier n ds) ≡ placed_words X w ds

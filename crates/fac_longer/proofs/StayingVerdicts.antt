@@ -25,6 +25,7 @@ use Rattle.fac_check.specs.Flow.{Walked, found, refused, walked}
 use Rattle.fac_check.specs.Verdicts.{without, inline_body, inline_words, item_words, body_words, leads_back, undeclared, is_inline_body, bad_rows, bad_generic, broken_at, kept_word, end_of, ordinary_verdict, row_verdict, inline_verdict, body_verdict, top_verdict, phrase_verdict, sort_verdict, head_rules, ruled_verdict, word_verdict}
 use Rattle.fac_check.specs.inner.UndeclaredRecursion.{phrase_edges}
 use Rattle.fac_check.proofs.UndeclaredWords.{InlineWord, words_inline, edges, led_named, inline_edges_are, decides_word}
+use Rattle.fac_graph.proofs.NumberLists.{some_same}
 use Rattle.fac_graph.proofs.PathLemmas.{short_paths}
 use Rattle.fac_longer.specs.Longer.{GoesOn}
 use Rattle.fac_lang.specs.LongerPrograms.{as_earlier, with_earlier, IsLonger}
@@ -227,14 +228,21 @@ module _ (P Q : Program) (G : GoesOn P Q) where
   rows_stay : (w : ℕ) (d : WordDef) → nat_eq w P.top ≡ false → nat_eq w Q.top ≡ false → bad_rows Q w d ≡ bad_rows P w d
   rows_stay w d e f = ap (λ (x : Bool). elim d.sort [ past t ↦ false | _ ↦ not x && (has_rows d.effect && not (is_inline_body P d && bindable d.effect)) ]) (f ∙ sym e)
 
--- a rule that isn't broken, before others
-first_kept : (x : Bool) (r : Rule) (at : Place) (rest : Option Broken) → elim x [ true ↦ broken_at r at | false ↦ rest ] ≡ None → (x ≡ false) × (rest ≡ None)
-first_kept true r at rest h = absurd (cc)
-first_kept false r at rest h = (refl, h)
+-- the rules that need no walk, without the first, and without the first two
+abbrev later_rules : Program → ℕ → WordDef → List (Bool × Rule)
+later_rules R w d = (bad_rows R w d, RowDeclaration) ∷ (bad_generic d.sort d.effect, MethodEffect) ∷ []
 
-first_keeps : (x : Bool) (r : Rule) (at : Place) (rest : Option Broken) → x ≡ false → rest ≡ None → elim x [ true ↦ broken_at r at | false ↦ rest ] ≡ None
-first_keeps true r at rest e h = absurd (cc)
-first_keeps false r at rest e h = h
+abbrev last_rule : WordDef → List (Bool × Rule)
+last_rule d = (bad_generic d.sort d.effect, MethodEffect) ∷ []
+
+-- a rule that isn't broken, before others
+first_kept : (R : Program) (x : Bool) (r : Rule) (rs : List (Bool × Rule)) (m w : ℕ) (d : WordDef) → ruled_verdict R ((x, r) ∷ rs) m w d ≡ None → (x ≡ false) × (ruled_verdict R rs m w d ≡ None)
+first_kept R true r rs m w d h = absurd (cc)
+first_kept R false r rs m w d h = (refl, h)
+
+first_keeps : (R : Program) (x : Bool) (r : Rule) (rs : List (Bool × Rule)) (n w : ℕ) (d : WordDef) → x ≡ false → ruled_verdict R rs n w d ≡ None → ruled_verdict R ((x, r) ∷ rs) n w d ≡ None
+first_keeps R true r rs n w d e h = absurd (cc)
+first_keeps R false r rs n w d e h = h
 
 -- an earlier phrase is accepted
 past_accepted : (R : Program) (n w : ℕ) (c : WordDef) (t : Phrase) → c.sort ≡ past t → word_verdict R n w c ≡ None
@@ -243,7 +251,8 @@ past_accepted R n w c t is =
     let rows : bad_rows R w c ≡ false = ap (λ (s : Sort). elim s [ past u ↦ false | _ ↦ not (nat_eq w R.top) && (has_rows c.effect && not (elim s [ body u ↦ c.inline | _ ↦ false ] && bindable c.effect)) ]) is in
     let generics : bad_generic c.sort c.effect ≡ false = ap (λ (s : Sort). bad_generic s c.effect) is in
     let walk : sort_verdict R n w c c.sort ≡ None = ap (sort_verdict R n w c) is in
-    first_keeps (undeclared R w c) UndeclaredRecursion c.place _ none (first_keeps (bad_rows R w c) RowDeclaration c.place _ rows (first_keeps (bad_generic c.sort c.effect) MethodEffect c.place _ generics walk))
+    first_keeps R (undeclared R w c) UndeclaredRecursion (later_rules R w c) n w c none
+    (first_keeps R (bad_rows R w c) RowDeclaration (last_rule c) n w c rows (first_keeps R (bad_generic c.sort c.effect) MethodEffect [] n w c generics walk))
 
 earlier_at : (n : ℕ) (ds more : List WordDef) (d : WordDef) → slice_get ds n ≡ Some d →
     slice_get (with_earlier n ds ++ more) n ≡ Some (record { name = d.name; sort = as_earlier d.sort; effect = d.effect; inline = d.inline; recursive = d.recursive; place = d.place })
@@ -260,15 +269,15 @@ verdicts_stay P Q p q F G m n w d c at there h = by (nat_eq w P.top) refl
         let phrase = G.phrase w d at e in
         let earlier : WordDef = record { name = d.name; sort = as_earlier d.sort; effect = d.effect; inline = d.inline; recursive = d.recursive; place = d.place } in
         let found : slice_get Q.words w ≡ Some earlier = ap (λ (ds : List WordDef). slice_get ds w) F.words_are ∙ subst (λ (k : ℕ). slice_get (with_earlier k P.words ++ F.more_words) w ≡ Some earlier) same (earlier_at w P.words F.more_words d at) in
-        let is : c ≡ earlier = cc in
+        let is : c ≡ earlier = some_same c earlier (sym there ∙ found) in
         past_accepted Q n w c phrase.0 (ap (λ (x : WordDef). x.sort) is ∙ ap as_earlier phrase.1)
     by false e =
         let over = G.below w d at in
-        let is : c ≡ d = let one = G.words w d at e in cc in
-        let first = first_kept (undeclared P w d) UndeclaredRecursion d.place _ h in
-        let second = first_kept (bad_rows P w d) RowDeclaration d.place _ first.1 in
-        let third = first_kept (bad_generic d.sort d.effect) MethodEffect d.place _ second.1 in
+        let is : c ≡ d = some_same c d (sym there ∙ G.words w d at e) in
+        let first = first_kept P (undeclared P w d) UndeclaredRecursion (later_rules P w d) m w d h in
+        let second = first_kept P (bad_rows P w d) RowDeclaration (last_rule d) m w d first.1 in
+        let third = first_kept P (bad_generic d.sort d.effect) MethodEffect [] m w d second.1 in
         subst (λ (x : WordDef). word_verdict Q n w x ≡ None) (sym is)
-        (first_keeps (undeclared Q w d) UndeclaredRecursion d.place _ (undeclared_stays P Q p G w d at e first.0)
-        (first_keeps (bad_rows Q w d) RowDeclaration d.place _ (rows_stay P Q G w d e over ∙ second.0)
-        (first_keeps (bad_generic d.sort d.effect) MethodEffect d.place _ third.0 (sort_stays P Q G m n w d d.sort e over third.1))))
+        (first_keeps Q (undeclared Q w d) UndeclaredRecursion (later_rules Q w d) n w d (undeclared_stays P Q p G w d at e first.0)
+        (first_keeps Q (bad_rows Q w d) RowDeclaration (last_rule d) n w d (rows_stay P Q G w d e over ∙ second.0)
+        (first_keeps Q (bad_generic d.sort d.effect) MethodEffect [] n w d third.0 (sort_stays P Q G m n w d d.sort e over third.1))))

@@ -1,7 +1,7 @@
-use Rattle.std.proofs.Common.{◌≡◌, ◌+◌, ◌∷◌, ◌++◌, [], List, reverse, take, sym, ap, ◌∙◌, arith}
+use Rattle.std.proofs.Common.{◌+◌, reverse, take, sym, ap, ◌∙◌, arith}
 use denote.Param.Weighed.{at_most}
-use Rattle.fac_lang.specs.Phrases.{Phrase, end, phrase_depth}
-use Rattle.fac_locals.proofs.AskLemmas.{one_behind, last_in_depth, all_behind_asks, all_behind_inside, asks_alone, none_chosen, one_chosen, next_chosen, all_chosen_asks, all_chosen_inside, inner_depth, outermost_depth}
+use Rattle.fac_lang.specs.Phrases.{Phrase, phrase_depth}
+use Rattle.fac_locals.proofs.AskLemmas.{one_behind, last_in_depth, asks_alone, one_chosen, next_chosen, all_chosen_inside, inner_depth, outermost_depth}
 use Rattle.fac_locals.proofs.asking.+asking.Goals as goal
 
 pub ask_before-ask_item-requires : goal.ask_before-ask_item-requires
