@@ -1,25 +1,25 @@
 -- The literals of a program are the first ones of a longer program.
-use Rattle.std.proofs.Common.{◌≡◌, ◌<◌, ◌≤◌, ℕ, zero, suc, ◌+◌, List, [], ◌∷◌, ◌++◌, length, Bool, true, false, Option, Some, None, refl, sym, ap, ◌∙◌, subst, append_assoc, length-append, arith}
+use Rattle.std.proofs.Common.{◌≡◌, ◌<◌, ℕ, zero, suc, ◌+◌, List, [], ◌∷◌, ◌++◌, length, true, false, Option, Some, None, refl, sym, ap, ◌∙◌, append_assoc, length-append, arith}
 use Rattle.std.specs.Prelude.{map, slice_get}
 use Rattle.std.proofs.lemmas.List.{map-append}
 use Rattle.fac_base.specs.declared.place.Place.{Place}
 use Rattle.fac_lang.specs.declared.program.Lit.{Lit}
 use Rattle.fac_lang.specs.declared.program.Program.{Program}
 use Rattle.fac_lang.specs.declared.program.Sort.{Sort}
-use Rattle.fac_lang.specs.declared.program.Sort.TheVariants.{Prim as prim, Core as core, Body as body, Past as past, Itself as itself, Class as class, Isa as isa, Getter as getter, Setter as setter, Putter as putter, Generic as generic, Method as method}
+use Rattle.fac_lang.specs.declared.program.Sort.TheVariants.{Body as body, Method as method}
 use Rattle.fac_lang.specs.declared.program.WordDef.{WordDef}
-use Rattle.fac_lang.specs.Phrases.{Phrase, Item, Literal}
+use Rattle.fac_lang.specs.Phrases.{Phrase, Literal}
 use Rattle.fac_lang.specs.Meaning.{phrase_names, literals_name, method_naming, array_naming, array_method}
 use Rattle.fac_lang.specs.Whole.{IsWhole, word_phrases, arrays_named, times_in, joined}
 use Rattle.fac_lang.proofs.SourcePrograms.{IsSessionProgram, session_of_whole}
 use Rattle.fac_locals.specs.Cells.{inner_cells, inner_phrase}
-use Rattle.fac_locals.specs.Frames.{filled, template_phrase}
-use Rattle.fac_locals.specs.Literals.{Quoted, first_of_word, first_in_array, elements_phrase, array_or_none, array_phrase, literals, literal_places, literal_or, literal_numbered}
+use Rattle.fac_locals.specs.Frames.{filled}
+use Rattle.fac_locals.specs.Literals.{Quoted, first_of_word, first_in_array, elements_phrase, array_or_none, array_phrase, literals, literal_or, literal_numbered}
 use Rattle.fac_locals.specs.inner.Numbering.{phrase_of, method_of, plain_phrase}
 use Rattle.fac_locals.proofs.ArrayMethods.{by_words, by_arrays, words_split, arrays_split, no_naming, no_array_naming, naming_later, enough}
 use Rattle.fac_locals.proofs.ArrayNames.{with_phrase}
 use Rattle.fac_locals.proofs.ClosedPrograms.{named_once}
-use Rattle.fac_locals.proofs.LiteralArrays.{AreClosable, program_closable, array_closable, array_phrase_is, in_method, body_of}
+use Rattle.fac_locals.proofs.LiteralArrays.{AreClosable, program_closable, array_closable, array_phrase_is, body_of}
 use Rattle.fac_locals.proofs.PlacedLiterals.{Placed, quoted_of, place_at, placed_in, array_placed, placed_words, program_placed, placed_literals, placed_places, phrase_same, arrays_same, found}
 use Rattle.fac_lang.specs.LongerPrograms.{as_earlier, with_earlier, IsLonger}
 use Rattle.fac_longer.specs.Laws.{LiteralsStay, PlacesStay, TemplatesStay}
@@ -61,12 +61,12 @@ by_both_words a (d ∷ ds) es =
     let rest = by_both_words a ds es in
     omega (arith, all, own, rest)
 
-by_both_arrays : (a : ℕ) (lss mss : List (List Lit)) → by_arrays a (lss ++ mss) ≡ by_arrays a lss + by_arrays a mss
-by_both_arrays a [] mss = omega arith
-by_both_arrays a (ls ∷ lss) mss =
-    let all = arrays_split a ls (lss ++ mss) in
-    let own = arrays_split a ls lss in
-    let rest = by_both_arrays a lss mss in
+by_both_arrays : (P : Program) (a : ℕ) (lss mss : List (List Lit)) → by_arrays a (lss ++ mss) ≡ by_arrays a lss + by_arrays a mss
+by_both_arrays P a [] mss = omega arith
+by_both_arrays P a (ls ∷ lss) mss =
+    let all = arrays_split P a ls (lss ++ mss) in
+    let own = arrays_split P a ls lss in
+    let rest = by_both_arrays P a lss mss in
     omega (arith, all, own, rest)
 
 front_there : {A : Type 0} (xs ys : List A) (k : ℕ) → k < length xs → slice_get (xs ++ ys) k ≡ slice_get xs k
@@ -113,7 +113,7 @@ module _ (P Q : Program) (p : IsWhole P) (q : IsWhole Q) (F : IsLonger P Q) wher
       ∙ ap (λ (ts : List Phrase). times_in a (joined (map arrays_named ts)) + by_words a F.more_words) (earlier_phrases P.top P.words)
 
   arrays_count : (a : ℕ) → by_arrays a Q.arrays ≡ by_arrays a P.arrays + by_arrays a F.more_arrays
-  arrays_count a = ap (by_arrays a) F.arrays_are ∙ by_both_arrays a P.arrays F.more_arrays
+  arrays_count a = ap (by_arrays a) F.arrays_are ∙ by_both_arrays P a P.arrays F.more_arrays
 
   no_more : (a : ℕ) → a < length P.arrays → (by_words a F.more_words ≡ 0) × (by_arrays a F.more_arrays ≡ 0)
   no_more a lt =

@@ -1,6 +1,6 @@
 -- What was accepted stays accepted.
-use Rattle.std.proofs.Common.{◌≡◌, ◌<◌, ℕ, zero, suc, List, [], ◌∷◌, ◌++◌, length, Bool, true, false, not, ◌&&◌, ◌||◌, Option, Some, None, refl, sym, ap, ◌∙◌, subst, true≢false, arith}
-use Rattle.std.specs.Prelude.{◌↔◌, nat_eq, nat_lt, slice_get}
+use Rattle.std.proofs.Common.{◌≡◌, ◌<◌, ℕ, zero, suc, List, [], ◌∷◌, ◌++◌, length, Bool, true, false, not, ◌&&◌, Option, Some, None, refl, sym, ap, ◌∙◌, subst, true≢false, arith}
+use Rattle.std.specs.Prelude.{◌↔◌, nat_eq, slice_get}
 use Rattle.std.proofs.lemmas.Bool.{false_from_ne_true}
 use Rattle.fac_base.specs.declared.place.Place.{Place}
 use Rattle.fac_base.specs.Effects.{inputs_count}
@@ -22,13 +22,13 @@ use Rattle.fac_rows.specs.RowBinding.{inputs_marks}
 use Rattle.fac_graph.specs.Paths.{IsOneOf, successors, LeadsTo, by_edge, and_edge, leads_within}
 use Rattle.fac_check.specs.declared.refusal.Broken.{Broken}
 use Rattle.fac_check.specs.Flow.{Walked, found, refused, walked}
-use Rattle.fac_check.specs.Verdicts.{without, inline_body, inline_words, item_words, body_words, leads_back, undeclared, is_inline_body, bad_rows, bad_generic, broken_at, kept_word, end_of, ordinary_verdict, row_verdict, inline_verdict, body_verdict, top_verdict, phrase_verdict, sort_verdict, head_rules, ruled_verdict, word_verdict}
+use Rattle.fac_check.specs.Verdicts.{without, inline_body, inline_words, item_words, body_words, leads_back, undeclared, is_inline_body, bad_rows, bad_generic, kept_word, end_of, ordinary_verdict, row_verdict, inline_verdict, body_verdict, phrase_verdict, sort_verdict, ruled_verdict, word_verdict}
 use Rattle.fac_check.specs.inner.UndeclaredRecursion.{phrase_edges}
 use Rattle.fac_check.proofs.UndeclaredWords.{InlineWord, words_inline, edges, led_named, inline_edges_are, decides_word}
 use Rattle.fac_graph.proofs.NumberLists.{some_same}
 use Rattle.fac_graph.proofs.PathLemmas.{short_paths}
 use Rattle.fac_longer.specs.Longer.{GoesOn}
-use Rattle.fac_lang.specs.LongerPrograms.{as_earlier, with_earlier, IsLonger}
+use Rattle.fac_lang.specs.LongerPrograms.{as_earlier, with_earlier}
 use Rattle.fac_longer.specs.Laws.{VerdictsStay}
 use Rattle.fac_longer.proofs.Staying.{found_stays}
 
@@ -113,6 +113,7 @@ module _ (P Q : Program) (p : IsWhole P) (G : GoesOn P Q) where
       subst (IsSortOf (may_name P) f.def) f.sort_is (subst (λ (d : WordDef). IsSortOf (may_name P) d d.sort) same there.from_source)
 
   successors_same : (w : ℕ) → InlineWord P w → successors (edges Q) w ≡ successors (edges P) w
+  unfolding inline_in
   successors_same w f = inline_edges_are Q w (inline_in w f) ∙ edges_same w f.def.recursive f.phrase (words_same f.phrase (phrase_from w f)) ∙ sym (inline_edges_are P w f)
 
   -- what a word leads to is inline
@@ -248,7 +249,7 @@ first_keeps R false r rs n w d e h = h
 past_accepted : (R : Program) (n w : ℕ) (c : WordDef) (t : Phrase) → c.sort ≡ past t → word_verdict R n w c ≡ None
 past_accepted R n w c t is =
     let none : undeclared R w c ≡ false = ap (λ (s : Sort). elim s [ body u ↦ c.inline && leads_back R w c.recursive u | _ ↦ false ]) is in
-    let rows : bad_rows R w c ≡ false = ap (λ (s : Sort). elim s [ past u ↦ false | _ ↦ not (nat_eq w R.top) && (has_rows c.effect && not (elim s [ body u ↦ c.inline | _ ↦ false ] && bindable c.effect)) ]) is in
+    let rows : bad_rows R w c ≡ false = ap (λ (s : Sort). elim s [ past u ↦ false | _ ↦ not (nat_eq w R.top) && (has_rows c.effect && not (is_inline_body R c && bindable c.effect)) ]) is in
     let generics : bad_generic c.sort c.effect ≡ false = ap (λ (s : Sort). bad_generic s c.effect) is in
     let walk : sort_verdict R n w c c.sort ≡ None = ap (sort_verdict R n w c) is in
     first_keeps R (undeclared R w c) UndeclaredRecursion (later_rules R w c) n w c none
