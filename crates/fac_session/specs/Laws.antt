@@ -1,11 +1,8 @@
 -- Laws of sessions.
-use Rattle.std.specs.Prelude.{◌≡◌, ℕ, List, [], Ok}
+use Rattle.std.specs.Prelude.{◌≡◌, ℕ, List, []}
 use Rattle.fac_base.specs.declared.limits.TheConstants.{TICKS}
-use Rattle.fac_source.specs.declared.tree.Form.{Form}
-use Rattle.fac_parse.specs.Trees.{IsWellFormed}
-use Rattle.fac_names.specs.KnownPrograms.{IsKnown}
-use Rattle.fac_notes.specs.Sources.{Source, tree}
-use Rattle.fac_session.specs.Sessions.{Session, session_of}
+use Rattle.fac_notes.specs.Sources.{Source}
+use Rattle.fac_session.specs.Sessions.{Session}
 use Rattle.fac_session.specs.SessionLines.{Said, more, defined, ran, refused, failed, spent, Behind, behind_waiting, with_waiting, line}
 
 -- a line of which nothing runs: the session behind it is this one, nothing was written, and nothing was taken of the input
@@ -31,15 +28,3 @@ StandsBehind s text input b (spent n) = HasStack s b × (n ≡ TICKS)
 -- A text that waits or is refused changes nothing else, and a phrase that fails or spends its budget leaves the stack as it was.
 abbrev pub LinesKeepWhatStands : Type 0
 LinesKeepWhatStands = (source : List ℕ → Source) (s : Session) (bytes input : List ℕ) → StandsBehind s (behind_waiting s.waiting bytes) input (line source s bytes input) (line source s bytes input).said
-
--- a way from texts to what they come to, where a tree is a well-formed one
-abbrev pub FindsTrees : (List ℕ → Source) → Type 0
-FindsTrees source = (text : List ℕ) (forms : List Form) → source text ≡ tree forms → IsWellFormed forms
-
--- What is known behind a line belongs together where what was known before it did.
-abbrev pub LinesStayKnown : Type 0
-LinesStayKnown = (source : List ℕ → Source) (s : Session) (bytes input : List ℕ) → FindsTrees source → IsKnown s.known → IsKnown (line source s bytes input).session.known
-
--- It does before the first line.
-abbrev pub SessionsAreKnown : Type 0
-SessionsAreKnown = (forms : List Form) (s : Session) → IsWellFormed forms → session_of (tree forms) ≡ Ok s → IsKnown s.known

@@ -4,4 +4,4 @@
 
 mod laws;
 
-pub use laws::{lines_keep_what_stands, lines_stay_known, sessions_are_known};
+pub use laws::lines_keep_what_stands;
