@@ -1,12 +1,12 @@
 -- The classes of a program of which the end refuses nothing.
-use Rattle.std.proofs.Common.{◌≡◌, ◌≤◌, ◌+◌, ℕ, zero, suc, List, [], ◌∷◌, ◌++◌, map, length, slice_get, Option, Some, None, Bool, true, false, refl, ap, sym, ◌∙◌, subst, arith}
+use Rattle.std.proofs.Common.{◌≡◌, ◌<◌, ◌≤◌, ◌+◌, ◌⊎◌, inl, inr, ℕ, zero, suc, List, [], ◌∷◌, ◌++◌, map, length, slice_get, Option, Some, None, Bool, true, false, refl, ap, sym, ◌∙◌, subst, arith, length-append}
 use Rattle.std.specs.Prelude.{◌&&◌, nat_eq, nat_le, nat_lt, not, ◌||◌, if◌then◌else◌}
 use Rattle.std.specs.List.{list_all, list_any}
 use Rattle.std.specs.Option.{option_map}
 use Rattle.std.specs.Str.{bytes_eq}
 use Rattle.std.proofs.lemmas.List.{length-map}
 use Rattle.std.proofs.lemmas.List.Folds.{list_all-append}
-use Rattle.fac_lang.specs.Classes.{shape_at}
+use Rattle.fac_lang.specs.Classes.{is_tuple, shape_at}
 use Rattle.fac_lang.specs.Whole.{parts_of, reaches, shape_fits}
 use Rattle.fac_lang.specs.declared.program.ClassDef.{ClassDef}
 use Rattle.fac_lang.specs.declared.program.Program.{Program}
@@ -31,7 +31,8 @@ use Rattle.fac_endings.specs.ClassTable.{and_class, class_at, class_of, class_of
 use Rattle.fac_endings.specs.LastRefusals.{class_faults, named_faults, slot_faults, tuple_faults}
 use Rattle.fac_endings.proofs.Apart.{AreApart, all_at, and_true, true_both}
 use Rattle.fac_endings.proofs.CycleLemmas.{none_reaches}
-use Rattle.fac_endings.proofs.SlotChains.{AreAcyclic, SlotsTested}
+use Rattle.fac_endings.proofs.EarlierClasses.{AreSettled, DoSlotsStand, ends_behind, shape_front, slots_stand, tuple_below}
+use Rattle.fac_endings.proofs.SlotChains.{AreAcyclic, AreSlotsSound, SlotsTested}
 
 -- Refusals that aren't there.
 
@@ -66,9 +67,17 @@ slots_clear earlier (t ∷ ts) h =
 abbrev pub class_in : ℕ → Sort → Bool
 class_in n (class c) = nat_lt c n
 class_in n (isa c) = nat_lt c n
-class_in n (past t) = false
-class_in n (method c g t) = false
+class_in n (method c g t) = nat_lt c n
 class_in n _ = true
+
+-- what no form of a text makes: only earlier texts have an earlier top-level phrase, and methods of which nothing is late
+abbrev pub is_new_sort : Sort → Bool
+is_new_sort (past t) = false
+is_new_sort (method c g t) = false
+is_new_sort _ = true
+
+abbrev pub is_new : Draft → Bool
+is_new d = is_new_sort d.word.sort
 
 abbrev pub late_in : Sort → Late → Bool
 late_in s settled = true
@@ -151,32 +160,15 @@ class_there ds [] new c = one (slice_get new c) refl
 class_there ds (x ∷ old) new zero = before x refl
 class_there ds (x ∷ old) new (suc c) = later ds x old new c (shape_at (old ++ map (class_of ds) new) c) (class_there ds old new c)
 
--- The classes that there were before are built-in ones, and the slots of each form are few.
-
-abbrev pub is_kind : Shape → Bool
-is_kind (built_in j) = nat_lt j 12
-is_kind _ = false
+-- The classes that there were before are settled, and the slots of each form are few.
 
 abbrev pub own_few : Named → Bool
 own_few (a_tuple parent slots) = nat_le (length slots) 64
 own_few _ = true
 
 pub record AreFew (old : List ClassDef) (new : List NewClass) : Type 0 where
-  pub kinds : list_all (λ (d : ClassDef). is_kind d.shape) old ≡ true
+  pub settled : AreSettled old
   pub slots : list_all (λ (d : NewClass). own_few d.names) new ≡ true
-
-kind_ends : (n : ℕ) (cs : List ClassDef) (c d : ℕ) (s : Shape) → is_kind s ≡ true → shape_at cs d ≡ Some s → reaches n cs c d ≡ false
-kind_ends zero cs c d s h is = refl
-kind_ends (suc n) cs c d (built_in j) h is = ap (λ (o : Option Shape). list_any (λ e. nat_eq c e || reaches n cs c e) (parts_of o)) is
-kind_ends (suc n) cs c d (tuple_class p slots) h is = absurd (cc)
-kind_ends (suc n) cs c d (union ms) h is = absurd (cc)
-kind_ends (suc n) cs c d single h is = absurd (cc)
-
-kind_tested : (cs : List ClassDef) (c : ℕ) (s : Shape) → is_kind s ≡ true → SlotsTested cs c (Some s)
-kind_tested cs c (built_in j) h = tt
-kind_tested cs c (tuple_class p slots) h = absurd (cc)
-kind_tested cs c (union ms) h = absurd (cc)
-kind_tested cs c single h = absurd (cc)
 
 is_few : (a : ℕ) → nat_le a 64 ≡ true → a ≤ 64
 is_few a h = grind arith
@@ -233,37 +225,34 @@ named_fits ds P c a_single fits h = refl
 
 pub record ClassesTested (cs : List ClassDef) : Type 0 where
   pub ends : AreAcyclic cs
-  pub slots : (c : ℕ) → SlotsTested cs c (shape_at cs c)
+  pub slots : (c : ℕ) → AreSlotsSound cs c
 
-at_end : (ds : List Draft) (cs : List ClassDef) (old : List ClassDef) (new : List NewClass) (c : ℕ) (o : Option Shape) → AreFew old new → class_faults ds cs (length old) new ≡ [] → shape_at cs c ≡ o → ClassAt ds old new c o →
-    (reaches (length cs) cs c c ≡ false) × SlotsTested cs c o
-at_end ds cs old new c None few h is nowhere = (none_reaches (length cs) cs c c is, tt)
-at_end ds cs old new c (Some s) few h is (before d there) =
-    let kind = all_at (λ (d : ClassDef). is_kind d.shape) old c d few.kinds there in
-    (kind_ends (length cs) cs c c d.shape kind is, kind_tested cs c d.shape kind)
-at_end ds cs old new c (Some s) few h is (of_form i d number there) =
+class_low : (cs : List ClassDef) (c : ℕ) (d : ClassDef) → slice_get cs c ≡ Some d → c < length cs
+class_low [] c d h = absurd (cc)
+class_low (x ∷ cs) zero d h = omega arith
+class_low (x ∷ cs) (suc c) d h = let rest = class_low cs c d h in omega (arith, rest)
+
+at_end : (ds : List Draft) (cs : List ClassDef) (old : List ClassDef) (new : List NewClass) (c : ℕ) (o : Option Shape) → AreFew old new → cs ≡ old ++ map (class_of ds) new → class_faults ds cs (length old) new ≡ [] → shape_at cs c ≡ o → ClassAt ds old new c o →
+    (reaches (length cs) cs c c ≡ false) × (SlotsTested cs c o ⊎ DoSlotsStand cs c)
+at_end ds cs old new c None few all h is nowhere = (none_reaches (length cs) cs c c is, inl tt)
+at_end ds cs old new c (Some s) few all h is (before d there) =
+    let low = class_low old c d there in
+    let more_classes = map (class_of ds) new in
+    (subst (λ (xs : List ClassDef). reaches (length cs) xs c c ≡ false) (sym all) (ends_behind (length cs) old more_classes c few.settled low), inr (subst (λ (xs : List ClassDef). DoSlotsStand xs c) (sym all) (slots_stand old more_classes c few.settled low)))
+at_end ds cs old new c (Some s) few all h is (of_form i d number there) =
     let clear = class_clear ds cs new (length old) i d h there in
     let own = all_at (λ (d : NewClass). own_few d.names) new i d few.slots there in
-    (subst (λ (m : ℕ). reaches (length cs) cs m m ≡ false) (sym number) clear.ends, subst (λ (m : ℕ). SlotsTested cs m (Some (shape_named ds d.names))) (sym number) (named_tested ds cs (length old + i) d.names own clear.named))
+    (subst (λ (m : ℕ). reaches (length cs) cs m m ≡ false) (sym number) clear.ends, inl (subst (λ (m : ℕ). SlotsTested cs m (Some (shape_named ds d.names))) (sym number) (named_tested ds cs (length old + i) d.names own clear.named)))
 
 pub classes_tested : (ds : List Draft) (old : List ClassDef) (new : List NewClass) → AreFew old new → class_faults ds (old ++ map (class_of ds) new) (length old) new ≡ [] → ClassesTested (old ++ map (class_of ds) new)
 classes_tested ds old new few h =
     let cs = old ++ map (class_of ds) new in
-    record { ends = λ c. (at_end ds cs old new c (shape_at cs c) few h refl (class_there ds old new c)).0; slots = λ c. (at_end ds cs old new c (shape_at cs c) few h refl (class_there ds old new c)).1 }
+    record { ends = λ c. (at_end ds cs old new c (shape_at cs c) few refl h refl (class_there ds old new c)).0; slots = λ c. (at_end ds cs old new c (shape_at cs c) few refl h refl (class_there ds old new c)).1 }
 
 -- Shapes.
 
-kinds_fit : (P : Program) (old : List ClassDef) → list_all (λ (d : ClassDef). is_kind d.shape) old ≡ true → list_all (λ (d : ClassDef). shape_fits P d.shape) old ≡ true
-kinds_fit P [] h = refl
-kinds_fit P (d ∷ old) h =
-    let both = true_both (is_kind d.shape) (list_all (λ (d : ClassDef). is_kind d.shape) old) h in
-    and_true (shape_fits P d.shape) (list_all (λ (d : ClassDef). shape_fits P d.shape) old) (one d.shape both.0) (kinds_fit P old both.1)
-  where
-    one : (s : Shape) → is_kind s ≡ true → shape_fits P s ≡ true
-    one (built_in j) k = k
-    one (tuple_class p slots) k = absurd (cc)
-    one (union ms) k = absurd (cc)
-    one single k = absurd (cc)
+tuples_stay : (cs old more_classes : List ClassDef) (c : ℕ) → cs ≡ old ++ more_classes → is_tuple (shape_at old c) ≡ true → is_tuple (shape_at cs c) ≡ true
+tuples_stay cs old more_classes c is h = ap (λ (xs : List ClassDef). is_tuple (shape_at xs c)) is ∙ ap is_tuple (shape_front old more_classes c (tuple_below old c h)) ∙ h
 
 new_fit : (ds : List Draft) (P : Program) (new : List NewClass) (k : ℕ) → DraftsFit (length P.classes) ds → class_faults ds P.classes k new ≡ [] → list_all (λ (d : ClassDef). shape_fits P d.shape) (map (class_of ds) new) ≡ true
 new_fit ds P [] k fits h = refl
@@ -277,4 +266,4 @@ pub shapes_fit : (ds : List Draft) (P : Program) (old : List ClassDef) (new : Li
 shapes_fit ds P old new is few fits h =
     ap (list_all (λ (d : ClassDef). shape_fits P d.shape)) is
     ∙ list_all-append (λ (d : ClassDef). shape_fits P d.shape) old (map (class_of ds) new)
-    ∙ and_true (list_all (λ (d : ClassDef). shape_fits P d.shape) old) (list_all (λ (d : ClassDef). shape_fits P d.shape) (map (class_of ds) new)) (kinds_fit P old few.kinds) (new_fit ds P new (length old) fits h)
+    ∙ and_true (list_all (λ (d : ClassDef). shape_fits P d.shape) old) (list_all (λ (d : ClassDef). shape_fits P d.shape) (map (class_of ds) new)) (few.settled.fit P (let count = ap length is ∙ length-append old (map (class_of ds) new) in omega (arith, count)) (λ c there. tuples_stay P.classes old (map (class_of ds) new) c is there)) (new_fit ds P new (length old) fits h)

@@ -23,7 +23,7 @@ use Rattle.fac_endings.specs.ClassTable.{class_at, is_tuple_class, word_at, word
 use Rattle.fac_endings.specs.FinishedWords.{as_method, effect_of_word, finished, maker_effect, with_maker}
 use Rattle.fac_endings.specs.LastRefusals.{class_fault, is_generic_sort, is_generic_word, late_faults, words_faults}
 use Rattle.fac_endings.proofs.Apart.{AreApart, all_at, none_passes, true_both}
-use Rattle.fac_endings.proofs.EndedClasses.{DraftsFit, class_below, class_in, draft_fits, late_in, no_faults, not_false, not_refused}
+use Rattle.fac_endings.proofs.EndedClasses.{DraftsFit, class_below, class_in, draft_fits, is_new, is_new_sort, late_in, no_faults, not_false, not_refused}
 
 -- What a word is at the end: as it was told, or with an effect that the end gives it, or a method.
 pub data FinishOf (ds : List Draft) (n : ℕ) (w : WordDef) : Late → WordDef → Type 0 where
@@ -31,9 +31,9 @@ pub data FinishOf (ds : List Draft) (n : ℕ) (w : WordDef) : Late → WordDef �
   makes : (r : Ref) (t : Phrase) (e : Signature) → w.sort ≡ body t → name_count e ≤ 65 → FinishOf ds n w (maker r) (record w { effect = e })
   methods : (x y : Ref) (t : Phrase) (c g : ℕ) (d : Draft) → w.sort ≡ body t → nat_lt c n ≡ true → slice_get ds g ≡ Some d → d.word.sort ≡ generic → FinishOf ds n w (method_of x y) (record w { sort = method c g t; effect = d.word.effect })
 
-no_method : (w : WordDef) (s : Sort) (n : ℕ) → w.sort ≡ s → class_in n s ≡ true → (e : WordDef) → same_method w e ≡ false
-no_method w (method c g t) n is h e = absurd (cc)
-no_method w s n is h e = rw is refl
+pub no_method : (w : WordDef) (s : Sort) → w.sort ≡ s → is_new_sort s ≡ true → (e : WordDef) → same_method w e ≡ false
+no_method w (method c g t) is h e = absurd (cc)
+no_method w s is h e = rw is refl
 
 inputs_counted : (xs : List (List ℕ)) → inputs_name_count (plain_inputs xs) ≡ length xs
 inputs_counted [] = refl
@@ -145,24 +145,25 @@ finishes_of ds cs earlier (x ∷ xs) fits few fit h =
 
 -- No method twice.
 
-late_apart : (ds : List Draft) (cs : List ClassDef) (earlier : List WordDef) (w : WordDef) (l : Late) → class_in (length cs) w.sort ≡ true → late_in w.sort l ≡ true → (let done = finished ds cs (record { word = w; late = l }) in late_faults ds cs (list_any (same_method done) earlier) w l ≡ []) →
+late_apart : (ds : List Draft) (cs : List ClassDef) (earlier : List WordDef) (w : WordDef) (l : Late) → is_new_sort w.sort ≡ true → late_in w.sort l ≡ true → (let done = finished ds cs (record { word = w; late = l }) in late_faults ds cs (list_any (same_method done) earlier) w l ≡ []) →
     list_any (same_method (finished ds cs (record { word = w; late = l }))) earlier ≡ false
-late_apart ds cs earlier w settled in_class late h = none_passes (same_method w) (no_method w w.sort (length cs) refl in_class) earlier
-late_apart ds cs earlier w deferred in_class late h = absurd (cc)
-late_apart ds cs earlier w (maker r) in_class late h = one (class_at ds r)
+late_apart ds cs earlier w settled new late h = none_passes (same_method w) (no_method w w.sort refl new) earlier
+late_apart ds cs earlier w deferred new late h = absurd (cc)
+late_apart ds cs earlier w (maker r) new late h = one (class_at ds r)
   where
     one : (o : Option ℕ) → list_any (same_method (with_maker cs r o w)) earlier ≡ false
-    one None = none_passes (same_method w) (no_method w w.sort (length cs) refl in_class) earlier
-    one (Some c) = none_passes (same_method (record w { effect = maker_effect cs r c })) (no_method (record w { effect = maker_effect cs r c }) w.sort (length cs) refl in_class) earlier
-late_apart ds cs earlier w (method_of c g) in_class late h = (method_clear ds cs (list_any (same_method (finished ds cs (record { word = w; late = method_of c g }))) earlier) w c g h).first
+    one None = none_passes (same_method w) (no_method w w.sort refl new) earlier
+    one (Some c) = none_passes (same_method (record w { effect = maker_effect cs r c })) (no_method (record w { effect = maker_effect cs r c }) w.sort refl new) earlier
+late_apart ds cs earlier w (method_of c g) new late h = (method_clear ds cs (list_any (same_method (finished ds cs (record { word = w; late = method_of c g }))) earlier) w c g h).first
 
-pub words_apart : (ds : List Draft) (cs : List ClassDef) (earlier : List WordDef) (xs : List Draft) → DraftsFit (length cs) xs → words_faults ds cs earlier xs ≡ [] → AreApart same_method earlier (map (finished ds cs) xs)
-words_apart ds cs earlier [] fit h = tt
-words_apart ds cs earlier (x ∷ xs) fit h =
+pub words_apart : (ds : List Draft) (cs : List ClassDef) (earlier : List WordDef) (xs : List Draft) → DraftsFit (length cs) xs → list_all is_new xs ≡ true → words_faults ds cs earlier xs ≡ [] → AreApart same_method earlier (map (finished ds cs) xs)
+words_apart ds cs earlier [] fit new h = tt
+words_apart ds cs earlier (x ∷ xs) fit new h =
     let here = true_both (draft_fits (length cs) x) (list_all (draft_fits (length cs)) xs) fit in
     let parts = true_both (class_in (length cs) x.word.sort) (late_in x.word.sort x.late) here.0 in
+    let fresh = true_both (is_new x) (list_all is_new xs) new in
     let both = no_faults (late_faults ds cs (list_any (same_method (finished ds cs x)) earlier) x.word x.late) (words_faults ds cs (finished ds cs x ∷ earlier) xs) h in
-    (late_apart ds cs earlier x.word x.late parts.0 parts.1 both.0, words_apart ds cs (finished ds cs x ∷ earlier) xs here.1 both.1)
+    (late_apart ds cs earlier x.word x.late fresh.0 parts.1 both.0, words_apart ds cs (finished ds cs x ∷ earlier) xs here.1 fresh.1 both.1)
 
 abbrev same_sort : Sort → Sort → Bool
 same_sort s u = elim s [ method a g t ↦ elim u [ method b h v ↦ nat_eq a b && nat_eq g h | _ ↦ false ] | _ ↦ false ]
@@ -193,7 +194,7 @@ generic_late ds cs w (method_of c g) is h = absurd (no_body (sym (ap (λ (s : So
     no_body : false ≡ true → ⊥
     no_body e = cc
 
-finished_at : (ds : List Draft) (cs : List ClassDef) (xs : List Draft) (more_words : List WordDef) (w : ℕ) (d : Draft) → slice_get xs w ≡ Some d → slice_get (map (finished ds cs) xs ++ more_words) w ≡ Some (finished ds cs d)
+pub finished_at : (ds : List Draft) (cs : List ClassDef) (xs : List Draft) (more_words : List WordDef) (w : ℕ) (d : Draft) → slice_get xs w ≡ Some d → slice_get (map (finished ds cs) xs ++ more_words) w ≡ Some (finished ds cs d)
 finished_at ds cs [] more_words w d h = absurd (cc)
 finished_at ds cs (x ∷ xs) more_words zero d h = let same : x ≡ d = cc in ap (λ (y : Draft). Some (finished ds cs y)) same
 finished_at ds cs (x ∷ xs) more_words (suc w) d h = finished_at ds cs xs more_words w d h

@@ -7,6 +7,7 @@ pub mod KeyLemmas
 pub mod FinishLemmas
 pub mod LineLemmas
 pub mod CycleLemmas
+pub mod EarlierClasses
 pub mod SlotChains
 pub mod EndedClasses
 pub mod EndedWords

@@ -13,6 +13,7 @@ use Rattle.fac_endings.specs.ClassTable.{inherited, parents, parents_from, slots
 use Rattle.fac_endings.specs.inner.Chains.{slots_of}
 use Rattle.fac_endings.specs.inner.Finishes.{line, slots_last}
 use Rattle.fac_endings.proofs.Apart.{AreApart, IsWithin, apart_differ, differ_behind, false_both, in_within, or_false}
+use Rattle.fac_endings.proofs.EarlierClasses.{DoSlotsStand}
 use Rattle.fac_endings.proofs.FinishLemmas.{slots_line}
 
 -- Reaching.
@@ -161,6 +162,10 @@ SlotsTested cs c (Some (tuple_class None slots)) = AreApart bytes_eq [] slots ×
 SlotsTested cs c (Some (tuple_class (Some p) slots)) = AreApart bytes_eq (inherited cs c) slots × (length slots + length (inherited cs c) ≤ 64)
 SlotsTested cs c _ = Unit {0}
 
+-- a class's slots were tested now, or stand as an earlier text left them
+abbrev pub AreSlotsSound : List ClassDef → ℕ → Type 0
+AreSlotsSound cs c = SlotsTested cs c (shape_at cs c) ⊎ DoSlotsStand cs c
+
 bytes_turn : (xs ys : List ℕ) → bytes_eq xs ys ≡ bytes_eq ys xs
 bytes_turn [] [] = refl
 bytes_turn [] (y ∷ ys) = refl
@@ -205,12 +210,15 @@ before_within : (n : ℕ) (cs : List ClassDef) (c p : ℕ) (o : Option ℕ) → 
 before_within n cs c p None acyclic few is h = absurd (cc)
 before_within n cs c p (Some q) acyclic few is h = parent_within n cs c q acyclic few is
 
-pub slots_apart : (n : ℕ) (cs : List ClassDef) (c : ℕ) → AreAcyclic cs → ((d : ℕ) → SlotsTested cs d (shape_at cs d)) → n ≤ length cs → no_two bytes_eq (slots_within n cs c) ≡ true
+pub slots_apart : (n : ℕ) (cs : List ClassDef) (c : ℕ) → AreAcyclic cs → ((d : ℕ) → AreSlotsSound cs d) → n ≤ length cs → no_two bytes_eq (slots_within n cs c) ≡ true
 slots_apart zero cs c acyclic tested few = refl
-slots_apart (suc n) cs c acyclic tested few =
-    let o = parent_in (shape_at cs c) in
-    ap (no_two bytes_eq) (by_shape n cs (shape_at cs c))
-    ∙ shape_apart cs c (shape_at cs c) (slots_before n cs o) (parent_apart n cs o (λ p. slots_apart n cs p acyclic tested (omega (arith, few)))) (λ p is. before_within n cs c p o acyclic (omega (arith, few)) refl is) (tested c)
+slots_apart (suc n) cs c acyclic tested few = elim (tested c) [
+  | inl now ↦
+      let o = parent_in (shape_at cs c) in
+      ap (no_two bytes_eq) (by_shape n cs (shape_at cs c))
+      ∙ shape_apart cs c (shape_at cs c) (slots_before n cs o) (parent_apart n cs o (λ p. slots_apart n cs p acyclic tested (omega (arith, few)))) (λ p is. before_within n cs c p o acyclic (omega (arith, few)) refl is) now
+  | inr stand ↦ (stand (suc n)).0
+]
 
 shape_few : (cs : List ClassDef) (c : ℕ) (o : Option Shape) (before : List (List ℕ)) → ((p : ℕ) → parent_in o ≡ Some p → length before ≤ length (inherited cs c)) → SlotsTested cs c o → length (slots_by before o) ≤ 64
 shape_few cs c None before short h = omega arith
@@ -228,10 +236,13 @@ before_short : (n : ℕ) (cs : List ClassDef) (c p : ℕ) (o : Option ℕ) → A
 before_short n cs c p None acyclic few is h = absurd (cc)
 before_short n cs c p (Some q) acyclic few is h = parent_short n cs c q acyclic few is
 
-pub slots_few : (n : ℕ) (cs : List ClassDef) (c : ℕ) → AreAcyclic cs → ((d : ℕ) → SlotsTested cs d (shape_at cs d)) → n ≤ length cs → length (slots_within n cs c) ≤ 64
+pub slots_few : (n : ℕ) (cs : List ClassDef) (c : ℕ) → AreAcyclic cs → ((d : ℕ) → AreSlotsSound cs d) → n ≤ length cs → length (slots_within n cs c) ≤ 64
 slots_few zero cs c acyclic tested few = omega arith
-slots_few (suc n) cs c acyclic tested few =
-    let o = parent_in (shape_at cs c) in
-    let short = shape_few cs c (shape_at cs c) (slots_before n cs o) (λ p is. before_short n cs c p o acyclic (omega (arith, few)) refl is) (tested c) in
-    let same = ap length (by_shape n cs (shape_at cs c)) in
-    omega (arith, short, same)
+slots_few (suc n) cs c acyclic tested few = elim (tested c) [
+  | inl now ↦
+      let o = parent_in (shape_at cs c) in
+      let short = shape_few cs c (shape_at cs c) (slots_before n cs o) (λ p is. before_short n cs c p o acyclic (omega (arith, few)) refl is) now in
+      let same = ap length (by_shape n cs (shape_at cs c)) in
+      omega (arith, short, same)
+  | inr stand ↦ (stand (suc n)).1
+]

@@ -5,5 +5,6 @@ pub mod ComponentLemmas
 pub mod SearchSteps
 pub mod ExamplesOfPaths
 pub mod SlotLemmas
+pub mod WaysUp
 pub mod ClimbLemmas
 pub mod ExamplesOfSlots

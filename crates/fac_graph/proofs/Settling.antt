@@ -47,7 +47,7 @@ count_later true false c e h le = absurd (let clash : false ≡ true = h refl in
 count_later false true c e h le = omega (arith, le)
 count_later false false c e h le = le
 
-count_more : (f g : ℕ → Bool) (n : ℕ) → ((u : ℕ) → f u ≡ true → g u ≡ true) → Differs f g n → suc (count f n) ≤ count g n
+pub count_more : (f g : ℕ → Bool) (n : ℕ) → ((u : ℕ) → f u ≡ true → g u ≡ true) → Differs f g n → suc (count f n) ≤ count g n
 count_more f g zero h d = absurd (omega (arith, d.low))
 count_more f g (suc n) h d = elim (at_or_behind n d.at) [
   | inl lt ↦ count_later (f n) (g n) (count f n) (count g n) (h n) (count_more f g n h (record { at = d.at; low = lt; fails = d.fails; passes = d.passes }))
@@ -59,7 +59,7 @@ full_by true c n le low = (refl, omega (arith, le))
 full_by false c n le low = absurd (omega (arith, le, low))
 
 -- all pass where they are as many as there are
-count_full : (f : ℕ → Bool) (n u : ℕ) → n ≤ count f n → u < n → f u ≡ true
+pub count_full : (f : ℕ → Bool) (n u : ℕ) → n ≤ count f n → u < n → f u ≡ true
 count_full f zero u le lt = absurd (omega (arith, lt))
 count_full f (suc n) u le lt =
     let full = full_by (f n) (count f n) n le (count_low f n) in

@@ -16,17 +16,17 @@ use Rattle.fac_graph.proofs.PathLemmas.{edges_of_classes, class_cycle}
 use Rattle.fac_graph.specs.Slots.{own_slot_count, slot_count, slot_counts, classes_end}
 use Rattle.fac_graph.specs.inner.Climbing.{of_parent, ends, Counts, CountsIf}
 
-at_least : (m n : ℕ) → nat_le m n ≡ true → m ≤ n
+pub at_least : (m n : ℕ) → nat_le m n ≡ true → m ≤ n
 at_least m n e = grind arith
 
-is_least : (m n : ℕ) → m ≤ n → nat_le m n ≡ true
+pub is_least : (m n : ℕ) → m ≤ n → nat_le m n ≡ true
 is_least m n le = grind arith
 
 -- the slots of a class, where those of others are these
-abbrev slots_by : (ℕ → List (List ℕ)) → Option Shape → List (List ℕ)
+abbrev pub slots_by : (ℕ → List (List ℕ)) → Option Shape → List (List ℕ)
 slots_by go o = elim o [ None ↦ [] | Some s ↦ elim s [ tuple_class p ss ↦ elim p [ None ↦ ss | Some q ↦ go q ++ ss ] | _ ↦ [] ] ]
 
-slots_same : (f g : ℕ → List (List ℕ)) (o : Option Shape) → ((q : ℕ) → parent_in o ≡ Some q → f q ≡ g q) → slots_by f o ≡ slots_by g o
+pub slots_same : (f g : ℕ → List (List ℕ)) (o : Option Shape) → ((q : ℕ) → parent_in o ≡ Some q → f q ≡ g q) → slots_by f o ≡ slots_by g o
 slots_same f g None h = refl
 slots_same f g (Some (tuple_class None ss)) h = refl
 slots_same f g (Some (tuple_class (Some q) ss)) h = ap (λ (xs : List (List ℕ)). xs ++ ss) (h q refl)
@@ -57,7 +57,7 @@ module _ (cs : List ClassDef) where
   no_parent c le = ap parent_in (no_shape c le)
 
   -- the way up from a number that isn't a class's
-  none_ends : (k c : ℕ) → total ≤ c → ends k cs c ≡ true
+  pub none_ends : (k c : ℕ) → total ≤ c → ends k cs c ≡ true
   none_ends zero c le = is_least total c le
   none_ends (suc k) c le = ap (of_parent (ends k cs)) (no_parent c le)
 
@@ -90,7 +90,7 @@ module _ (cs : List ClassDef) where
       by_side p h (inr le) = none_ends k p le
 
   -- a way up that ends has no more classes than there are
-  ends_soon : (k c : ℕ) → c < total → ends k cs c ≡ true → ends total cs c ≡ true
+  pub ends_soon : (k c : ℕ) → c < total → ends k cs c ≡ true → ends total cs c ≡ true
   ends_soon k c lt e = there_ends total c (settled total ends_there there_low there_grows there_settles k c (and_from (nat_lt c total) (ends k cs c) (under_is c total lt) e))
 
   parent_ends : (k q : ℕ) (o : Option ℕ) → of_parent (ends k cs) o ≡ true → o ≡ Some q → ends k cs q ≡ true
@@ -106,7 +106,7 @@ module _ (cs : List ClassDef) where
   more_ends (suc j) k zero c is e = absurd (omega (arith, is))
   more_ends (suc j) k (suc m) c is e = one_more m c (more_ends j k m c (omega (arith, is)) e)
 
-  steps_same : (j k m c : ℕ) → m ≡ k + j → ends k cs c ≡ true → slots_within k cs c ≡ slots_within m cs c
+  pub steps_same : (j k m c : ℕ) → m ≡ k + j → ends k cs c ≡ true → slots_within k cs c ≡ slots_within m cs c
   steps_same zero k m c is e = let here : k ≡ m = omega (arith, is) in ap (λ (x : ℕ). slots_within x cs c) here
   steps_same (suc j) k zero c is e = absurd (omega (arith, is))
   steps_same (suc j) k (suc m) c is e = steps_same j k m c (omega (arith, is)) e ∙ step_same m c (more_ends j k m c (omega (arith, is)) e)

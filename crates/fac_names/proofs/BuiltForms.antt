@@ -2,7 +2,7 @@
 use Rattle.std.proofs.Common.{◌≡◌, ◌+◌, ℕ, suc, List, [], ◌∷◌, ◌++◌, map, length, fold, Option, Some, None, Bool, true, false, refl, sym, ◌∙◌, subst, arith}
 use Rattle.std.specs.Prelude.{if◌then◌else◌, ◌&&◌, nat_le, nat_lt, codes}
 use Rattle.std.specs.Option.{option_map}
-use Rattle.fac_lang.proofs.SourcePrograms.{IsSourcePhrase, IsSourceSort}
+use Rattle.fac_lang.proofs.SourcePrograms.{AreArraysOf, IsPhraseOf, IsSortOf}
 use Rattle.fac_names.proofs.PrimitiveNumbers.{numbers_before}
 use Rattle.fac_lang.specs.Phrases.{Phrase}
 use Rattle.fac_base.specs.Signatures.{Signature}
@@ -27,12 +27,13 @@ use Rattle.fac_endings.specs.declared.draft.Named.{Named}
 use Rattle.fac_endings.specs.declared.draft.Named.TheVariants.{Tuple as a_tuple, Union as a_union, Single as a_single}
 use Rattle.fac_endings.specs.declared.draft.NewClass.{NewClass}
 use Rattle.fac_endings.proofs.Apart.{and_true}
-use Rattle.fac_endings.proofs.EndedClasses.{class_in, late_in, own_few}
+use Rattle.fac_endings.proofs.EndedClasses.{class_in, is_new_sort, late_in, own_few}
 use Rattle.fac_names.specs.Forms.{Numbered, Reading, accessor, added, bring_one, bringing_one, class_form, class_words, counted, declared_effect, declared_late, defining, in_table, making, most_classes, option_list, own, plainly, refused, scoped, take, told, use_one, with_slot, with_told}
 use Rattle.fac_names.proofs.ArrayReadings.{Begins, added_begins, names_by, refused_counted}
-use Rattle.fac_names.proofs.BuiltScopes.{WordBelow, word_below_held}
-use Rattle.fac_names.proofs.BuiltReadings.{Built, IsBuiltLate, IsTold, Keeps, one_class_more, refused_built, scoped_built, told_built, told_keeps, with_class, with_main, with_top, with_word}
-use Rattle.fac_names.proofs.BuiltPhrases.{append_built, found_below, phrase_built}
+use Rattle.fac_names.proofs.BuiltScopes.{WordIn, word_in_held, word_of_in}
+use Rattle.fac_names.proofs.Fronts.{Covers, is_found}
+use Rattle.fac_names.proofs.BuiltReadings.{Built, IsBuiltLate, IsTold, Keeps, first_found, one_class_more, refused_built, scope_covered, scoped_built, table_below, told_built, told_keeps, with_class, with_main, with_top, with_word}
+use Rattle.fac_names.proofs.BuiltPhrases.{append_built, phrase_built}
 use Rattle.fac_names.proofs.HeldNames.{WordHeld, accessor_text, held_new, no_accessor, word_kept}
 use Rattle.fac_names.proofs.DefinedNames.{none_before, none_before, stays_then, keeps_refused, NameHeld, changed_here, with_no_entry, new_defined, own_built, deferring_built}
 
@@ -48,15 +49,15 @@ one_refused k c r f b = refused_built k c r (sooner r.first f) (none_before r.fi
 use_built : (k c : ℕ) (r : Reading) (t : Tok) → Built k c r → Built k c (use_one r t)
 use_built k c r t b =
     reading_if k c (scoped (using_vocab t.text) r) (refused (fault NoVocab t ∷ []) r) (exists r.scope t.text)
-    (scoped_built k c r (using_vocab t.text r.scope) (record { table = b.scope.table; brought = b.scope.brought }) refl b)
+    (scoped_built k c r (using_vocab t.text r.scope) b (record { table = b.scope.table; brought = b.scope.brought }) refl)
     (one_refused k c r (fault NoVocab t) b)
 
-bringing_built : (k c : ℕ) (t : Tok) (r : Reading) (o : Option ℕ) → WordBelow (length r.words) o → Built k c r → Built k c (bringing_one t r o)
-bringing_built k c t r (Some w) h b = scoped_built k c r (bringing (named t.text w) r.scope) (record { table = b.scope.table; brought = (h, b.scope.brought) }) refl b
-bringing_built k c t r None h b = one_refused k c r (fault Unknown t) b
+bringing_built : (k c : ℕ) (t : Tok) (r : Reading) (o : Option ℕ) (b : Built k c r) → WordIn (is_found b.front (length r.words)) o → Built k c (bringing_one t r o)
+bringing_built k c t r (Some w) b h = scoped_built k c r (bringing (named t.text w) r.scope) b (record { table = b.scope.table; brought = (h, b.scope.brought) }) refl
+bringing_built k c t r None b h = one_refused k c r (fault Unknown t) b
 
 bring_built : (k c : ℕ) (vocab : List ℕ) (r : Reading) (t : Tok) → Built k c r → Built k c (bring_one vocab r t)
-bring_built k c vocab r t b = bringing_built k c t r (word_held r.scope.table vocab t.text) (word_below_held (length r.words) r.scope.table vocab t.text b.scope.table) b
+bring_built k c vocab r t b = bringing_built k c t r (word_held r.scope.table vocab t.text) b (word_in_held (is_found b.front (length r.words)) r.scope.table vocab t.text b.scope.table)
 
 pub fold_built : {A : Type 0} (k c : ℕ) (f : Reading → A → Reading) → ((r : Reading) (a : A) → Built k c r → Built k c (f r a)) → (xs : List A) (r : Reading) → Built k c r → Built k c (fold f r xs)
 fold_built k c f h [] r b = b
@@ -65,20 +66,20 @@ fold_built k c f h (x ∷ xs) r b = fold_built k c f h xs (f r x) (h r x b)
 -- Words of one sort.
 
 -- a word that names no array is told
-plain_told : (k c : ℕ) (n : Numbered) (s : Sort) (e : Signature) → names_by s ≡ [] → IsTold k n s e false false settled → Begins n → Built k c n.reading → Built k c (told s e false false settled n)
-plain_told k c n s e none t begins b = told_built k c n s e false false settled n.reading.arrays n.reading.first t (λ is. is) b.arrays (subst (Adds n.reading.arrays n.reading.arrays) (sym none) (adds_none n.reading.arrays)) begins b
+plain_told : (k c : ℕ) (n : Numbered) (s : Sort) (e : Signature) (b : Built k c n.reading) → names_by s ≡ [] → IsTold b.front k n s e false false settled → Begins n → Built k c (told s e false false settled n)
+plain_told k c n s e b none t begins = told_built k c n s e false false settled n.reading.arrays n.reading.first b t (λ is. is) b.arrays (subst (Adds n.reading.arrays n.reading.arrays) (sym none) (adds_none n.reading.arrays)) begins
 
 symbol_built : (k c : ℕ) (t : Tok) (r : Reading) → Built k c r → Built k c (take (f_symbol t) r)
 symbol_built k c t r b =
     let d = own_built k c t r b in
-    plain_told k c (own t r) itself (plain_effect [] (codes "value" ∷ [])) refl
-    (record { no_primitive = λ ks. refl; built = λ bound within w. record { effect_is = refl; not_inline = refl; not_recursive = refl }; ok = refl; accessor = no_accessor (own t r).reading.scope.table (own t r).word itself refl }) d.begins d.built
+    plain_told k c (own t r) itself (plain_effect [] (codes "value" ∷ [])) d.built refl
+    (record { no_primitive = λ ks. refl; new = refl; built = λ may within w. record { effect_is = refl; not_inline = refl; not_recursive = refl }; ok = refl; accessor = no_accessor (own t r).reading.scope.table (own t r).word itself refl }) d.begins
 
 generic_built : (k c : ℕ) (t : Tok) (e : Signature) (r : Reading) → nat_le (name_count e) 65 ≡ true → Built k c r → Built k c (take (f_generic t e) r)
 generic_built k c t e r few b =
     let d = own_built k c t r b in
-    plain_told k c (own t r) generic e refl
-    (record { no_primitive = λ ks. refl; built = λ bound within w. record { not_inline = refl; not_recursive = refl }; ok = few; accessor = no_accessor (own t r).reading.scope.table (own t r).word generic refl }) d.begins d.built
+    plain_told k c (own t r) generic e d.built refl
+    (record { no_primitive = λ ks. refl; new = refl; built = λ may within w. record { not_inline = refl; not_recursive = refl }; ok = few; accessor = no_accessor (own t r).reading.scope.table (own t r).word generic refl }) d.begins
 
 -- Definitions and items.
 
@@ -95,9 +96,14 @@ declared_ok : (k : ℕ) (s : Scope) (e : Declared) (u : Phrase) (inline recursiv
 declared_ok k s (given e) u inline recursive h = h
 declared_ok k s (makes t) u inline recursive h = refl
 
-declared_built : (bound : ℕ) (s : Scope) (e : Declared) (u : Phrase) (inline recursive : Bool) (d : WordDef) → IsFewDeclared e inline recursive → IsSourcePhrase bound u → IsBuiltLate bound (record d { sort = body u; effect = declared_effect e; inline = inline; recursive = recursive }) (declared_late s e)
-declared_built bound s (given e) u inline recursive d h is = is
-declared_built bound s (makes t) u inline recursive d h is = record { built = is; not_inline = h.0; not_recursive = h.1 }
+declared_built : (may : ℕ → Bool) (s : Scope) (e : Declared) (u : Phrase) (inline recursive : Bool) (d : WordDef) → IsFewDeclared e inline recursive → IsPhraseOf may u → IsBuiltLate may (record d { sort = body u; effect = declared_effect e; inline = inline; recursive = recursive }) (declared_late s e)
+declared_built may s (given e) u inline recursive d h is = is
+declared_built may s (makes t) u inline recursive d h is = record { built = is; not_inline = h.0; not_recursive = h.1 }
+
+-- the phrase of items, and the arrays behind it
+items_read : (k c : ℕ) (r : Reading) (b : Built k c r) (ns : Nodes) → AreReadPlain ns → (may : ℕ → Bool) → Covers b.front (length r.words) may →
+    (let m = phrase_of r.scope [] (read_items (is_cond r.scope) [] ns) r.arrays 0 in IsPhraseOf may m.phrase × AreArraysOf may m.arrays)
+items_read k c r b ns plain may within = phrase_built may r.scope [] false (read_items (is_cond r.scope) [] ns) r.arrays 0 (first_found k c r b may within) (scope_covered k c r b may within) (plain (is_cond r.scope)) (b.arrays may within)
 
 define_built : (k c : ℕ) (t : Tok) (e : Declared) (ns : Nodes) (inline recursive : Bool) (r : Reading) → AreReadPlain ns → IsFewDeclared e inline recursive → Built k c r → Built k c (take (f_define t e ns inline recursive) r)
 define_built k c t e ns inline recursive r plain few b =
@@ -106,17 +112,17 @@ define_built k c t e ns inline recursive r plain few b =
     let s = n.reading.scope in
     let ms = read_items (is_cond s) [] ns in
     let m = phrase_of s [] ms n.reading.arrays 0 in
-    let whole = plain (is_cond s) in
-    told_built k c n (body m.phrase) (declared_effect e) inline recursive (declared_late s e) m.arrays (fold sooner n.reading.first (items_faults s [] ms))
+    told_built k c n (body m.phrase) (declared_effect e) inline recursive (declared_late s e) m.arrays (fold sooner n.reading.first (items_faults s [] ms)) d.built
     (record {
       no_primitive = λ ks. refl;
-      built = λ bound within w. declared_built bound s e m.phrase inline recursive w few (phrase_built (length n.reading.words) bound s [] false ms n.reading.arrays 0 d.built.some within d.built.scope whole (d.built.arrays bound within)).0;
+      new = refl;
+      built = λ may within w. declared_built may s e m.phrase inline recursive w few (items_read k c n.reading d.built ns plain may within).0;
       ok = declared_ok k s e m.phrase inline recursive few;
       accessor = no_accessor s.table n.word (body m.phrase) refl;
     })
     (none_before n.reading.first (items_faults s [] ms))
-    (λ bound within. (phrase_built (length n.reading.words) bound s [] false ms n.reading.arrays 0 d.built.some within d.built.scope whole (d.built.arrays bound within)).1)
-    (phrase_adds s [] ms n.reading.arrays 0) d.begins d.built
+    (λ may within. (items_read k c n.reading d.built ns plain may within).1)
+    (phrase_adds s [] ms n.reading.arrays 0) d.begins
 
 method_built : (k c : ℕ) (x g : Tok) (ns : Nodes) (r : Reading) → AreReadPlain ns → Built k c r → Built k c (take (f_method x g ns) r)
 method_built k c x g ns r plain b =
@@ -124,36 +130,35 @@ method_built k c x g ns r plain b =
     let q = refused fs r in
     let first = fold sooner r.first fs in
     let n = added [] g q in
-    let begins = added_begins [] g q b.scope.table (refused_counted r first b.counted) in
-    let mid = with_word k c r r.scope [] g first (with_no_entry r [] g first k c (none_before r.first fs) b) begins.counted b in
+    let begins = added_begins [] g q (table_below k c r b) (refused_counted r first b.counted) in
+    let mid = with_word k c r r.scope [] g first b (with_no_entry r [] g first k c (none_before r.first fs) b) begins.counted in
     let s = r.scope in
     let ms = read_items (is_cond s) [] ns in
     let m = phrase_of s [] ms r.arrays 0 in
-    let whole = plain (is_cond s) in
-    told_built k c n (body m.phrase) no_effect false false (method_of (ref s x) (ref s g)) m.arrays (fold sooner first (items_faults s [] ms))
+    told_built k c n (body m.phrase) no_effect false false (method_of (ref s x) (ref s g)) m.arrays (fold sooner first (items_faults s [] ms)) mid
     (record {
       no_primitive = λ ks. refl;
-      built = λ bound within w. record { built = (phrase_built (length n.reading.words) bound s [] false ms r.arrays 0 mid.some within mid.scope whole (mid.arrays bound within)).0; not_inline = refl; not_recursive = refl };
+      new = refl;
+      built = λ may within w. record { built = (items_read k c n.reading mid ns plain may within).0; not_inline = refl; not_recursive = refl };
       ok = refl;
       accessor = no_accessor s.table n.word (body m.phrase) refl;
     })
     (none_before first (items_faults s [] ms))
-    (λ bound within. (phrase_built (length n.reading.words) bound s [] false ms r.arrays 0 mid.some within mid.scope whole (mid.arrays bound within)).1)
-    (phrase_adds s [] ms r.arrays 0) begins mid
+    (λ may within. (items_read k c n.reading mid ns plain may within).1)
+    (phrase_adds s [] ms r.arrays 0) begins
 
 items_built : (k c : ℕ) (ns : Nodes) (r : Reading) → AreReadPlain ns → Built k c r → Built k c (take (f_items ns) r)
 items_built k c ns r plain b =
     let s = r.scope in
     let ms = read_items (is_cond s) [] ns in
     let m = phrase_of s [] ms r.arrays 0 in
-    let whole = plain (is_cond s) in
-    with_top k c r m.phrase m.arrays (fold sooner r.first (items_faults s [] ms)) (none_before r.first (items_faults s [] ms))
-    (λ bound within. append_built bound r.top m.phrase (b.top bound within) (phrase_built (length r.words) bound s [] false ms r.arrays 0 b.some within b.scope whole (b.arrays bound within)).0)
-    (λ bound within. (phrase_built (length r.words) bound s [] false ms r.arrays 0 b.some within b.scope whole (b.arrays bound within)).1)
-    (phrase_adds s [] ms r.arrays 0) b
+    with_top k c r m.phrase m.arrays (fold sooner r.first (items_faults s [] ms)) b (none_before r.first (items_faults s [] ms))
+    (λ may within. append_built may r.top m.phrase (b.top may within) (items_read k c r b ns plain may within).0)
+    (λ may within. (items_read k c r b ns plain may within).1)
+    (phrase_adds s [] ms r.arrays 0)
 
 main_built : (k c : ℕ) (n : Tok) (r : Reading) → Built k c r → Built k c (take (f_main n) r)
-main_built k c n r b = with_main k c r _ (fold sooner r.first (search_fault r.scope n)) (none_before r.first (search_fault r.scope n)) (λ bound within. (found_below (length r.words) bound r.scope n b.some within b.scope, tt)) refl b
+main_built k c n r b = with_main k c r _ (fold sooner r.first (search_fault r.scope n)) b (none_before r.first (search_fault r.scope n)) (λ may within. (word_of_in may r.scope n (first_found k c r b may within) (scope_covered k c r b may within), tt)) refl
 
 -- Classes.
 
@@ -173,13 +178,13 @@ below_next c = grind arith
 
 class_told : (k c : ℕ) (n : Numbered) (j : ℕ) → nat_lt j k ≡ true → Begins n → Built k c n.reading → Built k c (plainly (class j) [] (codes "value" ∷ []) n)
 class_told k c n j below begins b =
-    plain_told k c n (class j) (plain_effect [] (codes "value" ∷ [])) refl
-    (record { no_primitive = λ ks. refl; built = λ bound within w. record { effect_is = refl; not_inline = refl; not_recursive = refl }; ok = and_true (nat_lt j k && true) true (and_true (nat_lt j k) true below refl) refl; accessor = no_accessor n.reading.scope.table n.word (class j) refl }) begins b
+    plain_told k c n (class j) (plain_effect [] (codes "value" ∷ [])) b refl
+    (record { no_primitive = λ ks. refl; new = refl; built = λ may within w. record { effect_is = refl; not_inline = refl; not_recursive = refl }; ok = and_true (nat_lt j k && true) true (and_true (nat_lt j k) true below refl) refl; accessor = no_accessor n.reading.scope.table n.word (class j) refl }) begins
 
 predicate_told : (k c : ℕ) (n : Numbered) (j : ℕ) → nat_lt j k ≡ true → Begins n → Built k c n.reading → Built k c (plainly (isa j) (codes "object" ∷ []) (codes "?" ∷ []) n)
 predicate_told k c n j below begins b =
-    plain_told k c n (isa j) (plain_effect (codes "object" ∷ []) (codes "?" ∷ [])) refl
-    (record { no_primitive = λ ks. refl; built = λ bound within w. record { effect_is = refl; not_inline = refl; not_recursive = refl }; ok = and_true (nat_lt j k && true) true (and_true (nat_lt j k) true below refl) refl; accessor = no_accessor n.reading.scope.table n.word (isa j) refl }) begins b
+    plain_told k c n (isa j) (plain_effect (codes "object" ∷ []) (codes "?" ∷ [])) b refl
+    (record { no_primitive = λ ks. refl; new = refl; built = λ may within w. record { effect_is = refl; not_inline = refl; not_recursive = refl }; ok = and_true (nat_lt j k && true) true (and_true (nat_lt j k) true below refl) refl; accessor = no_accessor n.reading.scope.table n.word (isa j) refl }) begins
 
 plainly_keeps : (n : Numbered) (s : Sort) (ins outs : List (List ℕ)) → Begins n → Keeps n.reading (plainly s ins outs n)
 plainly_keeps n s ins outs begins = told_keeps n s (plain_effect ins outs) false false settled n.reading.arrays n.reading.first (λ none. none) begins
@@ -228,7 +233,8 @@ class_form_built t searched names r few b =
 record IsAccessor (s : Sort) (ins outs : List (List ℕ)) (text : List ℕ) : Type 0 where
   no_primitive : (ks : List ℕ) → numbers_before s ks ≡ ks
   no_arrays : names_by s ≡ []
-  built : (bound : ℕ) (d : WordDef) → IsSourceSort bound (record d { sort = s; effect = plain_effect ins outs; inline = false; recursive = false }) s
+  new : is_new_sort s ≡ true
+  built : (may : ℕ → Bool) (d : WordDef) → IsSortOf may (record d { sort = s; effect = plain_effect ins outs; inline = false; recursive = false }) s
   ok : (k : ℕ) → ((class_in k s && late_in s settled) && nat_le (name_count (plain_effect ins outs)) 65) ≡ true
   text_is : accessor_text s ≡ Some text
 
@@ -238,13 +244,14 @@ making_built k c t s ins outs r [] a held b =
     let n = in_table (codes "accessors") t true (added (codes "accessors") t r) in
     let d = new_defined k c (codes "accessors") t r held b in
     subst (λ (es : List Entry). Built k c (plainly s ins outs (defining (codes "accessors") t r es))) (sym held)
-    (plain_told k c n s (plain_effect ins outs) a.no_arrays
+    (plain_told k c n s (plain_effect ins outs) d.built a.no_arrays
     (record {
       no_primitive = a.no_primitive;
-      built = λ bound within w. a.built bound w;
+      new = a.new;
+      built = λ may within w. a.built may w;
       ok = a.ok k;
       accessor = λ name is. subst (λ (x : List ℕ). word_held n.reading.scope.table (codes "accessors") x ≡ Some n.word) (the_text name (sym a.text_is ∙ is)) (held_new r.scope.table _ held);
-    }) d.begins d.built)
+    }) d.begins)
   where
     the_text : (name : List ℕ) → Some t.text ≡ Some name → t.text ≡ name
     the_text name e = cc
@@ -254,9 +261,9 @@ accessor_built k c t s ins outs r a b = making_built k c t s ins outs r (holders
 
 slot_built : (k c : ℕ) (r : Reading) (t : Tok) → Built k c r → Built k c (with_slot r t)
 slot_built k c r t b =
-    let one = accessor_built k c (record t { text = t.text ++ codes ">>" }) (getter t.text) (codes "object" ∷ []) (codes "value" ∷ []) r (record { no_primitive = λ ks. refl; no_arrays = refl; built = λ bound d. record { effect_is = refl; not_inline = refl; not_recursive = refl }; ok = λ j. refl; text_is = refl }) b in
-    let two = accessor_built k c (record t { text = codes ">>" ++ t.text }) (setter t.text) (codes "object" ∷ codes "value" ∷ []) (codes "object" ∷ []) _ (record { no_primitive = λ ks. refl; no_arrays = refl; built = λ bound d. record { effect_is = refl; not_inline = refl; not_recursive = refl }; ok = λ j. refl; text_is = refl }) one in
-    accessor_built k c (record t { text = t.text ++ codes "<<" }) (putter t.text) (codes "value" ∷ codes "object" ∷ []) [] _ (record { no_primitive = λ ks. refl; no_arrays = refl; built = λ bound d. record { effect_is = refl; not_inline = refl; not_recursive = refl }; ok = λ j. refl; text_is = refl }) two
+    let one = accessor_built k c (record t { text = t.text ++ codes ">>" }) (getter t.text) (codes "object" ∷ []) (codes "value" ∷ []) r (record { no_primitive = λ ks. refl; no_arrays = refl; new = refl; built = λ may d. record { effect_is = refl; not_inline = refl; not_recursive = refl }; ok = λ j. refl; text_is = refl }) b in
+    let two = accessor_built k c (record t { text = codes ">>" ++ t.text }) (setter t.text) (codes "object" ∷ codes "value" ∷ []) (codes "object" ∷ []) _ (record { no_primitive = λ ks. refl; no_arrays = refl; new = refl; built = λ may d. record { effect_is = refl; not_inline = refl; not_recursive = refl }; ok = λ j. refl; text_is = refl }) one in
+    accessor_built k c (record t { text = t.text ++ codes "<<" }) (putter t.text) (codes "value" ∷ codes "object" ∷ []) [] _ (record { no_primitive = λ ks. refl; no_arrays = refl; new = refl; built = λ may d. record { effect_is = refl; not_inline = refl; not_recursive = refl }; ok = λ j. refl; text_is = refl }) two
 
 -- Forms.
 
@@ -281,7 +288,7 @@ IsPlainForm (f_items ns) = AreReadPlain ns
 IsPlainForm _ = ⊥
 
 pub take_built : (form : Form) (r : Reading) → IsPlainForm form → BuiltUp r → BuiltUp (take form r)
-take_built (f_in v) r p b = scoped_built (classes_in r) (classes_in r) r (entered v.text r.scope) (record { table = b.scope.table; brought = b.scope.brought }) refl b
+take_built (f_in v) r p b = scoped_built (classes_in r) (classes_in r) r (entered v.text r.scope) b (record { table = b.scope.table; brought = b.scope.brought }) refl
 take_built (f_use v) r p b = up (classes_in r) _ (use_built (classes_in r) (classes_in r) r v b)
 take_built (f_using vs) r p b = up (classes_in r) _ (fold_built (classes_in r) (classes_in r) use_one (use_built (classes_in r) (classes_in r)) vs r b)
 take_built (f_from v ns) r p b =
@@ -292,10 +299,10 @@ take_built (f_qualified v p) r q b =
     let c = classes_in r in
     up c (take (f_qualified v p) r)
     (reading_if c c (scoped (bringing (prefixed v.text p.text)) r) (refused (fault NoVocab v ∷ []) r) (exists r.scope v.text)
-    (scoped_built c c r (bringing (prefixed v.text p.text) r.scope) (record { table = b.scope.table; brought = b.scope.brought }) refl b)
+    (scoped_built c c r (bringing (prefixed v.text p.text) r.scope) b (record { table = b.scope.table; brought = b.scope.brought }) refl)
     (one_refused c c r (fault NoVocab v) b))
-take_built f_private r p b = scoped_built (classes_in r) (classes_in r) r _ (record { table = b.scope.table; brought = b.scope.brought }) refl b
-take_built f_public r p b = scoped_built (classes_in r) (classes_in r) r _ (record { table = b.scope.table; brought = b.scope.brought }) refl b
+take_built f_private r p b = scoped_built (classes_in r) (classes_in r) r _ b (record { table = b.scope.table; brought = b.scope.brought }) refl
+take_built f_public r p b = scoped_built (classes_in r) (classes_in r) r _ b (record { table = b.scope.table; brought = b.scope.brought }) refl
 take_built (f_defer n) r p b = up (classes_in r) _ (deferring_built (classes_in r) (classes_in r) n r (holders r.scope.table (home r.scope) n.text) b)
 take_built (f_symbol n) r p b = up (classes_in r) _ (symbol_built (classes_in r) (classes_in r) n r b)
 take_built (f_main n) r p b = up (classes_in r) _ (main_built (classes_in r) (classes_in r) n r b)
@@ -312,4 +319,4 @@ take_built (f_items ns) r p b = up (classes_in r) _ (items_built (classes_in r) 
 take_built form r p b = absurd p
 
 pub begun_built : (r : Reading) → BuiltUp r → BuiltUp (scoped begun r)
-begun_built r b = scoped_built (classes_in r) (classes_in r) r (begun r.scope) (record { table = b.scope.table; brought = tt }) refl b
+begun_built r b = scoped_built (classes_in r) (classes_in r) r (begun r.scope) b (record { table = b.scope.table; brought = tt }) refl

@@ -1,10 +1,10 @@
 -- What forms come to is made of what sources have.
 use Rattle.std.proofs.Common.{◌≡◌, ◌<◌, ◌≤◌, ◌+◌, ℕ, zero, suc, List, [], ◌∷◌, ◌++◌, length, Option, Some, None, Bool, true, false, refl, ap, sym, ◌∙◌, subst, arith}
-use Rattle.std.specs.Prelude.{◌&&◌, nat_le, codes}
+use Rattle.std.specs.Prelude.{◌&&◌, nat_le, codes, slice_get}
 use Rattle.std.specs.List.{list_all}
 use Rattle.std.proofs.lemmas.List.{length_push}
 use Rattle.std.proofs.lemmas.List.Folds.{list_all-append}
-use Rattle.fac_lang.proofs.SourcePrograms.{AreSourceArrays, IsSourcePhrase, IsSourceSort}
+use Rattle.fac_lang.proofs.SourcePrograms.{AreArraysOf, IsPhraseOf, IsSortOf}
 use Rattle.fac_names.proofs.PrimitiveNumbers.{has_no_repeats, numbers_before, numbers_in, numbers_with, numbers_placed, told_distinct}
 use Rattle.fac_lang.specs.Phrases.{Phrase}
 use Rattle.fac_lang.specs.RunningLaws.{append}
@@ -25,31 +25,32 @@ use Rattle.fac_endings.specs.declared.draft.Late.{Late}
 use Rattle.fac_endings.specs.declared.draft.Late.TheVariants.{Settled as settled, Deferred as deferred, Maker as maker, Method as method_of}
 use Rattle.fac_endings.specs.declared.draft.NewClass.{NewClass}
 use Rattle.fac_endings.proofs.Apart.{and_true, true_both}
-use Rattle.fac_endings.proofs.EndedClasses.{class_in, draft_fits, late_in, own_few}
+use Rattle.fac_endings.proofs.EarlierClasses.{AreSettled}
+use Rattle.fac_endings.proofs.EndedClasses.{class_in, draft_fits, is_new_sort, late_in, own_few}
 use Rattle.fac_names.specs.Forms.{Numbered, Reading, at_place, changed, draft_of, told, with_told}
-use Rattle.fac_names.specs.KnownWords.{known_classes}
 use Rattle.fac_names.proofs.ArrayReadings.{Begins, Counted, items_counted, main_counted, names_by, refused_counted, scoped_counted, told_counted}
-use Rattle.fac_names.proofs.BuiltScopes.{ScopeBelow, brought_more, entries_defined, entries_more, entries_with}
+use Rattle.fac_names.proofs.BuiltScopes.{EntriesBelow, ScopeIn, entries_below, entries_defined, entries_with, scope_more}
+use Rattle.fac_names.proofs.Fronts.{Covers, Fronted, covers_fewer, found_by, found_low, found_more, fronted_changed, fronted_push, is_found, spares_past}
 use Rattle.fac_names.proofs.HeldNames.{AccessorAt, AccessorsHeld, AreNamed, KeepsHeld, KeepsNames, KeepsTold, NewHeld, OldHeld, WordHeld, accessors_kept, accessors_placed, accessors_push, accessors_told, held_defined, held_same, named_defined, named_kept, names_changed, names_push, new_kept, new_with, old_kept, told_other, told_placed, told_push}
 
 -- Words.
 
 -- a word whose phrase has an effect that the end gives it
-pub record IsLateBody (bound : ℕ) (d : WordDef) : Type 0 where
-  pub built : IsSourceSort bound d d.sort
+pub record IsLateBody (may : ℕ → Bool) (d : WordDef) : Type 0 where
+  pub built : IsSortOf may d d.sort
   pub not_inline : d.inline ≡ false
   pub not_recursive : d.recursive ≡ false
 
 -- a word is one that a source can have, where it isn't only deferred
-abbrev pub IsBuiltLate : ℕ → WordDef → Late → Type 0
-IsBuiltLate bound d settled = IsSourceSort bound d d.sort
-IsBuiltLate bound d deferred = Unit {0}
-IsBuiltLate bound d (maker r) = IsLateBody bound d
-IsBuiltLate bound d (method_of c g) = IsLateBody bound d
+abbrev pub IsBuiltLate : (ℕ → Bool) → WordDef → Late → Type 0
+IsBuiltLate may d settled = IsSortOf may d d.sort
+IsBuiltLate may d deferred = Unit {0}
+IsBuiltLate may d (maker r) = IsLateBody may d
+IsBuiltLate may d (method_of c g) = IsLateBody may d
 
-abbrev pub DraftsBuilt : ℕ → List Draft → Type 0
-DraftsBuilt bound [] = Unit {0}
-DraftsBuilt bound (d ∷ ds) = IsBuiltLate bound d.word d.late × DraftsBuilt bound ds
+abbrev pub DraftsBuilt : (ℕ → Bool) → List Draft → Type 0
+DraftsBuilt may [] = Unit {0}
+DraftsBuilt may (d ∷ ds) = IsBuiltLate may d.word d.late × DraftsBuilt may ds
 
 -- the numbers of classes in a word are below k, and its effect has few names
 abbrev pub draft_ok : ℕ → Draft → Bool
@@ -62,31 +63,47 @@ AreHeld r = OldHeld r.words r.scope.table 0 r.old_classes × NewHeld r.words r.s
 -- Words name classes below k, and there are c of them.
 pub record Built (k c : ℕ) (r : Reading) : Type 0 where
   pub some : 0 < length r.words
-  pub scope : ScopeBelow (length r.words) r.scope
-  pub words : (bound : ℕ) → length r.words ≤ bound → DraftsBuilt bound r.words
+  pub front : List WordDef
+  pub fronted : Fronted front r.words
+  pub scope : ScopeIn (is_found front (length r.words)) r.scope
+  pub words : (may : ℕ → Bool) → Covers front (length r.words) may → DraftsBuilt may r.words
   pub ok : list_all (draft_ok k) r.words ≡ true
-  pub top : (bound : ℕ) → length r.words ≤ bound → IsSourcePhrase bound r.top
-  pub main : (bound : ℕ) → length r.words ≤ bound → IsSourcePhrase bound r.main
+  pub top : (may : ℕ → Bool) → Covers front (length r.words) may → IsPhraseOf may r.top
+  pub main : (may : ℕ → Bool) → Covers front (length r.words) may → IsPhraseOf may r.main
   pub distinct : has_no_repeats (numbers_in r.words) ≡ true
-  pub old : r.old_classes ≡ known_classes
+  pub old : AreSettled r.old_classes
   pub own : list_all (λ (d : NewClass). own_few d.names) r.classes ≡ true
   pub count : length r.old_classes + length r.classes ≡ c
   pub named : AreNamed r.words r.scope.table
   pub accessors : AccessorsHeld r.scope.table 0 r.words
   pub held : r.first ≡ None → AreHeld r
-  pub arrays : (bound : ℕ) → length r.words ≤ bound → AreSourceArrays bound r.arrays
+  pub arrays : (may : ℕ → Bool) → Covers front (length r.words) may → AreArraysOf may r.arrays
   pub counted : Counted r
+
+-- What names find.
+
+pub table_below : (k c : ℕ) (r : Reading) → Built k c r → EntriesBelow (length r.words) r.scope.table
+table_below k c r b = entries_below (is_found b.front (length r.words)) (length r.words) r.scope.table (found_low b.front (length r.words)) b.scope.table
+
+-- the word that a name finds which is refused
+pub first_found : (k c : ℕ) (r : Reading) (b : Built k c r) (may : ℕ → Bool) → Covers b.front (length r.words) may → may 0 ≡ true
+first_found k c r b may covers = covers 0 (found_by b.front (length r.words) 0 b.some b.fronted.first)
+
+pub scope_covered : (k c : ℕ) (r : Reading) (b : Built k c r) (may : ℕ → Bool) → Covers b.front (length r.words) may → ScopeIn may r.scope
+scope_covered k c r b may covers = scope_more (is_found b.front (length r.words)) may r.scope covers b.scope
 
 -- the same but for the first refusal
 pub refused_built : (k c : ℕ) (r : Reading) (first : Option NameFault) → (first ≡ None → r.first ≡ None) → Built k c r → Built k c (record r { first = first })
 refused_built k c r first before b =
-    record { some = b.some; scope = b.scope; words = b.words; ok = b.ok; top = b.top; main = b.main; distinct = b.distinct; old = b.old; own = b.own; count = b.count; named = b.named; accessors = b.accessors; held = λ none. b.held (before none); arrays = b.arrays; counted = refused_counted r first b.counted }
+    record { some = b.some; front = b.front; fronted = b.fronted; scope = b.scope; words = b.words; ok = b.ok; top = b.top; main = b.main; distinct = b.distinct; old = b.old; own = b.own; count = b.count; named = b.named; accessors = b.accessors; held = λ none. b.held (before none); arrays = b.arrays; counted = refused_counted r first b.counted }
 
 -- another scope with words that there are, and the same table
-pub scoped_built : (k c : ℕ) (r : Reading) (s : Scope) → ScopeBelow (length r.words) s → s.table ≡ r.scope.table → Built k c r → Built k c (record r { scope = s })
-scoped_built k c r s h same b =
+pub scoped_built : (k c : ℕ) (r : Reading) (s : Scope) (b : Built k c r) → ScopeIn (is_found b.front (length r.words)) s → s.table ≡ r.scope.table → Built k c (record r { scope = s })
+scoped_built k c r s b h same =
     record {
       some = b.some;
+      front = b.front;
+      fronted = b.fronted;
       scope = h;
       words = b.words;
       ok = b.ok;
@@ -107,8 +124,8 @@ scoped_built k c r s h same b =
 class_more : (k : ℕ) (s : Sort) → class_in k s ≡ true → class_in (suc k) s ≡ true
 class_more k (class c) h = grind arith
 class_more k (isa c) h = grind arith
-class_more k (past t) h = h
-class_more k (method c g t) h = h
+class_more k (past t) h = refl
+class_more k (method c g t) h = grind arith
 class_more k (prim j) h = refl
 class_more k (core j) h = refl
 class_more k (body t) h = refl
@@ -130,7 +147,7 @@ drafts_more k (d ∷ ds) h = let both = true_both (draft_ok k d) (list_all (draf
 
 pub one_class_more : (k c : ℕ) (r : Reading) → Built k c r → Built (suc k) c r
 one_class_more k c r b =
-    record { some = b.some; scope = b.scope; words = b.words; ok = drafts_more k r.words b.ok; top = b.top; main = b.main; distinct = b.distinct; old = b.old; own = b.own; count = b.count; named = b.named; accessors = b.accessors; held = b.held; arrays = b.arrays; counted = b.counted }
+    record { some = b.some; front = b.front; fronted = b.fronted; scope = b.scope; words = b.words; ok = drafts_more k r.words b.ok; top = b.top; main = b.main; distinct = b.distinct; old = b.old; own = b.own; count = b.count; named = b.named; accessors = b.accessors; held = b.held; arrays = b.arrays; counted = b.counted }
 
 -- What stays of words and tables.
 
@@ -146,31 +163,34 @@ held_through r q k h =
 
 -- A word more.
 
-drafts_with : (bound : ℕ) (ds : List Draft) (d : Draft) → DraftsBuilt bound ds → IsBuiltLate bound d.word d.late → DraftsBuilt bound (ds ++ d ∷ [])
-drafts_with bound [] d h k = (k, tt)
-drafts_with bound (e ∷ ds) d h k = (h.0, drafts_with bound ds d h.1 k)
+drafts_with : (may : ℕ → Bool) (ds : List Draft) (d : Draft) → DraftsBuilt may ds → IsBuiltLate may d.word d.late → DraftsBuilt may (ds ++ d ∷ [])
+drafts_with may [] d h k = (k, tt)
+drafts_with may (e ∷ ds) d h k = (h.0, drafts_with may ds d h.1 k)
 
 -- the table is the same, or has an entry of the new word more
-pub record Adds_word (r : Reading) (s : Scope) (vocab : List ℕ) (t : Tok) (first : Option NameFault) : Type 0 where
-  pub below : ScopeBelow (length r.words + 1) s
+pub record Adds_word (front : List WordDef) (r : Reading) (s : Scope) (vocab : List ℕ) (t : Tok) (first : Option NameFault) : Type 0 where
+  pub below : ScopeIn (is_found front (length r.words + 1)) s
   pub table : KeepsHeld r.scope.table s.table
   pub named : AreNamed (r.words ++ draft_of vocab t ∷ []) s.table
   pub first_before : first ≡ None → r.first ≡ None
 
-pub word_keeps : (r : Reading) (s : Scope) (vocab : List ℕ) (t : Tok) (first : Option NameFault) → Adds_word r s vocab t first → Keeps r (record r { scope = s; words = r.words ++ draft_of vocab t ∷ []; first = first })
-word_keeps r s vocab t first a = record { names = names_push r.words (draft_of vocab t); words = told_push r.words (draft_of vocab t); table = a.table; first = a.first_before }
+pub word_keeps : (front : List WordDef) (r : Reading) (s : Scope) (vocab : List ℕ) (t : Tok) (first : Option NameFault) → Adds_word front r s vocab t first → Keeps r (record r { scope = s; words = r.words ++ draft_of vocab t ∷ []; first = first })
+word_keeps front r s vocab t first a = record { names = names_push r.words (draft_of vocab t); words = told_push r.words (draft_of vocab t); table = a.table; first = a.first_before }
 
-pub with_word : (k c : ℕ) (r : Reading) (s : Scope) (vocab : List ℕ) (t : Tok) (first : Option NameFault) → Adds_word r s vocab t first → Counted (record r { scope = s; words = r.words ++ draft_of vocab t ∷ []; first = first }) → Built k c r → Built k c (record r { scope = s; words = r.words ++ draft_of vocab t ∷ []; first = first })
-with_word k c r s vocab t first a counted b =
+pub with_word : (k c : ℕ) (r : Reading) (s : Scope) (vocab : List ℕ) (t : Tok) (first : Option NameFault) (b : Built k c r) → Adds_word b.front r s vocab t first → Counted (record r { scope = s; words = r.words ++ draft_of vocab t ∷ []; first = first }) → Built k c (record r { scope = s; words = r.words ++ draft_of vocab t ∷ []; first = first })
+with_word k c r s vocab t first b a counted =
+    let front = b.front in
     let longer = length_push r.words (draft_of vocab t) in
-    let keeps = word_keeps r s vocab t first a in
+    let keeps = word_keeps front r s vocab t first a in
     record {
       some = omega (arith, longer);
-      scope = subst (λ (n : ℕ). ScopeBelow n s) (sym longer) a.below;
-      words = λ bound few. drafts_with bound r.words (draft_of vocab t) (b.words bound (omega (arith, longer, few))) tt;
+      front = front;
+      fronted = fronted_push front r.words (draft_of vocab t) refl b.fronted;
+      scope = subst (λ (n : ℕ). ScopeIn (is_found front n) s) (sym longer) a.below;
+      words = λ may covers. drafts_with may r.words (draft_of vocab t) (b.words may (covers_fewer front (length r.words) (length (r.words ++ draft_of vocab t ∷ [])) may (omega (arith, longer)) covers)) tt;
       ok = list_all-append (draft_ok k) r.words (draft_of vocab t ∷ []) ∙ and_true (list_all (draft_ok k) r.words) true b.ok refl;
-      top = λ bound few. b.top bound (omega (arith, longer, few));
-      main = λ bound few. b.main bound (omega (arith, longer, few));
+      top = λ may covers. b.top may (covers_fewer front (length r.words) (length (r.words ++ draft_of vocab t ∷ [])) may (omega (arith, longer)) covers);
+      main = λ may covers. b.main may (covers_fewer front (length r.words) (length (r.words ++ draft_of vocab t ∷ [])) may (omega (arith, longer)) covers);
       distinct = ap has_no_repeats (numbers_with r.words vocab t) ∙ b.distinct;
       old = b.old;
       own = b.own;
@@ -178,55 +198,55 @@ with_word k c r s vocab t first a counted b =
       named = a.named;
       accessors = accessors_kept r.scope.table s.table 0 (r.words ++ draft_of vocab t ∷ []) a.table (accessors_push r.scope.table 0 r.words (draft_of vocab t) refl b.accessors);
       held = λ none. held_through r (record r { scope = s; words = r.words ++ draft_of vocab t ∷ []; first = first }) keeps (b.held (a.first_before none));
-      arrays = λ bound few. b.arrays bound (omega (arith, longer, few));
+      arrays = λ may covers. b.arrays may (covers_fewer front (length r.words) (length (r.words ++ draft_of vocab t ∷ [])) may (omega (arith, longer)) covers);
       counted = counted;
     }
 
-pub wider : (n : ℕ) (s : Scope) → ScopeBelow n s → ScopeBelow (n + 1) s
-wider n s h = record { table = entries_more n (n + 1) s.table (omega arith) h.table; brought = brought_more n (n + 1) s.brought (omega arith) h.brought }
+pub wider : (front : List WordDef) (n : ℕ) (s : Scope) → ScopeIn (is_found front n) s → ScopeIn (is_found front (n + 1)) s
+wider front n s h = scope_more (is_found front n) (is_found front (n + 1)) s (found_more front n (n + 1) (omega arith)) h
 
-pub entered_word : (n : ℕ) (s : Scope) (vocab name : List ℕ) (b : Bool) → ScopeBelow n s → ScopeBelow (n + 1) (with_entry vocab name n b s)
-entered_word n s vocab name b h =
-    let more = wider n s h in
-    record { table = entries_with (n + 1) s.table (record { vocab = vocab; name = name; word = n; is_defined = b }) more.table (omega arith); brought = more.brought }
+pub entered_word : (front : List WordDef) (n : ℕ) (s : Scope) (vocab name : List ℕ) (b : Bool) → spares_past front n ≡ true → ScopeIn (is_found front n) s → ScopeIn (is_found front (n + 1)) (with_entry vocab name n b s)
+entered_word front n s vocab name b spared h =
+    let more = wider front n s h in
+    record { table = entries_with (is_found front (n + 1)) s.table (record { vocab = vocab; name = name; word = n; is_defined = b }) more.table (found_by front (n + 1) n (omega arith) spared); brought = more.brought }
 
 -- A word that is changed.
 
-length_changed : (f : Draft → Draft) (n : ℕ) (ds : List Draft) → length (changed f n ds) ≡ length ds
+pub length_changed : (f : Draft → Draft) (n : ℕ) (ds : List Draft) → length (changed f n ds) ≡ length ds
 length_changed f n [] = refl
 length_changed f zero (d ∷ ds) = refl
 length_changed f (suc n) (d ∷ ds) = ap suc (length_changed f n ds)
 
-drafts_changed : (bound : ℕ) (f : Draft → Draft) (n : ℕ) (ds : List Draft) → ((d : Draft) → IsBuiltLate bound d.word d.late → IsBuiltLate bound (f d).word (f d).late) → DraftsBuilt bound ds → DraftsBuilt bound (changed f n ds)
-drafts_changed bound f n [] keeps h = tt
-drafts_changed bound f zero (d ∷ ds) keeps h = (keeps d h.0, h.1)
-drafts_changed bound f (suc n) (d ∷ ds) keeps h = (h.0, drafts_changed bound f n ds keeps h.1)
+drafts_changed : (may : ℕ → Bool) (f : Draft → Draft) (n : ℕ) (ds : List Draft) → ((d : Draft) → IsBuiltLate may d.word d.late → IsBuiltLate may (f d).word (f d).late) → DraftsBuilt may ds → DraftsBuilt may (changed f n ds)
+drafts_changed may f n [] keeps h = tt
+drafts_changed may f zero (d ∷ ds) keeps h = (keeps d h.0, h.1)
+drafts_changed may f (suc n) (d ∷ ds) keeps h = (h.0, drafts_changed may f n ds keeps h.1)
 
 -- the place of a word is no part of what is built
-placed_sort : (bound : ℕ) (d : WordDef) (p : Place) (s : Sort) → IsSourceSort bound d s → IsSourceSort bound (record d { place = p }) s
-placed_sort bound d p (prim k) h = record { row = h.row; row_is = h.row_is; is_built = h.is_built; effect_is = h.effect_is; not_inline = h.not_inline; not_recursive = h.not_recursive }
-placed_sort bound d p (core k) h = record { row = h.row; row_is = h.row_is; effect_is = h.effect_is; not_inline = h.not_inline; not_recursive = h.not_recursive }
-placed_sort bound d p (body t) h = h
-placed_sort bound d p itself h = record { effect_is = h.effect_is; not_inline = h.not_inline; not_recursive = h.not_recursive }
-placed_sort bound d p (class c) h = record { effect_is = h.effect_is; not_inline = h.not_inline; not_recursive = h.not_recursive }
-placed_sort bound d p (isa c) h = record { effect_is = h.effect_is; not_inline = h.not_inline; not_recursive = h.not_recursive }
-placed_sort bound d p (getter s) h = record { effect_is = h.effect_is; not_inline = h.not_inline; not_recursive = h.not_recursive }
-placed_sort bound d p (setter s) h = record { effect_is = h.effect_is; not_inline = h.not_inline; not_recursive = h.not_recursive }
-placed_sort bound d p (putter s) h = record { effect_is = h.effect_is; not_inline = h.not_inline; not_recursive = h.not_recursive }
-placed_sort bound d p generic h = record { not_inline = h.not_inline; not_recursive = h.not_recursive }
-placed_sort bound d p (method c g t) h = (record { not_inline = h.0.not_inline; not_recursive = h.0.not_recursive }, h.1)
-placed_sort bound d p s h = absurd h
+placed_sort : (may : ℕ → Bool) (d : WordDef) (p : Place) (s : Sort) → IsSortOf may d s → IsSortOf may (record d { place = p }) s
+placed_sort may d p (prim k) h = record { row = h.row; row_is = h.row_is; is_built = h.is_built; effect_is = h.effect_is; not_inline = h.not_inline; not_recursive = h.not_recursive }
+placed_sort may d p (core k) h = record { row = h.row; row_is = h.row_is; effect_is = h.effect_is; not_inline = h.not_inline; not_recursive = h.not_recursive }
+placed_sort may d p (body t) h = h
+placed_sort may d p (past t) h = (record { not_inline = h.0.not_inline; not_recursive = h.0.not_recursive }, h.1)
+placed_sort may d p itself h = record { effect_is = h.effect_is; not_inline = h.not_inline; not_recursive = h.not_recursive }
+placed_sort may d p (class c) h = record { effect_is = h.effect_is; not_inline = h.not_inline; not_recursive = h.not_recursive }
+placed_sort may d p (isa c) h = record { effect_is = h.effect_is; not_inline = h.not_inline; not_recursive = h.not_recursive }
+placed_sort may d p (getter s) h = record { effect_is = h.effect_is; not_inline = h.not_inline; not_recursive = h.not_recursive }
+placed_sort may d p (setter s) h = record { effect_is = h.effect_is; not_inline = h.not_inline; not_recursive = h.not_recursive }
+placed_sort may d p (putter s) h = record { effect_is = h.effect_is; not_inline = h.not_inline; not_recursive = h.not_recursive }
+placed_sort may d p generic h = record { not_inline = h.not_inline; not_recursive = h.not_recursive }
+placed_sort may d p (method c g t) h = (record { not_inline = h.0.not_inline; not_recursive = h.0.not_recursive }, h.1)
 
-placed_body : (bound : ℕ) (d : WordDef) (p : Place) → IsLateBody bound d → IsLateBody bound (record d { place = p })
-placed_body bound d p h = record { built = placed_sort bound d p d.sort h.built; not_inline = h.not_inline; not_recursive = h.not_recursive }
+placed_body : (may : ℕ → Bool) (d : WordDef) (p : Place) → IsLateBody may d → IsLateBody may (record d { place = p })
+placed_body may d p h = record { built = placed_sort may d p d.sort h.built; not_inline = h.not_inline; not_recursive = h.not_recursive }
 
-placed_late : (bound : ℕ) (d : WordDef) (p : Place) (l : Late) → IsBuiltLate bound d l → IsBuiltLate bound (record d { place = p }) l
-placed_late bound d p settled h = placed_sort bound d p d.sort h
-placed_late bound d p deferred h = tt
-placed_late bound d p (maker r) h = placed_body bound d p h
-placed_late bound d p (method_of c g) h = placed_body bound d p h
+placed_late : (may : ℕ → Bool) (d : WordDef) (p : Place) (l : Late) → IsBuiltLate may d l → IsBuiltLate may (record d { place = p }) l
+placed_late may d p settled h = placed_sort may d p d.sort h
+placed_late may d p deferred h = tt
+placed_late may d p (maker r) h = placed_body may d p h
+placed_late may d p (method_of c g) h = placed_body may d p h
 
-ok_changed : (k : ℕ) (f : Draft → Draft) (n : ℕ) (ds : List Draft) → ((d : Draft) → draft_ok k d ≡ true → draft_ok k (f d) ≡ true) → list_all (draft_ok k) ds ≡ true → list_all (draft_ok k) (changed f n ds) ≡ true
+pub ok_changed : (k : ℕ) (f : Draft → Draft) (n : ℕ) (ds : List Draft) → ((d : Draft) → draft_ok k d ≡ true → draft_ok k (f d) ≡ true) → list_all (draft_ok k) ds ≡ true → list_all (draft_ok k) (changed f n ds) ≡ true
 ok_changed k f n [] keeps h = refl
 ok_changed k f zero (d ∷ ds) keeps h = let both = true_both (draft_ok k d) (list_all (draft_ok k) ds) h in and_true (draft_ok k (f d)) (list_all (draft_ok k) ds) (keeps d both.0) both.1
 ok_changed k f (suc n) (d ∷ ds) keeps h = let both = true_both (draft_ok k d) (list_all (draft_ok k) ds) h in and_true (draft_ok k d) (list_all (draft_ok k) (changed f n ds)) both.0 (ok_changed k f n ds keeps both.1)
@@ -238,19 +258,22 @@ moved r vocab name p n = record r { scope = record r.scope { table = now_defined
 pub moved_keeps : (r : Reading) (vocab name : List ℕ) (p : Place) (n : ℕ) → Keeps r (moved r vocab name p n)
 moved_keeps r vocab name p n = record { names = names_changed (at_place p) (λ d. refl) n r.words; words = told_placed p n r.words; table = held_defined r.scope.table vocab name; first = λ none. none }
 
-pub moved_built : (k c : ℕ) (r : Reading) (vocab name : List ℕ) (p : Place) (n : ℕ) → Counted (moved r vocab name p n) → Built k c r → Built k c (moved r vocab name p n)
-moved_built k c r vocab name p n counted b =
+pub moved_built : (k c : ℕ) (r : Reading) (vocab name : List ℕ) (p : Place) (n : ℕ) → ((d : Draft) → slice_get r.words n ≡ Some d → d.late ≡ deferred) → Counted (moved r vocab name p n) → Built k c r → Built k c (moved r vocab name p n)
+moved_built k c r vocab name p n untold counted b =
+    let front = b.front in
     let same = length_changed (at_place p) n r.words in
     let below = b.some in
     let keeps = moved_keeps r vocab name p n in
     let table = now_defined vocab name r.scope.table in
     record {
       some = omega (arith, same, below);
-      scope = subst (λ (m : ℕ). ScopeBelow m (record r.scope { table = table })) (sym same) (record { table = entries_defined (length r.words) vocab name r.scope.table b.scope.table; brought = b.scope.brought });
-      words = λ bound few. drafts_changed bound (at_place p) n r.words (λ d h. placed_late bound d.word p d.late h) (b.words bound (omega (arith, same, few)));
+      front = front;
+      fronted = fronted_changed front (at_place p) n r.words (λ d h. h) untold b.fronted;
+      scope = subst (λ (m : ℕ). ScopeIn (is_found front m) (record r.scope { table = table })) (sym same) (record { table = entries_defined (is_found front (length r.words)) vocab name r.scope.table b.scope.table; brought = b.scope.brought });
+      words = λ may covers. drafts_changed may (at_place p) n r.words (λ d h. placed_late may d.word p d.late h) (b.words may (covers_fewer front (length r.words) (length (changed (at_place p) n r.words)) may (omega (arith, same)) covers));
       ok = ok_changed k (at_place p) n r.words (λ d h. h) b.ok;
-      top = λ bound few. b.top bound (omega (arith, same, few));
-      main = λ bound few. b.main bound (omega (arith, same, few));
+      top = λ may covers. b.top may (covers_fewer front (length r.words) (length (changed (at_place p) n r.words)) may (omega (arith, same)) covers);
+      main = λ may covers. b.main may (covers_fewer front (length r.words) (length (changed (at_place p) n r.words)) may (omega (arith, same)) covers);
       distinct = ap has_no_repeats (numbers_placed p n r.words) ∙ b.distinct;
       old = b.old;
       own = b.own;
@@ -258,14 +281,15 @@ moved_built k c r vocab name p n counted b =
       named = named_kept r.words (changed (at_place p) n r.words) table keeps.names (named_defined r.words vocab name r.scope.table b.named);
       accessors = accessors_kept r.scope.table table 0 (changed (at_place p) n r.words) keeps.table (accessors_placed r.scope.table 0 p n r.words b.accessors);
       held = λ none. held_through r (moved r vocab name p n) keeps (b.held none);
-      arrays = λ bound few. b.arrays bound (omega (arith, same, few));
+      arrays = λ may covers. b.arrays may (covers_fewer front (length r.words) (length (changed (at_place p) n r.words)) may (omega (arith, same)) covers);
       counted = counted;
     }
 
 -- What a word is told to be.
-pub record IsTold (k : ℕ) (n : Numbered) (s : Sort) (e : Signature) (inline recursive : Bool) (late : Late) : Type 0 where
+pub record IsTold (front : List WordDef) (k : ℕ) (n : Numbered) (s : Sort) (e : Signature) (inline recursive : Bool) (late : Late) : Type 0 where
   pub no_primitive : (ks : List ℕ) → numbers_before s ks ≡ ks
-  pub built : (bound : ℕ) → length n.reading.words ≤ bound → (d : WordDef) → IsBuiltLate bound (record d { sort = s; effect = e; inline = inline; recursive = recursive }) late
+  pub new : is_new_sort s ≡ true
+  pub built : (may : ℕ → Bool) → Covers front (length n.reading.words) may → (d : WordDef) → IsBuiltLate may (record d { sort = s; effect = e; inline = inline; recursive = recursive }) late
   pub ok : ((class_in k s && late_in s late) && nat_le (name_count e) 65) ≡ true
   pub accessor : AccessorAt n.reading.scope.table n.word s
 
@@ -274,22 +298,25 @@ pub told_keeps : (n : Numbered) (s : Sort) (e : Signature) (inline recursive : B
 told_keeps n s e inline recursive late arrays first before begins =
     record { names = names_changed (with_told s e inline recursive late) (λ d. refl) n.word n.reading.words; words = told_other (with_told s e inline recursive late) n.word n.reading.words (λ d at. (begins.fresh.untold d at).1); table = held_same n.reading.scope.table; first = before }
 
-pub told_built : (k c : ℕ) (n : Numbered) (s : Sort) (e : Signature) (inline recursive : Bool) (late : Late) (arrays : List (List Lit)) (first : Option NameFault) → IsTold k n s e inline recursive late → (first ≡ None → n.reading.first ≡ None) →
-    ((bound : ℕ) → length n.reading.words ≤ bound → AreSourceArrays bound arrays) → Adds n.reading.arrays arrays (names_by s) → Begins n → Built k c n.reading → Built k c (told s e inline recursive late (record { word = n.word; reading = record n.reading { arrays = arrays; first = first } }))
-told_built k c n s e inline recursive late arrays first t before is_built adds begins b =
+pub told_built : (k c : ℕ) (n : Numbered) (s : Sort) (e : Signature) (inline recursive : Bool) (late : Late) (arrays : List (List Lit)) (first : Option NameFault) (b : Built k c n.reading) → IsTold b.front k n s e inline recursive late → (first ≡ None → n.reading.first ≡ None) →
+    ((may : ℕ → Bool) → Covers b.front (length n.reading.words) may → AreArraysOf may arrays) → Adds n.reading.arrays arrays (names_by s) → Begins n → Built k c (told s e inline recursive late (record { word = n.word; reading = record n.reading { arrays = arrays; first = first } }))
+told_built k c n s e inline recursive late arrays first b t before is_built adds begins =
     let r = n.reading in
     let w = n.word in
     let f = with_told s e inline recursive late in
+    let front = b.front in
     let same = length_changed f w r.words in
     let below = b.some in
     let keeps = told_keeps n s e inline recursive late arrays first before begins in
     record {
       some = omega (arith, same, below);
-      scope = subst (λ (m : ℕ). ScopeBelow m r.scope) (sym same) b.scope;
-      words = λ bound few. drafts_changed bound f w r.words (λ d is. t.built bound (omega (arith, same, few)) d.word) (b.words bound (omega (arith, same, few)));
+      front = front;
+      fronted = fronted_changed front f w r.words (λ d h. t.new) (λ d at. (begins.fresh.untold d at).1) b.fronted;
+      scope = subst (λ (m : ℕ). ScopeIn (is_found front m) r.scope) (sym same) b.scope;
+      words = λ may covers. (let fewer = covers_fewer front (length r.words) (length (changed f w r.words)) may (omega (arith, same)) covers in drafts_changed may f w r.words (λ d is. t.built may fewer d.word) (b.words may fewer));
       ok = ok_changed k f w r.words (λ d h. t.ok) b.ok;
-      top = λ bound few. b.top bound (omega (arith, same, few));
-      main = λ bound few. b.main bound (omega (arith, same, few));
+      top = λ may covers. b.top may (covers_fewer front (length r.words) (length (changed f w r.words)) may (omega (arith, same)) covers);
+      main = λ may covers. b.main may (covers_fewer front (length r.words) (length (changed f w r.words)) may (omega (arith, same)) covers);
       distinct = told_distinct f w r.words (λ d. t.no_primitive) b.distinct;
       old = b.old;
       own = b.own;
@@ -297,20 +324,20 @@ told_built k c n s e inline recursive late arrays first t before is_built adds b
       named = named_kept r.words (changed f w r.words) r.scope.table keeps.names b.named;
       accessors = accessors_told r.scope.table 0 w s f r.words (λ d. refl) (λ name is. subst (λ (m : ℕ). word_held r.scope.table (codes "accessors") name ≡ Some m) (let e : w ≡ w + 0 = omega arith in e) (t.accessor name is)) b.accessors;
       held = λ none. held_through r (told s e inline recursive late (record { word = n.word; reading = record n.reading { arrays = arrays; first = first } })) keeps (b.held (before none));
-      arrays = λ bound few. is_built bound (omega (arith, same, few));
+      arrays = λ may covers. is_built may (covers_fewer front (length r.words) (length (changed f w r.words)) may (omega (arith, same)) covers);
       counted = told_counted n s e inline recursive late arrays first adds begins;
     }
 
 -- The top-level phrase.
 
-pub with_top : (k c : ℕ) (r : Reading) (t : Phrase) (arrays : List (List Lit)) (first : Option NameFault) → (first ≡ None → r.first ≡ None) → ((bound : ℕ) → length r.words ≤ bound → IsSourcePhrase bound (append r.top t)) → ((bound : ℕ) → length r.words ≤ bound → AreSourceArrays bound arrays) → Adds r.arrays arrays (arrays_named t) →
-    Built k c r → Built k c (record r { top = append r.top t; arrays = arrays; first = first })
-with_top k c r t arrays first before h is_built adds b =
-    record { some = b.some; scope = b.scope; words = b.words; ok = b.ok; top = h; main = b.main; distinct = b.distinct; old = b.old; own = b.own; count = b.count; named = b.named; accessors = b.accessors; held = λ none. b.held (before none); arrays = is_built; counted = items_counted r t arrays first adds b.counted }
+pub with_top : (k c : ℕ) (r : Reading) (t : Phrase) (arrays : List (List Lit)) (first : Option NameFault) (b : Built k c r) → (first ≡ None → r.first ≡ None) → ((may : ℕ → Bool) → Covers b.front (length r.words) may → IsPhraseOf may (append r.top t)) → ((may : ℕ → Bool) → Covers b.front (length r.words) may → AreArraysOf may arrays) → Adds r.arrays arrays (arrays_named t) →
+    Built k c (record r { top = append r.top t; arrays = arrays; first = first })
+with_top k c r t arrays first b before h is_built adds =
+    record { some = b.some; front = b.front; fronted = b.fronted; scope = b.scope; words = b.words; ok = b.ok; top = h; main = b.main; distinct = b.distinct; old = b.old; own = b.own; count = b.count; named = b.named; accessors = b.accessors; held = λ none. b.held (before none); arrays = is_built; counted = items_counted r t arrays first adds b.counted }
 
-pub with_main : (k c : ℕ) (r : Reading) (t : Phrase) (first : Option NameFault) → (first ≡ None → r.first ≡ None) → ((bound : ℕ) → length r.words ≤ bound → IsSourcePhrase bound t) → arrays_named t ≡ [] → Built k c r → Built k c (record r { main = t; first = first })
-with_main k c r t first before h none b =
-    record { some = b.some; scope = b.scope; words = b.words; ok = b.ok; top = b.top; main = h; distinct = b.distinct; old = b.old; own = b.own; count = b.count; named = b.named; accessors = b.accessors; held = λ is_none. b.held (before is_none); arrays = b.arrays; counted = main_counted r t first none b.counted }
+pub with_main : (k c : ℕ) (r : Reading) (t : Phrase) (first : Option NameFault) (b : Built k c r) → (first ≡ None → r.first ≡ None) → ((may : ℕ → Bool) → Covers b.front (length r.words) may → IsPhraseOf may t) → arrays_named t ≡ [] → Built k c (record r { main = t; first = first })
+with_main k c r t first b before h none =
+    record { some = b.some; front = b.front; fronted = b.fronted; scope = b.scope; words = b.words; ok = b.ok; top = b.top; main = h; distinct = b.distinct; old = b.old; own = b.own; count = b.count; named = b.named; accessors = b.accessors; held = λ is_none. b.held (before is_none); arrays = b.arrays; counted = main_counted r t first none b.counted }
 
 -- A class more.
 
@@ -320,6 +347,8 @@ with_class k c r d first before few is_held b =
     let count = b.count in
     record {
       some = b.some;
+      front = b.front;
+      fronted = b.fronted;
       scope = b.scope;
       words = b.words;
       ok = b.ok;

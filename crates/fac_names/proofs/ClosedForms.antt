@@ -55,7 +55,7 @@ pub record Closed (r : Reading) : Type 0 where
 with_draft : (ds : List Draft) (d : Draft) → drafts_closed ds ≡ true → sort_closed d.word.sort ≡ true → drafts_closed (ds ++ d ∷ []) ≡ true
 with_draft ds d h k = list_all-append (λ (e : Draft). sort_closed e.word.sort) ds (d ∷ []) ∙ and_true (drafts_closed ds) (sort_closed d.word.sort && true) h (and_true (sort_closed d.word.sort) true k refl)
 
-with_changed : (f : Draft → Draft) (n : ℕ) (ds : List Draft) → ((d : Draft) → sort_closed d.word.sort ≡ true → sort_closed (f d).word.sort ≡ true) → drafts_closed ds ≡ true → drafts_closed (changed f n ds) ≡ true
+pub with_changed : (f : Draft → Draft) (n : ℕ) (ds : List Draft) → ((d : Draft) → sort_closed d.word.sort ≡ true → sort_closed (f d).word.sort ≡ true) → drafts_closed ds ≡ true → drafts_closed (changed f n ds) ≡ true
 with_changed f n [] keeps h = refl
 with_changed f zero (d ∷ ds) keeps h = let both = true_both (sort_closed d.word.sort) (drafts_closed ds) h in and_true (sort_closed (f d).word.sort) (drafts_closed ds) (keeps d both.0) both.1
 with_changed f (suc n) (d ∷ ds) keeps h = let both = true_both (sort_closed d.word.sort) (drafts_closed ds) h in and_true (sort_closed d.word.sort) (drafts_closed (changed f n ds)) both.0 (with_changed f n ds keeps both.1)
@@ -216,10 +216,10 @@ same_closed n ds w e deferred f = elim f [ ]
 same_closed n ds w e (maker q) (makes r t s is few) = refl
 same_closed n ds w e (method_of p q) (methods x y t c g d is less at called) = sym (ap sort_closed is)
 
-abbrev with_phrase : Sort → List Phrase → List Phrase
+abbrev pub with_phrase : Sort → List Phrase → List Phrase
 with_phrase s ts = elim s [ body t ↦ t ∷ ts | past t ↦ t ∷ ts | method c g t ↦ t ∷ ts | _ ↦ ts ]
 
-phrase_closed : (s : Sort) (ts : List Phrase) → list_all is_sound (with_phrase s ts) ≡ (sort_closed s && list_all is_sound ts)
+pub phrase_closed : (s : Sort) (ts : List Phrase) → list_all is_sound (with_phrase s ts) ≡ (sort_closed s && list_all is_sound ts)
 phrase_closed (body t) ts = refl
 phrase_closed (past t) ts = refl
 phrase_closed (method c g t) ts = refl

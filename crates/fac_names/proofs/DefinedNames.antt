@@ -15,7 +15,8 @@ use Rattle.fac_endings.specs.declared.draft.Draft.{Draft}
 use Rattle.fac_names.specs.Forms.{Numbered, Reading, added, at_place, changed, defined, defining, deferring, draft_of, in_table, own, refused}
 use Rattle.fac_names.proofs.ArrayReadings.{Begins, defining_begins, deferring_counted}
 use Rattle.fac_names.proofs.EntryLemmas.{exactly, first_found}
-use Rattle.fac_names.proofs.BuiltReadings.{Adds_word, Built, Keeps, entered_word, moved_built, moved_keeps, refused_built, wider, with_word, word_keeps}
+use Rattle.fac_names.proofs.BuiltReadings.{Adds_word, Built, Keeps, entered_word, moved_built, moved_keeps, refused_built, table_below, wider, with_word, word_keeps}
+use Rattle.fac_names.proofs.Fronts.{new_spared}
 use Rattle.fac_names.proofs.HeldNames.{held_defined, held_new, held_same, held_with, kept_then, named_found, named_kept, named_with, names_push, told_same}
 
 -- First refusals.
@@ -73,20 +74,20 @@ name_there ds w name None at h = absurd (cc)
 name_there ds w name (Some d) at h = (d, at, (let same : d.word.name ≡ name = cc in same))
 
 -- a new word, with an entry or with none
-with_entry_word : (r : Reading) (vocab : List ℕ) (t : Tok) (b : Bool) (k c : ℕ) → Built k c r → Adds_word r (with_entry vocab t.text (length r.words) b r.scope) vocab t r.first
+with_entry_word : (r : Reading) (vocab : List ℕ) (t : Tok) (b : Bool) (k c : ℕ) (built : Built k c r) → Adds_word built.front r (with_entry vocab t.text (length r.words) b r.scope) vocab t r.first
 with_entry_word r vocab t b k c built =
     let e : Entry = record { vocab = vocab; name = t.text; word = length r.words; is_defined = b } in
     record {
-      below = entered_word (length r.words) r.scope vocab t.text b built.scope;
+      below = entered_word built.front (length r.words) r.scope vocab t.text b (new_spared built.front r.words built.fronted) built.scope;
       table = held_with r.scope.table e;
       named = named_with (r.words ++ draft_of vocab t ∷ []) r.scope.table e (named_kept r.words (r.words ++ draft_of vocab t ∷ []) r.scope.table (names_push r.words (draft_of vocab t)) built.named) (ap (option_map (λ (d : Draft). d.word.name)) (last_at r.words (draft_of vocab t)));
       first_before = λ none. none;
     }
 
-pub with_no_entry : (r : Reading) (vocab : List ℕ) (t : Tok) (first : Option NameFault) (k c : ℕ) → (first ≡ None → r.first ≡ None) → Built k c r → Adds_word r r.scope vocab t first
+pub with_no_entry : (r : Reading) (vocab : List ℕ) (t : Tok) (first : Option NameFault) (k c : ℕ) → (first ≡ None → r.first ≡ None) → (built : Built k c r) → Adds_word built.front r r.scope vocab t first
 with_no_entry r vocab t first k c before built =
     record {
-      below = wider (length r.words) r.scope built.scope;
+      below = wider built.front (length r.words) r.scope built.scope;
       table = held_same r.scope.table;
       named = named_kept r.words (r.words ++ draft_of vocab t ∷ []) r.scope.table (names_push r.words (draft_of vocab t)) built.named;
       first_before = before;
@@ -95,10 +96,10 @@ with_no_entry r vocab t first k c before built =
 pub new_defined : (k c : ℕ) (vocab : List ℕ) (t : Tok) (r : Reading) → holders r.scope.table vocab t.text ≡ [] → Built k c r → IsDefined k c r (in_table vocab t true (added vocab t r))
 new_defined k c vocab t r none b =
     let adds = with_entry_word r vocab t true k c b in
-    let begins = defining_begins vocab t r [] none b.scope.table b.counted in
+    let begins = defining_begins vocab t r [] none (table_below k c r b) b.counted in
     record {
-      built = with_word k c r _ vocab t r.first adds begins.counted b;
-      keeps = word_keeps r _ vocab t r.first adds;
+      built = with_word k c r _ vocab t r.first b adds begins.counted;
+      keeps = word_keeps b.front r _ vocab t r.first adds;
       begins = begins;
       name_held = λ is_none. record { draft = draft_of vocab t; at = last_at r.words (draft_of vocab t); held = held_new r.scope.table _ none };
     }
@@ -108,8 +109,8 @@ refused_defined k c vocab t r b begins =
     let first = sooner r.first (fault Twice t) in
     let adds = with_no_entry r vocab t first k c (none_before r.first (fault Twice t ∷ [])) b in
     record {
-      built = with_word k c r r.scope vocab t first adds begins.counted b;
-      keeps = word_keeps r r.scope vocab t first adds;
+      built = with_word k c r r.scope vocab t first b adds begins.counted;
+      keeps = word_keeps b.front r r.scope vocab t first adds;
       begins = begins;
       name_held = λ none. absurd (no_more r.first (fault Twice t) none);
     }
@@ -122,7 +123,7 @@ moved_defined k c vocab t r e others held b begins =
     let there = first_found vocab t.text r.scope.table e others held in
     let d = name_there r.words e.word (entry_name e) (slice_get r.words e.word) refl (named_found r.words (exactly e) r.scope.table e b.named there) in
     record {
-      built = moved_built k c r e.vocab e.name t.place e.word begins.counted b;
+      built = moved_built k c r e.vocab e.name t.place e.word (λ x at. (begins.fresh.untold (at_place t.place x) (changed_here (at_place t.place) e.word r.words x at)).1) begins.counted b;
       keeps = moved_keeps r e.vocab e.name t.place e.word;
       begins = begins;
       name_held = λ none. record {
@@ -136,7 +137,7 @@ moved_defined k c vocab t r e others held b begins =
 
 defining_built : (k c : ℕ) (vocab : List ℕ) (t : Tok) (r : Reading) (es : List Entry) → holders r.scope.table vocab t.text ≡ es → Built k c r → IsDefined k c r (defining vocab t r es)
 defining_built k c vocab t r [] held b = new_defined k c vocab t r held b
-defining_built k c vocab t r (e ∷ es) held b = one (list_any (λ (f : Entry). f.is_defined) (e ∷ es)) (defining_begins vocab t r (e ∷ es) held b.scope.table b.counted)
+defining_built k c vocab t r (e ∷ es) held b = one (list_any (λ (f : Entry). f.is_defined) (e ∷ es)) (defining_begins vocab t r (e ∷ es) held (table_below k c r b) b.counted)
   where
     one : (defined_is : Bool) → Begins (if defined_is then added vocab t (refused (fault Twice t ∷ []) r) else settled_name t r e) → IsDefined k c r (if defined_is then added vocab t (refused (fault Twice t ∷ []) r) else settled_name t r e)
     one true begins = refused_defined k c vocab t r b begins
@@ -149,5 +150,5 @@ pub own_built : (k c : ℕ) (t : Tok) (r : Reading) → Built k c r → IsDefine
 own_built k c t r b = defined_built k c (home r.scope) t r b
 
 pub deferring_built : (k c : ℕ) (t : Tok) (r : Reading) (es : List Entry) → Built k c r → Built k c (deferring t r es)
-deferring_built k c t r [] b = with_word k c r _ (home r.scope) t r.first (with_entry_word r (home r.scope) t false k c b) (deferring_counted t r [] b.scope.table b.counted) b
+deferring_built k c t r [] b = with_word k c r _ (home r.scope) t r.first b (with_entry_word r (home r.scope) t false k c b) (deferring_counted t r [] (table_below k c r b) b.counted)
 deferring_built k c t r (e ∷ es) b = refused_built k c r (sooner r.first (fault Twice t)) (none_before r.first (fault Twice t ∷ [])) b

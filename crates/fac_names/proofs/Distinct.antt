@@ -89,7 +89,7 @@ abbrev pub AccessorWords : List Entry → ℕ → List WordDef → Type 0
 AccessorWords table k [] = Unit {0}
 AccessorWords table k (d ∷ ds) = AccessorAt table k d.sort × AccessorWords table (suc k) ds
 
-accessor_at : (table : List Entry) (k i : ℕ) (ds : List WordDef) (x : WordDef) → AccessorWords table k ds → slice_get ds i ≡ Some x → AccessorAt table (i + k) x.sort
+pub accessor_at : (table : List Entry) (k i : ℕ) (ds : List WordDef) (x : WordDef) → AccessorWords table k ds → slice_get ds i ≡ Some x → AccessorAt table (i + k) x.sort
 accessor_at table k i [] x h at = absurd (cc)
 accessor_at table k zero (d ∷ ds) x h at =
     let same : d ≡ x = cc in
@@ -106,7 +106,7 @@ same_text x y h = (bytes_eq-Decides x y).0 h
 texts_differ : (x y : List ℕ) (i j : ℕ) → (x ≡ y → i ≡ j) → i < j → bytes_eq x y ≡ false
 texts_differ x y i j f less = by_test (bytes_eq x y) (λ e. not_less i j (f (same_text x y e)) less)
 
-abbrev alike_sorts : Sort → Sort → Bool
+abbrev pub alike_sorts : Sort → Sort → Bool
 alike_sorts s u =
     elim s [
       | prim j ↦ elim u [ prim k ↦ nat_eq j k | _ ↦ false ]
@@ -134,10 +134,10 @@ words_differ table ds once h =
 -- Classes.
 
 -- a class by its word
-record ClassAt (ds : List Draft) (table : List Entry) (name : FullName) (c : ℕ) : Type 0 where
-  word : ℕ
-  is_held : WordHeld ds table word c
-  name_is : is_held.draft.word.name ≡ name
+pub record ClassAt (ds : List Draft) (table : List Entry) (name : FullName) (c : ℕ) : Type 0 where
+  pub word : ℕ
+  pub is_held : WordHeld ds table word c
+  pub name_is : is_held.draft.word.name ≡ name
 
 the_same : {A : Type 0} (x y : A) → Some x ≡ Some y → x ≡ y
 the_same x y h = cc
@@ -169,7 +169,7 @@ new_at ds table k zero (x ∷ cs) c h at =
     (record { word = x.word; is_held = h.0; name_is = sym (ap name_of h.0.at) ∙ ap (λ (y : ClassDef). y.name) same })
 new_at ds table k (suc i) (x ∷ cs) c h at = subst (λ (n : ℕ). ClassAt ds table c.name n) (let e : suc k + i ≡ k + suc i = omega arith in e) (new_at ds table (suc k) i cs c h.1 at)
 
-class_at : (ds : List Draft) (table : List Entry) (k i : ℕ) (old : List ClassDef) (new : List NewClass) (c : ClassDef) → OldHeld ds table k old → NewHeld ds table (length old + k) new → slice_get (old ++ map (class_of ds) new) i ≡ Some c → ClassAt ds table c.name (k + i)
+pub class_at : (ds : List Draft) (table : List Entry) (k i : ℕ) (old : List ClassDef) (new : List NewClass) (c : ClassDef) → OldHeld ds table k old → NewHeld ds table (length old + k) new → slice_get (old ++ map (class_of ds) new) i ≡ Some c → ClassAt ds table c.name (k + i)
 class_at ds table k i [] new c h n at = new_at ds table k i new c (subst (λ (m : ℕ). NewHeld ds table m new) (let e : 0 + k ≡ k = omega arith in e) n) at
 class_at ds table k zero (x ∷ old) new c h n at = old_at ds table k 0 (x ∷ old) c h at
 class_at ds table k (suc i) (x ∷ old) new c h n at =

@@ -6,7 +6,8 @@ use Rattle.fac_endings.specs.declared.draft.Draft.{Draft}
 use Rattle.fac_lang.specs.declared.program.Sort.{Sort}
 use Rattle.fac_lang.specs.declared.program.Sort.TheVariants.{Prim as prim, Core as core, Body as body, Past as past, Itself as itself, Class as class, Isa as isa, Getter as getter, Setter as setter, Putter as putter, Generic as generic, Method as method}
 use Rattle.fac_names.specs.Forms.{changed, counted, is_class_sort, is_counted, one_more_if}
-use Rattle.fac_names.specs.Resolved.{as_earlier, past_sort}
+use Rattle.fac_lang.specs.LongerPrograms.{as_earlier as past_sort}
+use Rattle.fac_names.specs.Resolved.{as_earlier}
 use Rattle.fac_names.specs.inner.Counts.{Recounts}
 
 -- A word that is changed.

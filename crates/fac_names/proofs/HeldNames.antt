@@ -9,7 +9,7 @@ use Rattle.fac_base.specs.declared.place.Place.{Place}
 use Rattle.fac_lang.specs.declared.program.ClassDef.{ClassDef}
 use Rattle.fac_base.specs.declared.name.Name.{Name as FullName}
 use Rattle.fac_lang.specs.declared.program.Sort.{Sort}
-use Rattle.fac_lang.specs.declared.program.Sort.TheVariants.{Class as class, Getter as getter, Setter as setter, Putter as putter}
+use Rattle.fac_lang.specs.declared.program.Sort.TheVariants.{Class as class}
 use Rattle.fac_vocab.specs.declared.entry.Entry.{Entry}
 use Rattle.fac_vocab.specs.Scopes.{holders, now_defined, same_table, word_held}
 use Rattle.fac_items.specs.Items.{entry_name}
@@ -18,6 +18,7 @@ use Rattle.fac_endings.specs.declared.draft.Late.{Late}
 use Rattle.fac_endings.specs.declared.draft.Late.TheVariants.{Settled as settled, Deferred as deferred}
 use Rattle.fac_endings.specs.declared.draft.NewClass.{NewClass}
 use Rattle.fac_names.specs.Forms.{at_place, changed}
+pub use Rattle.fac_names.specs.KnownPrograms.{accessor_text}
 
 the_same : {A : Type 0} (x y : A) → Some x ≡ Some y → x ≡ y
 the_same x y h = cc
@@ -233,12 +234,6 @@ new_with ds table k [] c h is = (subst (WordHeld ds table c.word) (let e : k + 0
 new_with ds table k (x ∷ cs) c h is = (h.0, new_with ds table (suc k) cs c h.1 (subst (WordHeld ds table c.word) (let e : k + suc (length cs) ≡ suc k + length cs = omega arith in e) is))
 
 -- Accessors: their words are held under their names in their vocabulary.
-
-abbrev pub accessor_text : Sort → Option (List ℕ)
-accessor_text (getter s) = Some (s ++ codes ">>")
-accessor_text (setter s) = Some (codes ">>" ++ s)
-accessor_text (putter s) = Some (s ++ codes "<<")
-accessor_text _ = None
 
 abbrev pub AccessorAt : List Entry → ℕ → Sort → Type 0
 AccessorAt table w s = (name : List ℕ) → accessor_text s ≡ Some name → word_held table (codes "accessors") name ≡ Some w

@@ -1,5 +1,5 @@
 -- What there is before the first file is made of what sources have.
-use Rattle.std.proofs.Common.{◌≡◌, ◌+◌, ◌≤◌, ℕ, suc, List, [], ◌∷◌, ◌++◌, map, length, Option, Some, None, Bool, true, false, refl, ap, sym, ◌∙◌, subst, arith, length-append, append_assoc}
+use Rattle.std.proofs.Common.{◌≡◌, ◌+◌, ◌<◌, ◌≤◌, ℕ, suc, List, [], ◌∷◌, ◌++◌, map, length, Option, Some, None, Bool, true, false, refl, ap, sym, ◌∙◌, subst, arith, length-append, append_assoc, append-nil}
 use Rattle.std.specs.Prelude.{is_some, nat_lt, not, slice_get}
 use Rattle.std.specs.List.{list_all}
 use Rattle.std.specs.Option.{option_map}
@@ -7,16 +7,19 @@ use Rattle.std.proofs.lemmas.Bool.Decides.{Decides-ltb}
 use Rattle.std.proofs.lemmas.List.{length_push, length-map}
 use Rattle.fac_lang.specs.BuiltInClasses.{BuiltInClass, built_in_classes}
 use Rattle.fac_lang.specs.CoreWords.{WrittenCore, core_word, built_core_words}
-use Rattle.fac_lang.proofs.SourcePrograms.{AreSourceWords}
+use Rattle.fac_lang.proofs.SourcePrograms.{AreWordsOf}
 use Rattle.fac_names.proofs.PrimitiveNumbers.{has_no_repeats, primitive_numbers, words_in}
 use Rattle.fac_lang.specs.Primitives.{Primitive, built_primitives, built_primitive_words, prim_numbered, primitive_word, built_count, is_built_primitive}
 use Rattle.fac_lang.specs.Whole.{times_in}
+use Rattle.fac_lang.specs.declared.program.ClassDef.{ClassDef}
 use Rattle.fac_lang.specs.declared.program.WordDef.{WordDef}
 use Rattle.fac_source.specs.Toks.{number}
 use Rattle.fac_vocab.specs.declared.entry.Entry.{Entry}
 use Rattle.fac_vocab.specs.Scopes.{entries_from, word_held}
 use Rattle.fac_endings.specs.declared.draft.Draft.{Draft}
 use Rattle.fac_endings.proofs.Apart.{true_both}
+use Rattle.fac_endings.proofs.EarlierClasses.{is_kind, kinds_settled}
+use Rattle.fac_endings.proofs.EndedClasses.{is_new_sort}
 use Rattle.fac_names.specs.KnownWords.{class_word, class_words_from, classes_from, core_words_of, known_classes, known_words, predicates_if, primitives_from}
 use Rattle.fac_names.specs.Resolution.{first_reading, settled_draft}
 use Rattle.fac_names.proofs.ArrayReadings.{known_spared, named_in}
@@ -24,14 +27,15 @@ use Rattle.fac_names.proofs.EntryLemmas.{known_ascending}
 use Rattle.fac_names.proofs.ClosedForms.{Closed, drafts_closed}
 use Rattle.fac_names.proofs.BuiltForms.{BuiltUp, up}
 use Rattle.fac_names.proofs.BuiltReadings.{DraftsBuilt, draft_ok}
-use Rattle.fac_names.proofs.BuiltScopes.{EntriesBelow}
+use Rattle.fac_names.proofs.BuiltScopes.{EntriesIn}
+use Rattle.fac_names.proofs.Fronts.{Fronted, found_by, is_found, new_apart, new_spares, new_stand}
 use Rattle.fac_names.proofs.HeldNames.{AccessorsHeld, AreNamed, ClassHeld, OldHeld, accessor_text, name_at, no_accessor}
 
 -- Words.
 
-built_with : (bound : ℕ) (ds es : List WordDef) → AreSourceWords bound ds → AreSourceWords bound es → AreSourceWords bound (ds ++ es)
-built_with bound [] es h k = k
-built_with bound (d ∷ ds) es h k = (h.0, built_with bound ds es h.1 k)
+built_with : (may : ℕ → Bool) (ds es : List WordDef) → AreWordsOf may ds → AreWordsOf may es → AreWordsOf may (ds ++ es)
+built_with may [] es h k = k
+built_with may (d ∷ ds) es h k = (h.0, built_with may ds es h.1 k)
 
 -- the element behind these
 next_at : (ps rest : List Primitive) (p : Primitive) → slice_get (ps ++ p ∷ rest) (length ps) ≡ Some p
@@ -50,11 +54,11 @@ is_numbered ps rest p e =
     let count = sym (length-append ps (p ∷ rest)) ∙ ap length e in
     (Decides-ltb (length ps) (length built_primitives)).1 (omega (arith, count))
 
-primitives_built : (bound n : ℕ) (ps rest : List Primitive) → n ≡ length ps → ps ++ rest ≡ built_primitives → AreSourceWords bound (primitives_from n (map (λ (p : Primitive). p.word) rest))
-primitives_built bound n ps [] same e = tt
-primitives_built bound n ps (p ∷ rest) same e = (
+primitives_built : (may : ℕ → Bool) (n : ℕ) (ps rest : List Primitive) → n ≡ length ps → ps ++ rest ≡ built_primitives → AreWordsOf may (primitives_from n (map (λ (p : Primitive). p.word) rest))
+primitives_built may n ps [] same e = tt
+primitives_built may n ps (p ∷ rest) same e = (
   record { row = p.word; row_is = ap primitive_word same ∙ primitive_at ps rest p e; is_built = ap is_built_primitive same ∙ is_numbered ps rest p e; effect_is = refl; not_inline = refl; not_recursive = refl },
-  primitives_built bound (n + 1) (ps ++ p ∷ []) rest (let more = length_push ps p in omega (arith, same, more)) (append_assoc ps (p ∷ []) rest ∙ e),
+  primitives_built may (n + 1) (ps ++ p ∷ []) rest (let more = length_push ps p in omega (arith, same, more)) (append_assoc ps (p ∷ []) rest ∙ e),
 )
 
 -- the core words
@@ -62,25 +66,25 @@ abbrev AreCoreRows : List WrittenCore → Type 0
 AreCoreRows [] = Unit {0}
 AreCoreRows (row ∷ rows) = (core_word row.core ≡ Some row.word) × AreCoreRows rows
 
-cores_built : (bound : ℕ) (rows : List WrittenCore) → AreCoreRows rows → AreSourceWords bound (core_words_of rows)
-cores_built bound [] h = tt
-cores_built bound (row ∷ rows) h = (record { row = row.word; row_is = h.0; effect_is = refl; not_inline = refl; not_recursive = refl }, cores_built bound rows h.1)
+cores_built : (may : ℕ → Bool) (rows : List WrittenCore) → AreCoreRows rows → AreWordsOf may (core_words_of rows)
+cores_built may [] h = tt
+cores_built may (row ∷ rows) h = (record { row = row.word; row_is = h.0; effect_is = refl; not_inline = refl; not_recursive = refl }, cores_built may rows h.1)
 
-predicate_built : (bound k : ℕ) (row : BuiltInClass) (b : Bool) → AreSourceWords bound (predicates_if b row k)
-predicate_built bound k row true = (record { effect_is = refl; not_inline = refl; not_recursive = refl }, tt)
-predicate_built bound k row false = tt
+predicate_built : (may : ℕ → Bool) (k : ℕ) (row : BuiltInClass) (b : Bool) → AreWordsOf may (predicates_if b row k)
+predicate_built may k row true = (record { effect_is = refl; not_inline = refl; not_recursive = refl }, tt)
+predicate_built may k row false = tt
 
-classes_built : (bound k : ℕ) (rows : List BuiltInClass) → AreSourceWords bound (class_words_from k rows)
-classes_built bound k [] = tt
-classes_built bound k (row ∷ rows) =
-    (record { effect_is = refl; not_inline = refl; not_recursive = refl }, built_with bound (predicates_if row.has_predicate row k) (class_words_from (k + 1) rows) (predicate_built bound k row row.has_predicate) (classes_built bound (k + 1) rows))
+classes_built : (may : ℕ → Bool) (k : ℕ) (rows : List BuiltInClass) → AreWordsOf may (class_words_from k rows)
+classes_built may k [] = tt
+classes_built may k (row ∷ rows) =
+    (record { effect_is = refl; not_inline = refl; not_recursive = refl }, built_with may (predicates_if row.has_predicate row k) (class_words_from (k + 1) rows) (predicate_built may k row row.has_predicate) (classes_built may (k + 1) rows))
 
-known_built : (bound : ℕ) → AreSourceWords bound known_words
+known_built : (may : ℕ → Bool) → AreWordsOf may known_words
 unfolding known_words built_primitive_words
-known_built bound =
-    built_with bound (primitives_from 0 built_primitive_words ++ core_words_of built_core_words) (class_words_from 0 built_in_classes)
-    (built_with bound (primitives_from 0 built_primitive_words) (core_words_of built_core_words) (primitives_built bound 0 [] built_primitives refl refl) (cores_built bound built_core_words (refl, (refl, (refl, (refl, (refl, (refl, tt))))))))
-    (classes_built bound 0 built_in_classes)
+known_built may =
+    built_with may (primitives_from 0 built_primitive_words ++ core_words_of built_core_words) (class_words_from 0 built_in_classes)
+    (built_with may (primitives_from 0 built_primitive_words) (core_words_of built_core_words) (primitives_built may 0 [] built_primitives refl refl) (cores_built may built_core_words (refl, (refl, (refl, (refl, (refl, (refl, tt))))))))
+    (classes_built may 0 built_in_classes)
 
 known_distinct : has_no_repeats (primitive_numbers known_words) ≡ true
 unfolding known_words built_primitive_words
@@ -95,11 +99,11 @@ known_ok : list_all (draft_ok 12) (map settled_draft known_words) ≡ true
 unfolding known_words built_primitive_words
 known_ok = refl
 
-settled_built : (bound : ℕ) (ds : List WordDef) → AreSourceWords bound ds → DraftsBuilt bound (map settled_draft ds)
-settled_built bound [] h = tt
-settled_built bound (d ∷ ds) h = (h.0, settled_built bound ds h.1)
+pub settled_built : (may : ℕ → Bool) (ds : List WordDef) → AreWordsOf may ds → DraftsBuilt may (map settled_draft ds)
+settled_built may [] h = tt
+settled_built may (d ∷ ds) h = (h.0, settled_built may ds h.1)
 
-settled_words : (ds : List WordDef) → words_in (map settled_draft ds) ≡ ds
+pub settled_words : (ds : List WordDef) → words_in (map settled_draft ds) ≡ ds
 settled_words [] = refl
 settled_words (d ∷ ds) = ap (λ (es : List WordDef). d ∷ es) (settled_words ds)
 
@@ -110,9 +114,9 @@ first_names = refl
 
 -- Tables.
 
-entries_fit : (k n : ℕ) (ds : List WordDef) → k + length ds ≤ n → EntriesBelow n (entries_from k ds)
-entries_fit k n [] few = tt
-entries_fit k n (d ∷ ds) few = (omega (arith, few), entries_fit (k + 1) n ds (omega (arith, few)))
+entries_fit : (good : ℕ → Bool) (k n : ℕ) (ds : List WordDef) → ((w : ℕ) → w < n → good w ≡ true) → k + length ds ≤ n → EntriesIn good (entries_from k ds)
+entries_fit good k n [] each few = tt
+entries_fit good k n (d ∷ ds) each few = (each k (omega (arith, few)), entries_fit good (k + 1) n ds each (omega (arith, few)))
 
 name_behind : (before after : List WordDef) (d : WordDef) → name_at (map settled_draft (before ++ d ∷ after)) (length before) ≡ Some d.name
 name_behind [] after d = refl
@@ -166,26 +170,48 @@ known_count : length known_classes ≡ 12
 unfolding known_classes
 known_count = refl
 
+known_new : list_all (λ (d : WordDef). is_new_sort d.sort) known_words ≡ true
+unfolding known_words built_primitive_words
+known_new = refl
+
+known_kinds : list_all (λ (d : ClassDef). is_kind d.shape) known_classes ≡ true
+unfolding known_classes
+known_kinds = refl
+
+known_front : Fronted known_words (map settled_draft known_words)
+known_front =
+    record {
+      rest = [];
+      are = sym (append-nil (map settled_draft known_words));
+      new = refl;
+      first = new_spares known_words known_new 0;
+      methods = new_stand known_words known_words known_new;
+      apart = new_apart known_words known_new;
+    }
+
 pub first_built : BuiltUp first_reading
 first_built =
     let count = length-map known_words settled_draft in
     let some = (Decides-ltb 0 (length known_words)).0 known_some in
     let twelve = known_count in
+    let n = length (map settled_draft known_words) in
     up 12 first_reading (record {
       some = omega (arith, count, some);
-      scope = record { table = entries_fit 0 (length (map settled_draft known_words)) known_words (omega (arith, count)); brought = tt };
-      words = λ bound few. settled_built bound known_words (known_built bound);
+      front = known_words;
+      fronted = known_front;
+      scope = record { table = entries_fit (is_found known_words n) 0 n known_words (λ w lt. found_by known_words n w lt (new_spares known_words known_new w)) (omega (arith, count)); brought = tt };
+      words = λ may covers. settled_built may known_words (known_built may);
       ok = known_ok;
-      top = λ bound few. tt;
-      main = λ bound few. tt;
+      top = λ may covers. tt;
+      main = λ may covers. tt;
       distinct = ap (λ (ds : List WordDef). has_no_repeats (primitive_numbers ds)) (settled_words known_words) ∙ known_distinct;
-      old = refl;
+      old = kinds_settled known_classes known_kinds;
       own = refl;
       count = omega (arith, twelve);
       named = entries_named 0 [] known_words known_words refl refl;
       accessors = no_accessors (entries_from 0 known_words) 0 (map settled_draft known_words) known_plain;
       held = λ none. (known_held, tt);
-      arrays = λ bound few. tt;
+      arrays = λ may covers. tt;
       counted = record {
         ascending = known_ascending 0 known_words;
         spared = known_spared 0 (map settled_draft known_words) known_words;

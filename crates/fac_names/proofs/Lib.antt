@@ -15,6 +15,7 @@ pub mod BuiltScopes
 pub mod HeldNames
 pub mod BuiltPhrases
 pub mod PrimitiveNumbers
+pub mod Fronts
 pub mod BuiltReadings
 pub mod DefinedNames
 pub mod BuiltForms
@@ -26,6 +27,9 @@ pub mod Distinct
 pub mod WholePrograms
 pub mod Together
 pub mod BuiltPrograms
+pub mod GoingOn
+pub mod KnownBehind
+pub mod LongerPrograms
 pub mod TakenLemmas
 pub mod WrittenSources
 pub mod ExamplesOfNames

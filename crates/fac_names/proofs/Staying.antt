@@ -15,7 +15,6 @@ use Rattle.std.specs.Option.{option_map}
 use Rattle.fac_vocab.specs.declared.entry.Entry.{Entry}
 use Rattle.fac_vocab.specs.declared.brought.Brought.TheVariants.{Named as named, Prefixed as prefixed}
 use Rattle.fac_vocab.specs.Scopes.{Scope, begun, using_vocab, bringing, same_table, now_defined, holders, home, exists, word_held}
-use Rattle.fac_source.specs.declared.refusal.NameFault.{NameFault}
 use Rattle.fac_source.specs.declared.refusal.NameKind.TheVariants.{Unknown, Twice, NoVocab, TooMany}
 use Rattle.fac_source.specs.Refusals.{fault, fault_if}
 use Rattle.fac_items.specs.Items.{search_faults, ref}
@@ -27,10 +26,10 @@ use Rattle.fac_endings.specs.declared.draft.Draft.{Draft}
 use Rattle.fac_endings.specs.declared.draft.Named.{Named}
 use Rattle.fac_lang.specs.declared.program.WordDef.{WordDef}
 use Rattle.fac_items.specs.Readings.{read_forms}
-use Rattle.fac_names.specs.Resolved.{Known, beginning, as_past, program_of, answer, first_fault}
+use Rattle.fac_names.specs.Resolution.{settled_draft}
+use Rattle.fac_names.specs.Resolved.{program_of}
 use Rattle.fac_endings.specs.FinishedWords.{finished}
 use Rattle.fac_endings.specs.ClassTable.{classes_of}
-use Rattle.fac_names.specs.Laws.{IsKnown, KnownStays}
 use Rattle.fac_names.proofs.Growing.{read_for}
 
 -- Truth values.
@@ -62,7 +61,7 @@ not_there false false h k = refl
 none_some : {A : Type 0} {x : A} → None ≡ Some x → ⊥
 none_some {A} {x} h = none-some x h
 
-there_still : {A : Type 0} (xs ys : List A) (w : ℕ) (x : A) → slice_get xs w ≡ Some x → slice_get (xs ++ ys) w ≡ Some x
+pub there_still : {A : Type 0} (xs ys : List A) (w : ℕ) (x : A) → slice_get xs w ≡ Some x → slice_get (xs ++ ys) w ≡ Some x
 there_still [] ys w x h = absurd (none_some h)
 there_still (y ∷ xs) ys zero x h = h
 there_still (y ∷ xs) ys (suc w) x h = there_still xs ys w x h
@@ -243,32 +242,16 @@ file_at : {w : ℕ} {d : Draft} (keep : Bool) (r : Reading) (forms : List Form) 
 file_at keep r forms a =
     at_fold (λ q form. take form q) (λ q form b. form_at form q b) (read_forms forms) (if keep then r else scoped begun r) (at_if r (scoped begun r) keep a (alike r (scoped begun r) refl refl a))
 
-defined_spare : (w : ℕ) (es : List Entry) → list_all (λ e. e.is_defined) es ≡ true → all_spare w es ≡ true
+pub defined_spare : (w : ℕ) (es : List Entry) → list_all (λ e. e.is_defined) es ≡ true → all_spare w es ≡ true
 defined_spare w [] h = refl
 defined_spare w (e ∷ es) h =
     both (spares w e) (all_spare w es) (ap (λ b. b || not (nat_eq e.word w)) (left e.is_defined (list_all (λ f. f.is_defined) es) h)) (
     defined_spare w es (right e.is_defined (list_all (λ f. f.is_defined) es) h))
 
-abbrev settled_draft : WordDef → Draft
-settled_draft d = record { word = d; late = settled }
-
-beginning_at : (k : Known) → IsKnown k → (w : ℕ) (d : WordDef) → slice_get k.program.words w ≡ Some d → nat_eq k.program.top w ≡ false → At w (settled_draft d) (beginning k)
-beginning_at k known w d h top =
-    record {
-      is = elsewhere (λ e. as_past e.word) k.program.top (map settled_draft k.program.words) w top ∙ slice_get-map settled_draft k.program.words w ∙ ap (option_map settled_draft) h;
-      spared = defined_spare w k.scope.table known.all_defined;
-    }
-
 -- a word that is settled is finished
-finished_at : (keep : Bool) (r : Reading) (w : ℕ) (d : WordDef) → At w (settled_draft d) r → slice_get (program_of keep r).words w ≡ Some d
+pub finished_at : (keep : Bool) (r : Reading) (w : ℕ) (d : WordDef) → At w (settled_draft d) r → slice_get (program_of keep r).words w ≡ Some d
 finished_at keep r w d a =
     there_still (map (finished r.words (classes_of r.words r.old_classes r.classes)) r.words) _ w d (slice_get-map (finished r.words (classes_of r.words r.old_classes r.classes)) r.words w ∙ ap (option_map (finished r.words (classes_of r.words r.old_classes r.classes))) a.is)
 
-answered : (keep : Bool) (r : Reading) (o : Option NameFault) (q : Known) (w : ℕ) (d : WordDef) → At w (settled_draft d) r → answer keep r o ≡ Ok q → slice_get q.program.words w ≡ Some d
-answered keep r (Some f) q w d a h = absurd (true≢false (sym (ap (λ x. elim x [ Ok y ↦ true | Err e ↦ false ]) h)))
-answered keep r None q w d a h = sym (ap (λ x. elim x [ Ok y ↦ slice_get y.program.words w | Err e ↦ None ]) h) ∙ finished_at keep r w d a
-
-pub known_stays : KnownStays
-known_stays k q files keep known h w d hd top =
-    let r = fold (take_file keep) (beginning k) files in
-    answered keep r (first_fault r) q w d (at_fold (take_file keep) (λ s forms a. file_at keep s forms a) files (beginning k) (beginning_at k known w d hd top)) h
+pub files_at : {w : ℕ} {d : Draft} (keep : Bool) (files : List (List Form)) (r : Reading) → At w d r → At w d (fold (take_file keep) r files)
+files_at keep files r a = at_fold (take_file keep) (λ s forms b. file_at keep s forms b) files r a

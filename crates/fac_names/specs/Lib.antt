@@ -8,6 +8,7 @@ pub mod TakenForms
 pub mod TakenTexts
 pub mod SearchOrder
 pub mod Signs
+pub mod KnownPrograms
 pub mod Meanings
 pub mod Laws
 pub mod inner

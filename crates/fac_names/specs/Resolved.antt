@@ -2,9 +2,8 @@
 use Rattle.std.specs.Prelude.{List, [], ◌∷◌, map, fold, Option, Some, None, Result, Ok, Err, Bool, true, if◌then◌else◌}
 use Rattle.fac_lang.specs.RunningLaws.{append}
 use Rattle.fac_lang.specs.Phrases.{Phrase, end}
+use Rattle.fac_lang.specs.LongerPrograms.{as_earlier as earlier_sort}
 use Rattle.fac_lang.specs.declared.program.Program.{Program}
-use Rattle.fac_lang.specs.declared.program.Sort.{Sort}
-use Rattle.fac_lang.specs.declared.program.Sort.TheVariants.{Body as body, Past as past}
 use Rattle.fac_lang.specs.declared.program.WordDef.{WordDef}
 use Rattle.fac_source.specs.declared.refusal.NameFault.{NameFault}
 use Rattle.fac_items.specs.Written.{Form}
@@ -29,12 +28,8 @@ abbrev pub program_of : Bool → Reading → Program
 program_of keep r = program_in r.words r.old_classes r.classes r.arrays (top_phrase keep r)
 
 -- an earlier top-level phrase is kept as a word that no name finds
-abbrev pub past_sort : Sort → Sort
-past_sort (body t) = past t
-past_sort s = s
-
 abbrev pub as_past : WordDef → Draft
-as_past d = record { word = record d { sort = past_sort d.sort }; late = settled }
+as_past d = record { word = record d { sort = earlier_sort d.sort }; late = settled }
 
 abbrev pub as_earlier : Draft → Draft
 as_earlier d = as_past d.word

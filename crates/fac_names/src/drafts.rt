@@ -1,7 +1,8 @@
 //! Words as far as they are told.
 ghost use Rattle.std.specs.Prelude.{◌≡◌, ◌++◌, ◌∷◌, [], length, IfOk, OnOk};
 ghost use Rattle.fac_names.specs.Forms.{at_place, changed, counted, draft_of, is_class_sort, is_counted, one_more_if, with_told};
-ghost use Rattle.fac_names.specs.Resolved.{as_earlier, past_sort};
+ghost use Rattle.fac_lang.specs.LongerPrograms.{as_earlier as past_sort};
+ghost use Rattle.fac_names.specs.Resolved.{as_earlier};
 ghost use Rattle.fac_names.specs.inner.Counts.{Recounts};
 
 use fac_base::{Effect, Memory, Name, Place};

@@ -1,5 +1,5 @@
 //! Laws of names, each on the contract of a function that does nothing.
-ghost use Rattle.fac_names.specs.Laws.{FormsGrow, KnownStays};
+ghost use Rattle.fac_names.specs.Laws.{FilesAreKnown, FormsGrow, KnownGoesOn, KnownStays, SessionsBeginKnown};
 ghost use Rattle.fac_names.specs.Meanings.{FormsAreMeant};
 ghost use Rattle.fac_names.specs.Resolution.{ResolvedAreWhole};
 ghost use Rattle.fac_names.specs.SearchOrder.{FormsDefine, NamesAreFound, NamesKeepWords};
@@ -27,9 +27,25 @@ pub fn forms_keep_numbers()
     ensures { FormsGrow }
 {}
 
-/// The words that are known before files are resolved stay as they are under their numbers, but for the top-level phrase.
-pub fn known_words_stay()
+/// The words, arrays and classes of what is known before files are resolved come first in what the files come to, with its top-level phrase as an
+/// earlier one.
+pub fn known_programs_stay()
     ensures { KnownStays }
+{}
+
+/// What files come to belongs together: its scope finds words of its program alone, and this is whole.
+pub fn files_are_known()
+    ensures { FilesAreKnown }
+{}
+
+/// So it does where a session begins with it, in a scope that uses all vocabularies.
+pub fn sessions_begin_known()
+    ensures { SessionsBeginKnown }
+{}
+
+/// Whatever text goes on behind what belongs together, what it comes to belongs together, so its program is whole.
+pub fn known_goes_on()
+    ensures { KnownGoesOn }
 {}
 
 /// Behind forms of a file of which none is refused, also in the phrase of the next word, a name finds what it finds among these forms, from the

@@ -1,7 +1,8 @@
 use Rattle.std.proofs.Common.{ap, ◌∙◌}
 use Rattle.fac_lang.specs.declared.program.Sort.{Sort}
 use Rattle.fac_endings.specs.declared.draft.Late.TheVariants.{Settled}
-use Rattle.fac_names.specs.Resolved.{as_earlier, past_sort}
+use Rattle.fac_lang.specs.LongerPrograms.{as_earlier as past_sort}
+use Rattle.fac_names.specs.Resolved.{as_earlier}
 use Rattle.fac_names.proofs.DraftLemmas.{changed_at, unchanged}
 use Rattle.fac_names.proofs.drafts.retire_at.Goals as goal
 
