@@ -197,6 +197,9 @@ class Case:
         for number, words in enumerate([self.words, *self.others]):
             told.append(b"@then " * (number > 0) + b"@words " * (number == 0) + b" ".join(word.encode() or b"''" for word in words))
         told += [b"@codes " + numbers_of(self.given)] if self.given else []
+        told += [b"@loads " + numbers_of(self.fails)] if self.fails else []
+        told += [b"@reads " + numbers_of(self.reads)] if self.reads else []
+        told += [b"@output %d %d" % fail for fail in self.output.items()] + [b"@note %d %d" % fail for fail in self.note.items()]
         for name, given in self.sources.items():
             told += ([] if name == "a" else [b"@file " + name.encode()]) + ([b"@bytes " + numbers_of(given)] if given else [])
         return b"\n".join(told) + b"\n\n"
@@ -205,7 +208,7 @@ class Case:
         """What the model says that is to be told; None where the case is left out."""
         if self.left_out:
             return None
-        files = Files(self.sources, self.fails)
+        files = Files(dict(self.sources), self.fails)
         told = []
         for words in [self.words, *self.others]:
             told += self.answered_call(words, files)
@@ -258,9 +261,9 @@ class Case:
         raise ValueError(f"{words} takes more than {MOST_TICKS} ticks, and a device fails")
 
 
-def numbers_of(given):
-    """The numbers of bytes, as a line has them."""
-    return b" ".join(b"%d" % byte for byte in given)
+def numbers_of(numbers):
+    """Numbers, as a line has them."""
+    return b" ".join(b"%d" % number for number in numbers)
 
 
 def place_of_fault(given):
