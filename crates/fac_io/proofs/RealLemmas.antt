@@ -15,6 +15,6 @@ loads_file left (Some file) limit (Err load.Failed) h = tt
 loads_file left (Some file) limit (Err load.Memory) h = tt
 
 -- where a save is done, a file was made
-pub saved_whole : {F A E : Type 0} (held : F → Option (List ℕ)) (made : Option F) (bytes : List ℕ) (done : A) → SavesOpened {E = E} held made bytes (Ok done) → (file written : F) × Grows (held file) (held written) bytes
-saved_whole held None bytes done h = absurd h
+pub saved_whole : {F A : Type 0} (held : F → Option (List ℕ)) (made : Option F) (bytes : List ℕ) (done : A) → SavesOpened held made bytes (Ok done) → (file written : F) × Grows (held file) (held written) bytes
+saved_whole held None bytes done h = absurd (cc)
 saved_whole held (Some file) bytes done h = (file, h.0, h.1)

@@ -1,5 +1,5 @@
 -- What the real files give and take, by what the readers and writers under them tell, and how the real forms count.
-use Rattle.std.specs.Prelude.{◌≡◌, ◌<◌, ◌≤◌, ℕ, List, length, Result, Ok, Err, ⊤, ⊥, IfSome}
+use Rattle.std.specs.Prelude.{◌≡◌, ◌<◌, ◌≤◌, ℕ, List, length, Result, Ok, Err, ⊤, IfSome}
 use Rattle.std.specs.declared.option.Option.{Option}
 use Rattle.fac_io.specs.declared.files.LoadFault.{LoadFault}
 use Rattle.fac_io.specs.declared.files.LoadFault.TheVariants as load

@@ -3,6 +3,7 @@ use Rattle.std.specs.Prelude.{◌≡◌, ℕ, ◌<◌, ◌≤◌, List, length, 
 use Rattle.std.specs.declared.option.Option.{Option}
 use Rattle.fac_io.specs.declared.files.LoadFault.{LoadFault}
 use Rattle.fac_io.specs.declared.files.LoadFault.TheVariants as load
+use Rattle.fac_io.specs.declared.source.Failed.{Failed}
 use Rattle.fac_io.specs.Real.{ReadsUpTo}
 use Rattle.fac_io.specs.Told.{Grows, GrowsByPrefix}
 
@@ -12,7 +13,7 @@ LoadsOpened left (Some file) limit result = ReadsUpTo (left file) limit result
 LoadsOpened left None limit result = result ≡ Err load.Failed
 
 -- what is written to what the making of a file came to: all bytes, or at a fault a front of them
-abbrev pub SavesOpened : {F A E : Type 0} → (F → Option (List ℕ)) → Option F → List ℕ → Result A E → Type 0
+abbrev pub SavesOpened : {F A : Type 0} → (F → Option (List ℕ)) → Option F → List ℕ → Result A Failed → Type 0
 SavesOpened {F} held (Some file) bytes (Ok done) = (written : F) × Grows (held file) (held written) bytes
 SavesOpened {F} held (Some file) bytes (Err fault) = (written : F) × GrowsByPrefix (held file) (held written) bytes
 SavesOpened held None bytes result = IsErr result
