@@ -69,23 +69,23 @@ class InputFault(Exception):
 
 
 class Input:
-    """An input of these bytes, of which the reads with these numbers fail. No line is lost by that."""
+    """An input of these bytes, of which the reads with these numbers fail. No line is lost by that. Behind the end nothing is read any more."""
 
     def __init__(self, given, fails):
         self.coming = io.BytesIO(given)
         self.fails = fails
         self.reads = 0
         self.held = b""
+        self.ended = False
 
     def readline(self, most):
         """The next line with its newline, or so many of its bytes; nothing at the end."""
-        while b"\n" not in self.held[:most] and len(self.held) < most:
+        while not self.ended and b"\n" not in self.held[:most] and len(self.held) < most:
             self.reads += 1
             if self.reads in self.fails:
                 raise InputFault
             read = self.coming.read(MOST_READ_BYTES)
-            if not read:
-                break
+            self.ended = not read
             self.held += read
         end = self.held.find(b"\n", 0, most) + 1 or most
         line, self.held = self.held[:end], self.held[end:]

@@ -65,7 +65,7 @@ class Program:
                 answer = model.answer_of_run(self.top, ticks, stream)
             except cases.InputFault:
                 answer = None
-            self.kept[ticks, reads] = answer, (stream.coming.read(), stream.held, stream.reads)
+            self.kept[ticks, reads] = answer, (stream.coming.read(), stream.held, stream.reads, stream.ended)
         return self.kept[ticks, reads]
 
     def answer_to(self, words, files, stream, ticks=None):
@@ -79,7 +79,7 @@ class Program:
             return model.Answer(model.FILE_FAULT, "file fault", f"file: {saved}\n")
         if name in ("build", "check"):
             return self.checked if name == "check" else model.Answer(model.DONE, "built")
-        answer, (coming, stream.held, stream.reads) = self.answer(self.whole.ticks if ticks is None else ticks, stream.fails)
+        answer, (coming, stream.held, stream.reads, stream.ended) = self.answer(self.whole.ticks if ticks is None else ticks, stream.fails)
         stream.coming = io.BytesIO(coming)
         if answer is not None and "--stack" in words and answer.status == model.DONE:
             return dataclasses.replace(answer, output=answer.output + "".join(text + "\n" for text in answer.stack))
@@ -142,7 +142,7 @@ def programs_of(seed, wanted, most_ticks, kinds):
         if found == wanted:
             break
         command = model.read_words(case.words)
-        if command is None or command.name != "run" or len(set(command.files)) < len(command.files):
+        if command is None or command.name != "run" or sorted(command.files) != sorted(case.files):
             continue
         try:
             program = Program(case, most_ticks)
