@@ -1,6 +1,6 @@
 -- The laws of the bytes of instructions, of each operand and of each row.
 use Rattle.std.proofs.Common.{◌≡◌, ℕ, zero, suc, ◌-◌, ◌^◌, ◌<◌, Bool, true, false, List, ◌++◌, Option, Some, None, refl, sym, ap, subst, ◌∙◌, arith, append_assoc}
-use Rattle.std.specs.Prelude.{nat_eq, MatchBool}
+use Rattle.std.specs.Prelude.{nat_eq}
 use Rattle.std.proofs.lemmas.Bool.{ne_eqb}
 use Rattle.std.proofs.lemmas.Bool.Decides.{Decides-ltb}
 use Rattle.fac_lang.specs.Primitives.{built_count}
@@ -108,7 +108,7 @@ parts_back p h =
 pub instr_exact : Exact instr
 instr_exact = seen_exact parts_of (λ (p : Parts). made p.0 p.1.0 p.1.1) parts parts_exact (λ i _. made_again i) parts_back
 
--- ---- what was written and tested by the row
+-- ---- what was written by the row, and what has a spelling by it
 
 -- the bytes by the row
 spelled : (i : Instr) → instr.spell i ≡ shortest (row_of i).code ++ (operand_bytes (row_of i).operand ++ tail_bytes (row_of i).tail)
@@ -150,8 +150,9 @@ unfolding makers
 flag_fits Halt h = h
 flag_fits _ h = h
 
-pub instr_says :
-    (i : Instr) (b : Bool) → MatchBool b ((operand (row_of i).operand).Fits (row_of i).operand) ((operand (row_of i).operand).Fits (row_of i).operand → ⊥) →
-    MatchBool b (instr.Fits i) (instr.Fits i → ⊥)
-instr_says i true h = (code_fits i, (own_fits i h, flag_fits i (tail_fits (row_of i).tail)))
-instr_says i false h = λ fits. h (own_alone i fits.1.0)
+pub instr_fits : (i : Instr) → (operand (row_of i).operand).Fits (row_of i).operand → instr.Fits i
+instr_fits i h = (code_fits i, (own_fits i h, flag_fits i (tail_fits (row_of i).tail)))
+
+-- what an instruction that has a spelling is given has one
+pub operand_fits_so : (i : Instr) → instr.Fits i → (operand (row_of i).operand).Fits (row_of i).operand
+operand_fits_so i h = own_alone i h.1.0

@@ -1,31 +1,17 @@
--- What `encode` and `decode` answer, by cases.
+-- What `spelled_length` and `decode` answer.
 use Rattle.std.specs.Prelude.{◌≡◌, ℕ, List, length, Result, Ok, Err}
 use Rattle.fac_code.specs.declared.image.Image.{Image}
 use Rattle.fac_spelling.specs.Whole.{Spells}
 use Rattle.fac_bytes.specs.declared.parts.ImageParts.{ImageParts}
-use Rattle.fac_bytes.specs.declared.encoding.EncodeFault.{EncodeFault}
-use Rattle.fac_bytes.specs.declared.encoding.EncodeFault.TheVariants as encoding
 use Rattle.fac_bytes.specs.declared.decoding.DecodeFault.{DecodeFault}
 use Rattle.fac_bytes.specs.declared.decoding.DecodeFault.TheVariants as decoding
 use Rattle.fac_bytes.specs.ImageBytes.{image, parts_of}
-
--- the bytes are the image's, or it has none
-abbrev pub Encodes : Image → Result (List ℕ) EncodeFault → Type 0
-Encodes M (Ok bytes) = Spells image bytes (parts_of M)
-Encodes M (Err encoding.Memory) = Unit {0}
-Encodes M (Err encoding.NoSpelling) = image.Fits (parts_of M) → ⊥
 
 -- the image's bytes are so many
 pub record IsLength (M : Image) (count : ℕ) : Type 0 where
   pub bytes : List ℕ
   pub spelled : Spells image bytes (parts_of M)
   pub same : count ≡ length bytes
-
--- so many bytes are the image's, or it has none
-abbrev pub Measures : Image → Result ℕ EncodeFault → Type 0
-Measures M (Ok count) = IsLength M count
-Measures M (Err encoding.Memory) = Unit {0}
-Measures M (Err encoding.NoSpelling) = image.Fits (parts_of M) → ⊥
 
 -- the image is such a one
 abbrev pub IsFound : Result Image DecodeFault → (Image → Type 0) → Type 0

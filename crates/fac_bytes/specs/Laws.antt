@@ -1,6 +1,7 @@
 -- What the laws of images as bytes say.
 use Rattle.std.specs.Prelude.{◌≡◌, ℕ, List}
 use Rattle.fac_code.specs.declared.image.Image.{Image}
+use Rattle.fac_bytes.specs.Spellable.{IsSpellable}
 use Rattle.fac_spelling.specs.Whole.{Spells, SpellsBy}
 use Rattle.fac_bytes.specs.declared.parts.ImageParts.{ImageParts}
 use Rattle.fac_bytes.specs.ImageBytes.{image, are_image, parts_of}
@@ -16,3 +17,7 @@ EncodedIsDecoded = (bytes : List ℕ) (M : Image) → Spells image bytes (parts_
 -- and of these alone
 abbrev pub DecodedIsEncoded : Type 0
 DecodedIsEncoded = (bytes : List ℕ) (M : Image) (P : ImageParts) → Spells image bytes (parts_of M) → SpellsBy image are_image bytes P → P ≡ parts_of M
+
+-- an image with bytes keeps what `encode` asks of it
+abbrev pub SpelledAreSpellable : Type 0
+SpelledAreSpellable = (bytes : List ℕ) (M : Image) → Spells image bytes (parts_of M) → IsSpellable M

@@ -1,6 +1,9 @@
 pub mod InstructionBytes
 pub mod RowBytes
 pub mod GenericBytes
+pub mod Spellable
+pub mod Ascending
+pub mod Keeping
 pub mod ImageBytes
 pub mod Answers
 pub mod Laws

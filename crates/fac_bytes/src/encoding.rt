@@ -1,50 +1,27 @@
 //! An image as bytes.
-ghost use Rattle.std.specs.Prelude.{◌≡◌, ◌++◌, IfOk, MatchBool, OnOk};
-ghost use Rattle.fac_spelling.specs.Lists.{counted};
-ghost use Rattle.fac_bytes.specs.InstructionBytes.{instr};
+ghost use Rattle.std.specs.Prelude.{◌≡◌, ◌++◌, IfOk, OnOk};
+ghost use Rattle.fac_bytes.specs.Spellable.{IsSpellable};
+ghost use Rattle.fac_spelling.specs.Whole.{Spells};
 ghost use Rattle.fac_bytes.specs.ImageBytes.{image as image_format, parts_of};
-ghost use Rattle.fac_bytes.specs.Answers.{Encodes, Measures};
+ghost use Rattle.fac_bytes.specs.Answers.{IsLength};
 
 use crate::counting::length_of;
-use crate::part::{list_has_spelling, write_list};
+use crate::part::{list_fits, write_list};
 use crate::parts::FIRST_BYTES;
-use crate::tables::{tables_have_spelling, write_tables};
+use crate::tables::{tables_fit, write_tables};
 use fac_base::{Bytes, Memory};
 use fac_code::Image;
 use fac_spelling::{number_fits, write_fixed, write_number};
 use std::alloc::Global;
-use thiserror::Error;
 
-/// Why an image isn't made bytes.
-#[derive(Clone, Copy, Debug, PartialEq, Eq, Error)]
-pub enum EncodeFault {
-    /// Memory ran out.
-    #[error("out of memory")]
-    Memory,
-    /// The image has no bytes, as where a text has 2^32 bytes or more, or two methods have one number.
-    #[error("the image has no bytes")]
-    NoSpelling,
-}
-
-impl From<Memory> for EncodeFault {
-    ghost use Rattle.fac_bytes.specs.declared.encoding.EncodeFault.TheVariants.{Memory};
-
-    ghost from_gives = { λ _ fault. fault ≡ Memory };
-
-    fn from(_: Memory) -> Self {
-        EncodeFault::Memory
-    }
-}
-
-// Whether an image has a spelling.
-fn has_spelling(alloc: Global, image: &Image) -> Result<bool, Memory>
-    ensures { IfOk result (λ fits. MatchBool fits (image_format.Fits (parts_of image.now)) (image_format.Fits (parts_of image.now) → ⊥)) }
+// An image has a spelling.
+fn image_fits(image: &Image)
+    requires { IsSpellable image.now }
+    ensures { image_format.Fits (parts_of image.now) }
 {
+    tables_fit(image);
+    list_fits(&image.code);
     number_fits(image.start);
-    if !tables_have_spelling(alloc, image)? {
-        return Ok(false);
-    }
-    Ok(list_has_spelling(&image.code))
 }
 
 // Adds an image's bytes.
@@ -59,26 +36,24 @@ fn write(image: &Image, out: &mut Bytes) -> Result<(), Memory>
     write_number(out, u128::from(image.start))
 }
 
-/// The image's bytes.
-pub fn encode(alloc: Global, image: &Image) -> Result<Bytes, EncodeFault>
-    ensures { Encodes image.now result }
+/// The image's bytes. Want of memory is the one error.
+pub fn encode(alloc: Global, image: &Image) -> Result<Bytes, Memory>
+    requires { IsSpellable image.now }
+    ensures { IfOk result (λ bytes. Spells image_format bytes (parts_of image.now)) }
 {
-    if !has_spelling(alloc, image)? {
-        return Err(EncodeFault::NoSpelling);
-    }
+    image_fits(image);
     let mut bytes = Bytes::new(alloc);
     write(image, &mut bytes)?;
     Ok(bytes)
 }
 
 /// How many bytes `encode` would answer, which aren't made: the memory that this takes is that of the largest part of the image, as a text or
-/// an instruction.
-pub fn spelled_length(alloc: Global, image: &Image) -> Result<u64, EncodeFault>
-    ensures { Measures image.now result }
+/// an instruction. Want of memory is the one error.
+pub fn spelled_length(alloc: Global, image: &Image) -> Result<u64, Memory>
+    requires { IsSpellable image.now }
+    ensures { IfOk result (IsLength image.now) }
 {
-    if !has_spelling(alloc, image)? {
-        return Err(EncodeFault::NoSpelling);
-    }
+    image_fits(image);
     let length = length_of(alloc, image)?;
     Ok(length)
 }

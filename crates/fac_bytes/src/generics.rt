@@ -1,11 +1,13 @@
 //! Generics as bytes. The numbers of methods differ over the image.
-ghost use Rattle.std.specs.Prelude.{◌≡◌, ◌++◌, ◌∷◌, [], length, IfOk, MatchBool, OnOk};
+ghost use Rattle.std.specs.Prelude.{◌≡◌, ◌++◌, ◌∷◌, [], length, nat_eq, true, IfOk, OnOk};
+ghost use Rattle.std.specs.List.{IsDistinct};
+ghost use Rattle.fac_bytes.specs.Spellable.{method_numbers};
 ghost use Rattle.fac_spelling.specs.Formats.{each};
 ghost use Rattle.fac_spelling.specs.Numbers.{number32, greatest32};
 ghost use Rattle.fac_spelling.specs.Reads.{Gives};
 ghost use Rattle.fac_bytes.specs.GenericBytes.{method_in, method, methods as methods_format, method_room as room_of, generic_in, generic, numbers_of, generics_from, generics};
 
-use crate::part::{Writable, write_list};
+use crate::part::{Writable, list_fits, write_list};
 use fac_base::{Bytes, List, Memory};
 use fac_code::{GenericRow, MethodRow};
 use fac_spelling::{ReadFault, TakenNumbers, number_fits, read_number, write_number};
@@ -106,6 +108,14 @@ pub fn read_generics(alloc: Global, bytes: &[u8]) -> Result<(List<GenericRow>, &
 impl Writable for MethodRow {
     ghost format = { method_in number32 };
 
+    ghost keeps = { λ _. true };
+
+    fn fits(&self) {
+        number_fits(self.number);
+        number_fits(self.set);
+        number_fits(self.entry);
+    }
+
     fn write(&self, out: &mut Bytes) -> Result<(), Memory> {
         write_number(out, u128::from(self.number))?;
         write_number(out, u128::from(self.set))?;
@@ -116,6 +126,13 @@ impl Writable for MethodRow {
 #[tactic(auto, using(std::proofs::lemmas::List::append_assoc))]
 impl Writable for GenericRow {
     ghost format = { generic_in greatest32 (λ n. each n (method_in number32)) };
+
+    ghost keeps = { λ _. true };
+
+    fn fits(&self) {
+        number_fits(self.word);
+        list_fits(&self.methods);
+    }
 
     fn write(&self, out: &mut Bytes) -> Result<(), Memory> {
         write_number(out, u128::from(self.word))?;
@@ -131,62 +148,10 @@ pub fn write_generics(rows: &List<GenericRow>, out: &mut Bytes) -> Result<(), Me
     write_list(rows, out)
 }
 
-// Whether a method has a spelling. Its number is taken then.
-fn method_has_spelling(row: &MethodRow, taken: &mut TakenNumbers) -> Result<bool, Memory>
-    ensures tells { IfOk result (λ fits. MatchBool fits ((method taken.old).Fits row.now) ((method taken.old).Fits row.now → ⊥)) }
-    ensures takes { IfOk result (λ fits. MatchBool fits (taken.new ≡ taken.old ++ row.now.number ∷ []) (taken.new ≡ taken.old)) }
+/// Generics have a spelling where no two of their methods have one number.
+pub fn generics_fit(rows: &List<GenericRow>)
+    requires { IsDistinct nat_eq (method_numbers rows.now) }
+    ensures { generics.Fits rows.now }
 {
-    number_fits(row.number);
-    number_fits(row.set);
-    number_fits(row.entry);
-    taken.add(row.number)
-}
-
-// Whether methods have a spelling. Their numbers are taken then.
-fn methods_have_spelling(rows: &[MethodRow], taken: &mut TakenNumbers) -> Result<bool, Memory>
-    ensures tells { IfOk result (λ fits. MatchBool fits ((methods_format (length rows.now) taken.old).Fits rows.now) ((methods_format (length rows.now) taken.old).Fits rows.now → ⊥)) }
-    ensures takes { IfOk result (λ fits. MatchBool fits (taken.new ≡ taken.old ++ numbers_of rows.now) (Unit {0})) }
-{
-    for row in rows {
-        let fits = method_has_spelling(row, taken)?;
-        if !fits {
-            return Ok(false);
-        }
-    }
-    Ok(true)
-}
-
-// Whether a generic has a spelling. The numbers of its methods are taken then.
-fn generic_has_spelling(row: &GenericRow, taken: &mut TakenNumbers) -> Result<bool, Memory>
-    ensures tells { IfOk result (λ fits. MatchBool fits ((generic taken.old).Fits row.now) ((generic taken.old).Fits row.now → ⊥)) }
-    ensures takes { IfOk result (λ fits. MatchBool fits (taken.new ≡ taken.old ++ numbers_of row.now.methods) (Unit {0})) }
-{
-    number_fits(row.word);
-    if row.methods.len() > method_room(taken) {
-        return Ok(false);
-    }
-    methods_have_spelling(row.methods.as_slice(), taken)
-}
-
-// Whether generics have a spelling one behind another.
-fn each_has_spelling(alloc: Global, rows: &[GenericRow]) -> Result<bool, Memory>
-    ensures { IfOk result (λ fits. MatchBool fits ((generics_from (length rows.now) []).Fits rows.now) ((generics_from (length rows.now) []).Fits rows.now → ⊥)) }
-{
-    let mut taken = TakenNumbers::new(alloc);
-    for row in rows {
-        let fits = generic_has_spelling(row, &mut taken)?;
-        if !fits {
-            return Ok(false);
-        }
-    }
-    Ok(true)
-}
-
-/// Whether generics have a spelling.
-pub fn generics_have_spelling(alloc: Global, rows: &List<GenericRow>) -> Result<bool, Memory>
-    ensures { IfOk result (λ fits. MatchBool fits (generics.Fits rows.now) (generics.Fits rows.now → ⊥)) }
-{
-    let _count = rows.len();
-    let fits = each_has_spelling(alloc, rows.as_slice())?;
-    Ok(fits)
+    list_fits(rows);
 }

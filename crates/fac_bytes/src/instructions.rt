@@ -1,8 +1,10 @@
 //! Instructions as bytes.
-ghost use Rattle.std.specs.Prelude.{◌≡◌, ◌++◌, ◌≤◌, OnOk, MatchBool};
+ghost use Rattle.std.specs.Prelude.{◌≡◌, ◌++◌, ◌≤◌, true, OnOk};
+ghost use Rattle.fac_bytes.specs.Spellable.{are_few};
 ghost use Rattle.fac_spelling.specs.Numbers.{greatest32};
 ghost use Rattle.fac_spelling.specs.Choices.{bit};
 ghost use Rattle.fac_spelling.specs.Reads.{Gives};
+ghost use Rattle.fac_bytes.specs.Keeping.{operand_keeps, instr_keeps};
 ghost use Rattle.fac_bytes.specs.InstructionBytes.{instr as instr_format, operand as operand_format, tail as tail_format, greatest as greatest_of, last_primitive as last_of, operand_bytes, outs_number as number_of_outs, height_of as height_read, tail_bytes};
 
 use crate::part::{Part, Writable};
@@ -95,25 +97,27 @@ fn write_tail(out: &mut Bytes, tail: Option<bool>) -> Result<(), Memory>
     }
 }
 
-// Whether so many values that are left have a number of 32 bits.
-fn outs_fit(height: Height) -> bool
-    ensures { MatchBool result (number_of_outs height.outs ≤ greatest32) (number_of_outs height.outs ≤ greatest32 → ⊥) }
+// Few values that are left have, with one more, a number of 32 bits.
+fn outs_fit(_height: Height)
+    requires { are_few _height.outs ≡ true }
+    ensures { number_of_outs _height.outs ≤ greatest32 }
 {
-    match height.outs {
-        None => true,
-        Some(outs) => outs < u32::MAX,
+    match _height.outs {
+        None => {}
+        Some(_) => {}
     }
 }
 
-// Whether what an instruction is given has a spelling: whether it is a primitive that there is, and leaves fewer than 2^32 - 1 values.
-fn operand_fits(operand: Operand) -> bool
-    ensures { MatchBool result ((operand_format operand).Fits operand) ((operand_format operand).Fits operand → ⊥) }
+// What an instruction is given has a spelling where it is a primitive that there is, and leaves few values.
+fn operand_fits(_operand: Operand)
+    requires { operand_keeps _operand ≡ true }
+    ensures { (operand_format _operand).Fits _operand }
 {
-    match operand {
-        Operand::Nothing => true,
-        Operand::Integer(_) => true,
+    match _operand {
+        Operand::Nothing => {}
+        Operand::Integer(_) => {}
         Operand::Height(height) => outs_fit(height),
-        Operand::Number(referent, number) => number <= greatest(referent),
+        Operand::Number(_, _) => {}
     }
 }
 
@@ -155,6 +159,13 @@ fn read_tail(like: Option<bool>, bytes: &[u8]) -> Result<(bool, &[u8]), ReadFaul
 impl Writable for Instr {
     ghost format = { instr_format };
 
+    ghost keeps = { instr_keeps };
+
+    #[tactic(auto, using(crate::proofs::InstructionLaws::instr_fits))]
+    fn fits(&self) {
+        operand_fits(self.row().operand);
+    }
+
     #[tactic(auto, using(crate::proofs::InstructionLaws::instr_written))]
     fn write(&self, out: &mut Bytes) -> Result<(), Memory> {
         let row = self.row();
@@ -171,10 +182,5 @@ impl Part for Instr {
         let (operand, rest) = read_operand(like.operand, rest)?;
         let (tail, rest) = read_tail(like.tail, rest)?;
         Ok((Instr::of(code, operand, tail), rest))
-    }
-
-    #[tactic(auto, using(crate::proofs::InstructionLaws::instr_says))]
-    fn has_spelling(&self) -> bool {
-        operand_fits(self.row().operand)
     }
 }

@@ -2,7 +2,7 @@
 ghost use Rattle.fac_spelling.specs.Formats.{Exact};
 ghost use Rattle.fac_spelling.specs.Laws.{FrontsAreBroken, OnePlace, SpelledOrBroken};
 ghost use Rattle.fac_bytes.specs.ImageBytes.{image as image_format};
-ghost use Rattle.fac_bytes.specs.Laws.{OneImage, EncodedIsDecoded, DecodedIsEncoded};
+ghost use Rattle.fac_bytes.specs.Laws.{OneImage, EncodedIsDecoded, DecodedIsEncoded, SpelledAreSpellable};
 
 /// Reading images is exact.
 pub fn images_are_exact()
@@ -18,6 +18,11 @@ pub fn one_image()
 pub fn encoded_is_decoded()
     ensures image { EncodedIsDecoded }
     ensures alone { DecodedIsEncoded }
+{}
+
+/// An image that bytes spell can be encoded.
+pub fn spelled_are_spellable()
+    ensures { SpelledAreSpellable }
 {}
 
 /// A proper front of an image's bytes is broken at its own length.

@@ -17,10 +17,10 @@ mod table_bytes;
 mod tables;
 
 pub use decoding::{DecodeFault, decode};
-pub use encoding::{EncodeFault, encode, spelled_length};
+pub use encoding::{encode, spelled_length};
 pub use laws::{
     encoded_is_decoded, fronts_are_broken, images_are_exact, one_image, one_place,
-    spelled_or_broken,
+    spelled_are_spellable, spelled_or_broken,
 };
 pub use listings::listing;
 pub use parts::ImageParts;

@@ -1,5 +1,6 @@
 //! Parts of an image: values that are spelled as bytes, and lists of them.
-ghost use Rattle.std.specs.Prelude.{◌≡◌, ◌++◌, length, MatchBool, OnOk};
+ghost use Rattle.std.specs.Prelude.{◌≡◌, ◌++◌, length, true, OnOk};
+ghost use Rattle.std.specs.List.{list_all};
 ghost use Rattle.fac_spelling.specs.Formats.{Format, each};
 ghost use Rattle.fac_spelling.specs.Lists.{counted};
 ghost use Rattle.fac_spelling.specs.Reads.{Gives};
@@ -10,7 +11,17 @@ use std::alloc::Global;
 
 /// A part of an image that writes its bytes.
 pub trait Writable {
+    ghost use Rattle.std.specs.Prelude.{Bool};
+
     ghost format: { Format Self };
+
+    // What it keeps so that it has a spelling, beside that its numbers and lists have the sizes of their types.
+    ghost keeps: { Self → Bool };
+
+    /// Such a part has a spelling.
+    fn fits(&self)
+        requires { keeps self.now ≡ true }
+        ensures { format.Fits self.now };
 
     /// Adds the part's bytes at the end. Want of memory is the one error, and some of the bytes may be added then.
     fn write(&self, out: &mut Bytes) -> Result<(), Memory>
@@ -23,10 +34,6 @@ pub trait Part: Writable {
     /// The part at the front, and the bytes behind it.
     fn read(alloc: Global, bytes: &[u8]) -> Result<(Self, &[u8]), ReadFault>
         ensures { Gives (λ x. (x.0, x.1.now)) result (Self.format.read bytes.now) };
-
-    /// Whether the part has a spelling.
-    fn has_spelling(&self) -> bool
-        ensures { MatchBool result (Self.format.Fits self.now) (Self.format.Fits self.now → ⊥) };
 }
 
 // So many parts one behind another, as in fac_spelling, whose trait is another one. The list grows as they are read, so a wrong count takes no more
@@ -77,22 +84,21 @@ pub fn write_list<T: Writable + Drop>(values: &List<T>, out: &mut Bytes) -> Resu
     write_each(values.as_slice(), out)
 }
 
-// Whether all of the parts have a spelling.
-fn each_has_spelling<T: Part>(values: &[T]) -> bool
-    ensures { MatchBool result ((each (length values.now) T.Writable.format).Fits values.now) ((each (length values.now) T.Writable.format).Fits values.now → ⊥) }
+// Parts that keep what they are asked for have a spelling.
+fn each_fits<T: Writable>(values: &[T])
+    requires { list_all T.keeps values.now ≡ true }
+    ensures { (each (length values.now) T.format).Fits values.now }
 {
     for value in values {
-        if !value.has_spelling() {
-            return false;
-        }
+        value.fits();
     }
-    true
 }
 
-/// Whether a list of parts has a spelling.
-pub fn list_has_spelling<T: Part + Drop>(values: &List<T>) -> bool
-    ensures { MatchBool result ((counted T.Writable.format).Fits values.now) ((counted T.Writable.format).Fits values.now → ⊥) }
+/// A list of parts that keep what they are asked for has a spelling.
+pub fn list_fits<T: Writable + Drop>(values: &List<T>)
+    requires { list_all T.keeps values.now ≡ true }
+    ensures { (counted T.format).Fits values.now }
 {
     let _count = values.len();
-    each_has_spelling(values.as_slice())
+    each_fits(values.as_slice());
 }

@@ -1,9 +1,10 @@
 //! The rows of tables as bytes.
-ghost use Rattle.std.specs.Prelude.{◌≡◌, ◌++◌, MatchBool, OnOk};
+ghost use Rattle.std.specs.Prelude.{◌≡◌, ◌++◌, true, OnOk};
 ghost use Rattle.fac_spelling.specs.Numbers.{number32};
 ghost use Rattle.fac_spelling.specs.Lists.{counted, optional};
 ghost use Rattle.fac_spelling.specs.Reads.{Gives};
 ghost use Rattle.fac_lang.specs.CoreWords.{core_number};
+ghost use Rattle.fac_bytes.specs.Keeping.{action_keeps, word_keeps};
 ghost use Rattle.fac_bytes.specs.RowBytes.{core_numbered, elem as elem_format, action as action_format, height as height_format, kind, template, word};
 
 use crate::instructions::last_primitive;
@@ -49,8 +50,29 @@ fn core_of_number(number: u32) -> CoreWord
     }
 }
 
+// Each element has a spelling.
+fn elem_fits(_elem: Elem)
+    ensures { elem_format.Fits _elem }
+{
+    match _elem {
+        Elem::Int(_) => {}
+        Elem::True => {}
+        Elem::False => {}
+        Elem::Text(_) => {}
+        Elem::Array(_) => {}
+        Elem::Word(_) => {}
+        Elem::Template(_) => {}
+    }
+}
+
 impl Writable for Elem {
     ghost format = { elem_format };
+
+    ghost keeps = { λ _. true };
+
+    fn fits(&self) {
+        elem_fits(*self);
+    }
 
     fn write(&self, out: &mut Bytes) -> Result<(), Memory> {
         match *self {
@@ -62,21 +84,6 @@ impl Writable for Elem {
             Elem::Word(word) => write_one(out, 5, u128::from(word)),
             Elem::Template(template) => write_one(out, 6, u128::from(template)),
         }
-    }
-}
-
-// Each element has a spelling.
-fn elem_fits(elem: Elem) -> bool
-    ensures { MatchBool result (elem_format.Fits elem) (elem_format.Fits elem → ⊥) }
-{
-    match elem {
-        Elem::Int(_)
-        | Elem::True
-        | Elem::False
-        | Elem::Text(_)
-        | Elem::Array(_)
-        | Elem::Word(_)
-        | Elem::Template(_) => true,
     }
 }
 
@@ -108,10 +115,6 @@ impl Part for Elem {
                 Ok((Elem::Template(template), rest))
             }
         }
-    }
-
-    fn has_spelling(&self) -> bool {
-        elem_fits(*self)
     }
 }
 
@@ -175,20 +178,21 @@ fn write_action(action: Action, out: &mut Bytes) -> Result<(), Memory>
     }
 }
 
-// Whether an action has a spelling: whether a primitive or a core word is one that there is.
-fn action_fits(action: Action) -> bool
-    ensures { MatchBool result (action_format.Fits action) (action_format.Fits action → ⊥) }
+// An action has a spelling where its primitive or core word is one that there is.
+fn action_fits(_action: Action)
+    requires { action_keeps _action ≡ true }
+    ensures { action_format.Fits _action }
 {
-    match action {
-        Action::Prim(primitive) => primitive <= last_primitive(),
-        Action::Core(core) => number_of_core(core) <= LAST_CORE,
-        Action::Code(_)
-        | Action::Itself
-        | Action::Generic(_)
-        | Action::Get(_)
-        | Action::Set(_)
-        | Action::Put(_)
-        | Action::Isa(_) => true,
+    match _action {
+        Action::Prim(_) => {}
+        Action::Core(_) => {}
+        Action::Code(_) => {}
+        Action::Itself => {}
+        Action::Generic(_) => {}
+        Action::Get(_) => {}
+        Action::Set(_) => {}
+        Action::Put(_) => {}
+        Action::Isa(_) => {}
     }
 }
 
@@ -267,6 +271,14 @@ fn slots_fit(_slots: &Option<List<u32>>)
 impl Writable for KindRow {
     ghost format = { kind };
 
+    ghost keeps = { λ _. true };
+
+    fn fits(&self) {
+        number_fits(self.vocab);
+        number_fits(self.name);
+        slots_fit(&self.slots);
+    }
+
     fn write(&self, out: &mut Bytes) -> Result<(), Memory> {
         write_number(out, u128::from(self.vocab))?;
         write_number(out, u128::from(self.name))?;
@@ -281,18 +293,21 @@ impl Part for KindRow {
         let (slots, rest) = <Option<List<u32>> as Spelled>::read(alloc, rest)?;
         Ok((KindRow { vocab, name, slots }, rest))
     }
-
-    fn has_spelling(&self) -> bool {
-        number_fits(self.vocab);
-        number_fits(self.name);
-        slots_fit(&self.slots);
-        true
-    }
 }
 
 #[tactic(auto, using(crate::proofs::Written::row_four))]
 impl Writable for TemplateRow {
     ghost format = { template };
+
+    ghost keeps = { λ _. true };
+
+    fn fits(&self) {
+        number_fits(self.entry);
+        let _count = self.cells.len();
+        numbers_fit(self.cells.as_slice());
+        number_fits(self.holes);
+        height_fits(self.height);
+    }
 
     fn write(&self, out: &mut Bytes) -> Result<(), Memory> {
         write_number(out, u128::from(self.entry))?;
@@ -318,20 +333,20 @@ impl Part for TemplateRow {
             rest,
         ))
     }
-
-    fn has_spelling(&self) -> bool {
-        number_fits(self.entry);
-        let _count = self.cells.len();
-        numbers_fit(self.cells.as_slice());
-        number_fits(self.holes);
-        height_fits(self.height);
-        true
-    }
 }
 
 #[tactic(auto, using(crate::proofs::Written::row_four))]
 impl Writable for WordRow {
     ghost format = { word };
+
+    ghost keeps = { word_keeps };
+
+    fn fits(&self) {
+        number_fits(self.vocab);
+        number_fits(self.name);
+        action_fits(self.action);
+        height_fits(self.height);
+    }
 
     fn write(&self, out: &mut Bytes) -> Result<(), Memory> {
         write_number(out, u128::from(self.vocab))?;
@@ -356,12 +371,5 @@ impl Part for WordRow {
             },
             rest,
         ))
-    }
-
-    fn has_spelling(&self) -> bool {
-        number_fits(self.vocab);
-        number_fits(self.name);
-        height_fits(self.height);
-        action_fits(self.action)
     }
 }

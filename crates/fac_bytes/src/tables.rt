@@ -1,12 +1,13 @@
 //! Tables as bytes: a half of them and then the other.
-ghost use Rattle.std.specs.Prelude.{◌≡◌, ◌++◌, IfOk, MatchBool, OnOk};
+ghost use Rattle.std.specs.Prelude.{◌≡◌, ◌++◌, OnOk};
 ghost use Rattle.fac_spelling.specs.Reads.{Gives};
 ghost use Rattle.fac_code.specs.Images.{tables_of};
+ghost use Rattle.fac_bytes.specs.Spellable.{IsSpellable};
 ghost use Rattle.fac_bytes.specs.ImageBytes.{first_tables, last_tables, tables as tables_format, first_of, last_of};
 
-use crate::generics::{generics_have_spelling, read_generics, write_generics};
-use crate::pairs::pairs_have_spelling;
-use crate::part::{list_has_spelling, read_list, write_list};
+use crate::generics::{generics_fit, read_generics, write_generics};
+use crate::pairs::pairs_fit;
+use crate::part::{list_fits, read_list, write_list};
 use fac_base::{Bytes, List, Memory, Text};
 use fac_code::{Elem, GenericRow, Image, KindRow, Tables, TemplateRow, WordRow};
 use fac_spelling::{ReadFault, read_ascending_by, write_ascending_by};
@@ -101,44 +102,33 @@ pub fn write_tables(image: &Image, out: &mut Bytes) -> Result<(), Memory>
     write_last(image, out)
 }
 
-// Whether texts, literal arrays, kinds and class sets have a spelling.
-fn first_have_spelling(image: &Image) -> bool
-    ensures { MatchBool result (first_tables.Fits (first_of (tables_of image.now))) (first_tables.Fits (first_of (tables_of image.now)) → ⊥) }
+// Texts, literal arrays, kinds and class sets have a spelling.
+fn first_fit(image: &Image)
+    requires { IsSpellable image.now }
+    ensures { first_tables.Fits (first_of (tables_of image.now)) }
 {
-    if !list_has_spelling(image.texts.list()) {
-        return false;
-    }
-    if !list_has_spelling(&image.arrays) {
-        return false;
-    }
-    if !list_has_spelling(&image.kinds) {
-        return false;
-    }
-    list_has_spelling(&image.sets)
+    list_fits(image.texts.list());
+    list_fits(&image.arrays);
+    list_fits(&image.kinds);
+    list_fits(&image.sets);
 }
 
-// Whether templates, words, generics and the kinds of words have a spelling.
-fn last_have_spelling(alloc: Global, image: &Image) -> Result<bool, Memory>
-    ensures { IfOk result (λ fits. MatchBool fits (last_tables.Fits (last_of (tables_of image.now))) (last_tables.Fits (last_of (tables_of image.now)) → ⊥)) }
+// Templates, words, generics and the kinds of words have a spelling.
+fn last_fit(image: &Image)
+    requires { IsSpellable image.now }
+    ensures { last_tables.Fits (last_of (tables_of image.now)) }
 {
-    if !list_has_spelling(&image.templates) {
-        return Ok(false);
-    }
-    if !list_has_spelling(&image.words) {
-        return Ok(false);
-    }
-    if !generics_have_spelling(alloc, &image.generics)? {
-        return Ok(false);
-    }
-    Ok(pairs_have_spelling(image.pairs.as_slice()))
+    list_fits(&image.templates);
+    list_fits(&image.words);
+    generics_fit(&image.generics);
+    pairs_fit(&image.pairs);
 }
 
-/// Whether an image's tables have a spelling.
-pub fn tables_have_spelling(alloc: Global, image: &Image) -> Result<bool, Memory>
-    ensures { IfOk result (λ fits. MatchBool fits (tables_format.Fits (tables_of image.now)) (tables_format.Fits (tables_of image.now) → ⊥)) }
+/// An image's tables have a spelling.
+pub fn tables_fit(image: &Image)
+    requires { IsSpellable image.now }
+    ensures { tables_format.Fits (tables_of image.now) }
 {
-    if !first_have_spelling(image) {
-        return Ok(false);
-    }
-    last_have_spelling(alloc, image)
+    first_fit(image);
+    last_fit(image);
 }

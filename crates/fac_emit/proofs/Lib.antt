@@ -21,6 +21,8 @@ pub mod NextMethods
 pub mod ClosedWords
 pub mod TailCalls
 pub mod ReferenceLemmas
+pub mod SmallTests
+pub mod SpellableImages
 pub mod EmitLemmas
 pub mod CodedItems
 pub mod NumberLemmas

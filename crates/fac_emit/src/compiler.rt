@@ -7,6 +7,7 @@ ghost use Rattle.fac_base.specs.Effects.{effect_height};
 ghost use Rattle.fac_lang.specs.Meaning.{sort_of};
 ghost use Rattle.fac_classes.specs.ClassKinds.{CanBeBuilt};
 ghost use Rattle.fac_generic.specs.Methods.{HasMethods, MethodLaws};
+ghost use Rattle.fac_bytes.specs.Spellable.{IsSpellable};
 ghost use Rattle.fac_emit.specs.CarriedPrograms.{AgreesEach, ClosesWhole, StandsForEach};
 ghost use Rattle.fac_emit.specs.ProgramCode.{core_action, word_row, program_words, program_generics, IsPlain};
 ghost use Rattle.fac_emit.specs.inner.Coded.{has_few_inputs, array_is_coded};
@@ -234,7 +235,8 @@ fn image_of(
     requires closed { (P : Source) × ClosesWhole P emission.now × MethodLaws P }
     requires parts { AreParts emission.now heights.now parts }
     requires tables { AreTables emission.now tables }
-    ensures { IsPlain emission.now heights.now result }
+    ensures plain { IsPlain emission.now heights.now result }
+    ensures spellable { IsSpellable result }
 {
     let Parts {
         code,
@@ -270,7 +272,8 @@ fn plain_image(alloc: Global, closed: &Closed, heights: &[Option<Height>]) -> Re
     requires coded { list_all array_is_coded closed.now.program.arrays ≡ true }
     requires classes { CanBeBuilt closed.now.program }
     requires methods { HasMethods closed.now.program }
-    ensures { IfOk result (IsPlain closed.now heights.now) }
+    ensures plain { IfOk result (IsPlain closed.now heights.now) }
+    ensures spellable { IfOk result IsSpellable }
 {
     let emission = Emission::new(alloc, closed)?;
     let parts = parts_of(&emission, heights)?;
@@ -283,13 +286,14 @@ fn plain_image(alloc: Global, closed: &Closed, heights: &[Option<Height>]) -> Re
 /// the literal arrays before the first item. Its code stands for the phrases of that program, item by
 /// item, and is plain: the code of the templates and behind it that of the words, each in their order, with the texts of the program, each
 /// once and word by word in the order in which they are met, the literal arrays, a row for each template, word, kind and generic, the kinds
-/// of each class, and the words of classes with their kinds; it starts at the top-level phrase. Want of memory is the one error, also where
-/// there are more kinds or texts than numbers for them.
+/// of each class, and the words of classes with their kinds; it starts at the top-level phrase. It has a spelling as bytes. Want of memory is
+/// the one error, also where there are more kinds or texts than numbers for them, or where a text has 2^32 bytes or more.
 pub fn compile(alloc: Global, closed: &Closed, heights: &[Option<Height>]) -> Result<Image, Memory>
     requires { (P : Source) × ClosesWhole P closed.now }
     ensures agrees { IfOk result (AgreesEach closed.now heights.now) }
     ensures stands { IfOk result (StandsForEach closed.now) }
     ensures plain { IfOk result (IsPlain closed.now heights.now) }
+    ensures spellable { IfOk result IsSpellable }
 {
     methods_are_lawful();
     plain_image(alloc, closed, heights)

@@ -1,6 +1,8 @@
 //! What the image of a closed program is made by.
-ghost use Rattle.std.specs.Prelude.{◌≡◌, IfOk};
+ghost use Rattle.std.specs.Prelude.{◌≡◌, true, IfOk};
+ghost use Rattle.std.specs.List.{list_all};
 ghost use Rattle.fac_classes.specs.ClassKinds.{CanBeBuilt};
+ghost use Rattle.fac_bytes.specs.Spellable.{is_short};
 ghost use Rattle.fac_emit.specs.ProgramTexts.{program_texts, text_number};
 ghost use Rattle.fac_emit.specs.ProgramTables.{word_numbers};
 ghost use Rattle.fac_emit.specs.inner.NumberedWords.{number_at};
@@ -15,6 +17,18 @@ use fac_locals::Closed;
 use fac_texts::SharedTexts;
 use std::alloc::Global;
 use std::marker::Model;
+
+// Whether each of the texts has fewer than 2^32 bytes, as it has to have in an image.
+fn are_short(texts: &[Text]) -> bool
+    ensures { result ≡ list_all is_short texts.now }
+{
+    for text in texts {
+        if text.len() > u32::MAX as usize {
+            return false;
+        }
+    }
+    true
+}
 
 /// A closed program with the numbers by which its code and tables name its texts and what its words are, and with its classes. Contracts see
 /// the closed program.
@@ -107,10 +121,15 @@ impl<'a> Emission<'a> {
         }
     }
 
-    /// A list of the texts.
+    /// A list of the texts, each of which has fewer than 2^32 bytes. Want of memory is the one error, also where one would have more.
     pub fn texts(&self) -> Result<SharedTexts, Memory>
-        ensures { IfOk result (λ texts. texts ≡ program_texts self.now) }
+        ensures texts { IfOk result (λ texts. texts ≡ program_texts self.now) }
+        ensures short { IfOk result (λ texts. list_all is_short texts ≡ true) }
     {
-        SharedTexts::new(self.alloc, self.texts.list(self.alloc)?)
+        let texts = self.texts.list(self.alloc)?;
+        if !are_short(texts.as_slice()) {
+            return Err(Memory);
+        }
+        SharedTexts::new(self.alloc, texts)
     }
 }

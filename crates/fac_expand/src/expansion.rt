@@ -1,6 +1,7 @@
 //! Expanding the code of an image.
 ghost use Rattle.std.specs.Prelude.{◌≡◌, [], true, IfOk, MatchOption};
-ghost use Rattle.std.specs.List.{list_any};
+ghost use Rattle.std.specs.List.{list_all, list_any};
+ghost use Rattle.fac_bytes.specs.Spellable.{are_few as are_so_few, leaves_few};
 ghost use Rattle.fac_carry.specs.TestedCalls.{TestsCallables};
 ghost use Rattle.fac_expand.specs.Expands.{Expands};
 ghost use Rattle.fac_expand.specs.DirectInPlace.{KeepsDirect};
@@ -13,7 +14,7 @@ use crate::pieces::{Expander, Extent, make_expander};
 use crate::plan::Use;
 use crate::tables::moved_tables;
 use fac_base::Memory;
-use fac_code::{Image, Instr};
+use fac_code::{Image, Instr, Operand};
 use std::alloc::Global;
 
 // Whether an instruction tests a callable.
@@ -46,6 +47,51 @@ fn tests_no_more(plain: &Image, image: &Image) -> bool
         return true;
     }
     tests(plain.code.as_slice())
+}
+
+// Whether so many values that are left have, with one more, a number of 32 bits.
+fn are_few(outs: Option<u32>) -> bool
+    ensures { result ≡ are_so_few outs }
+{
+    match outs {
+        None => true,
+        Some(outs) => outs < u32::MAX,
+    }
+}
+
+// Whether an instruction tests nothing that leaves too many values for a spelling.
+fn tests_few(instr: Instr) -> bool
+    ensures { result ≡ leaves_few instr }
+{
+    match instr.row().operand {
+        Operand::Height(height) => are_few(height.outs),
+        Operand::Nothing => true,
+        Operand::Integer(_) => true,
+        Operand::Number(_, _) => true,
+    }
+}
+
+// Whether each of the instructions tests nothing that does.
+fn all_test_few(code: &[Instr]) -> bool
+    ensures { result ≡ list_all leaves_few code.now }
+{
+    for instr in code {
+        if !tests_few(*instr) {
+            return false;
+        }
+    }
+    true
+}
+
+// Whether one image tests callables only where another one does, and has a spelling as far as its code goes.
+fn is_fit(plain: &Image, image: &Image) -> bool
+    ensures tests { result ≡ true → TestsCallables image.now → TestsCallables plain.now }
+    ensures few { result ≡ true → list_all leaves_few image.now.code ≡ true }
+{
+    if !all_test_few(image.code.as_slice()) {
+        return false;
+    }
+    tests_no_more(plain, image)
 }
 
 // The code, the rows of templates and the new places for an image whose top-level phrase has this number, and where that begins.
@@ -104,7 +150,7 @@ fn expanded(
     let (making, start) = made_of(expander, alloc, plain, top, uses)?;
     match image_of(alloc, plain, top, making, start)? {
         Some(image) => {
-            if tests_no_more(plain, &image) {
+            if is_fit(plain, &image) {
                 Ok(Some(image))
             } else {
                 Ok(None)
@@ -178,7 +224,7 @@ fn wholly_expanded(alloc: Global, plain: Image, top: u32, uses: &[Use]) -> Resul
 /// The image with its code expanded: a callable that is made of a quotation and applied at once is run in place. The top-level phrase has this
 /// number, and `uses` says by the number of a word what a use of it becomes; both that and the extent are only hints. The tables are those of
 /// the plain image but for places. For each program with this top-level phrase for whose phrases the plain code stands, the code that is made
-/// stands too. Where it can't be made so, the image stays as it is. Where all is expanded, each direct phrase has direct code. Want of memory is the one error:
+/// stands too. It has a spelling where the plain image has one. Where it can't be made so, the image stays as it is. Where all is expanded, each direct phrase has direct code. Want of memory is the one error:
 /// so it is answered too where all is to be expanded and no image that was made has direct code for each direct phrase. No program is known that comes to that.
 pub fn expand(
     alloc: Global,

@@ -14,5 +14,4 @@ pub mod WholeLaws
 pub mod AnswerLaws
 pub mod ReadLoops
 pub mod WriteLoops
-pub mod FitLaws
 pub mod Examples

@@ -1,5 +1,5 @@
 //! Numbers that are not taken yet.
-ghost use Rattle.std.specs.Prelude.{◌≡◌, ◌≤◌, ◌<◌, ◌-◌, ◌^◌, ◌++◌, ◌∷◌, [], true, length, IfOk, OnOk, OnErr, MatchBool};
+ghost use Rattle.std.specs.Prelude.{◌≡◌, ◌≤◌, ◌<◌, ◌-◌, ◌^◌, ◌++◌, ◌∷◌, [], true, length, IfOk, OnOk, OnErr};
 ghost use Rattle.fac_spelling.specs.Numbers.{IsWithin, least, most};
 ghost use Rattle.fac_spelling.specs.TestedNumbers.{any_passes, number_where_at, is_free as is_free_in, fresh};
 ghost use Rattle.fac_spelling.specs.inner.TakenBehind.{taken_behind, Differ, count_in as count_of};
@@ -197,18 +197,5 @@ impl TakenNumbers {
         let (number, rest) = self.find(alloc, bytes)?;
         self.take(number)?;
         Ok((number, rest))
-    }
-
-    /// Takes a number. False where it was taken already, and then nothing changes, as in a refused call.
-    pub fn add(&mut self, number: u32) -> Result<bool, Memory>
-        ensures tells { IfOk result (λ free. free ≡ is_free_in self.old number) }
-        ensures takes { IfOk result (λ free. MatchBool free (self.new ≡ self.old ++ number ∷ []) (self.new ≡ self.old)) }
-        ensures err { OnErr result (self.new ≡ self.old) }
-    {
-        if !self.is_free(number) {
-            return Ok(false);
-        }
-        self.take(number)?;
-        Ok(true)
     }
 }

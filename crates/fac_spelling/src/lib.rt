@@ -19,7 +19,7 @@ pub use ascending::{read_ascending, read_ascending_by, write_ascending, write_as
 pub use bytes::{read_byte, read_fixed, write_fixed};
 pub use characters::read_characters;
 pub use fault::ReadFault;
-pub use fits::{ascending_fits, integer_fits, number_fits, numbers_fit, text_fits};
+pub use fits::{integer_fits, number_fits, numbers_fit};
 pub use fresh::TakenNumbers;
 pub use integers::{unzigzag, zigzag};
 pub use laws::{

@@ -1,6 +1,7 @@
 //! Linking: the image of an accepted program, and how long its bytes are.
 ghost use Rattle.std.specs.Prelude.{◌≡◌, ◌≤◌, false, true, IfOk};
 ghost use Rattle.fac_lang.specs.declared.program.Program.{Program as Source};
+ghost use Rattle.fac_bytes.specs.Spellable.{IsSpellable};
 ghost use Rattle.fac_carry.specs.Direct.{DirectIsInPlace};
 ghost use Rattle.fac_check.specs.Judged.{StandsForWhole};
 ghost use Rattle.fac_check.specs.TemplateEffects.{AreEffects};
@@ -102,6 +103,7 @@ fn plain_code(alloc: Global, checked: Checked, heights: &[Option<Height>]) -> Re
     ensures agrees { IfOk result (λ plain. AgreesEach checked.closed heights.now plain.image) }
     ensures stands { IfOk result (λ plain. StandsForEach checked.closed plain.image) }
     ensures plain { IfOk result (λ plain. IsPlain checked.closed heights.now plain.image) }
+    ensures spellable { IfOk result (λ plain. IsSpellable plain.image) }
     ensures uses { IfOk result (λ plain. UsesAre checked.closed.program plain.uses) }
 {
     let image = compile(alloc, &checked.closed, heights)?;
@@ -122,6 +124,7 @@ fn image_with(
     ensures carried { IfOk result (λ image. (P : Source) → StandsForSafe checked.closed P → Carried P image) }
     ensures rows { IfOk result (λ image. AreEffects checked.closed heights.now → (P : Source) → StandsForSafe checked.closed P → HasEffects P image) }
     ensures direct { extent ≡ Extent.All → IfOk result (λ image. (P : Source) → StandsForSafe checked.closed P → DirectIsInPlace P image) }
+    ensures spellable { IfOk result IsSpellable }
 {
     safe_programs_are_not_stuck();
     let top = checked.closed.program.top;
@@ -133,7 +136,8 @@ fn image_with(
 // The image of an accepted program, with the effects of all of its templates, and with its direct phrases in place.
 fn whole_image(alloc: Global, checked: Checked) -> Result<Image, Memory>
     requires { (P : Source) × StandsForSafe checked.closed P }
-    ensures { IfOk result (λ image. (P : Source) → StandsForSafe checked.closed P → CarriedWhole P image) }
+    ensures carried { IfOk result (λ image. (P : Source) → StandsForSafe checked.closed P → CarriedWhole P image) }
+    ensures spellable { IfOk result IsSpellable }
 {
     let heights = effects(alloc, &checked.closed)?;
     image_with(alloc, checked, heights.as_slice(), Extent::All)
@@ -142,7 +146,8 @@ fn whole_image(alloc: Global, checked: Checked) -> Result<Image, Memory>
 // The image of an accepted program, with the effects of its templates where a run asks for any.
 fn image_to_run(alloc: Global, checked: Checked) -> Result<Image, Memory>
     requires { (P : Source) × StandsForSafe checked.closed P }
-    ensures { IfOk result (λ image. (P : Source) → StandsForSafe checked.closed P → Carried P image) }
+    ensures carried { IfOk result (λ image. (P : Source) → StandsForSafe checked.closed P → Carried P image) }
+    ensures spellable { IfOk result IsSpellable }
 {
     let heights = asked_effects(alloc, &checked.closed)?;
     image_with(alloc, checked, heights.as_slice(), Extent::Reached)
@@ -155,15 +160,11 @@ pub fn link(alloc: Global, checked: Checked) -> Result<Linked, Memory>
     ensures { IfOk result (λ linked. IsLinked linked × ((P : Source) → StandsForSafe checked.closed P → CarriedWhole P linked.image)) }
 {
     let image = whole_image(alloc, checked)?;
-    match encode(alloc, &image) {
-        Ok(bytes) => {
-            if bytes.len() as u64 > MOST_IMAGE_BYTES {
-                return Err(Memory);
-            }
-            Ok(Linked { image, bytes })
-        }
-        Err(_) => Err(Memory),
+    let bytes = encode(alloc, &image)?;
+    if bytes.len() as u64 > MOST_IMAGE_BYTES {
+        return Err(Memory);
     }
+    Ok(Linked { image, bytes })
 }
 
 /// An image of an accepted program that is only run, with no bytes: its templates have no effects where the run asks for none. Want of
@@ -173,13 +174,9 @@ pub fn link_to_run(alloc: Global, checked: Checked) -> Result<Image, Memory>
     ensures { IfOk result (λ image. IsShort image × ((P : Source) → StandsForSafe checked.closed P → Carried P image)) }
 {
     let image = image_to_run(alloc, checked)?;
-    match spelled_length(alloc, &image) {
-        Ok(length) => {
-            if length > MOST_IMAGE_BYTES {
-                return Err(Memory);
-            }
-            Ok(image)
-        }
-        Err(_) => Err(Memory),
+    let length = spelled_length(alloc, &image)?;
+    if length > MOST_IMAGE_BYTES {
+        return Err(Memory);
     }
+    Ok(image)
 }

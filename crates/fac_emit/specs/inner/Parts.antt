@@ -1,8 +1,10 @@
 -- What linking makes of a closed program.
-use Rattle.std.specs.Prelude.{◌≡◌, ℕ, List, [], ◌∷◌, ◌++◌, length, Option}
+use Rattle.std.specs.Prelude.{◌≡◌, ℕ, List, [], ◌∷◌, ◌++◌, length, true, Option}
+use Rattle.std.specs.List.{list_all}
 use Rattle.fac_base.specs.declared.height.Height.{Height}
 use Rattle.fac_lang.specs.declared.program.WordDef.{WordDef}
 use Rattle.fac_locals.specs.declared.closing.Closed.{Closed}
+use Rattle.fac_bytes.specs.Spellable.{is_short}
 use Rattle.fac_emit.specs.declared.compiler.Parts.{Parts}
 use Rattle.fac_emit.specs.declared.compiler.OtherTables.{OtherTables}
 use Rattle.fac_emit.specs.ProgramTexts.{program_texts}
@@ -21,6 +23,7 @@ pub record AreTables (C : Closed) (t : OtherTables) : Type 0 where
   pub sets : t.sets ≡ program_sets C.program
   pub generics : t.generics ≡ program_generics C
   pub pairs : t.pairs ≡ program_pairs C.program
+  pub short : list_all is_short t.texts ≡ true
 
 -- the code and the row of the word with this number were added behind those that stood
 abbrev pub PlacesWord : Closed → ℕ → WordDef → Parts → Parts → Type 0
