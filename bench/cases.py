@@ -310,7 +310,7 @@ def answer_of_build(words, files):
     if type(built) is not bytes:
         return built
     saved = files.save(image, built)
-    return model.Answer(model.DONE, "built") if saved else model.Answer(model.FILE_FAULT, "file fault", f"file: {image}\n")
+    return model.Answer(model.DONE, "built") if saved else model.Answer(model.FILE_FAULT, "file fault", f"file: {model.visible(image)}\n")
 
 
 def words_of(text):

@@ -1680,6 +1680,12 @@ EXAMPLES_OF_COMMANDS = [
     ("run --stack --stack a", {"a": ONE}, 2, 0, "", USAGE),
     ("check --stack a", {"a": ONE}, 2, 0, "", USAGE),
     ("run --Stack a", {"a": ONE}, 2, 0, "", USAGE),
+    # control characters of names
+    ("run a", {"a": "\x1b[31mx"}, 4, 0, "", "name: a token 1: unknown ?[31mx\n"),
+    ("run a", {"a": "USE: v\x07\x7f"}, 4, 0, "", "name: a token 2: no-vocabulary v??\n"),
+    ("run a\x02", {"a\x02": "]"}, 3, 0, "", "syntax: a? token 1: not expected\n"),
+    ("run a\x7f\u00e9", {}, 8, 0, "", "file: a?\u00e9\n"),
+    ("run a", {"a": "IN: v\x01 : w\x02 ( -- ) 1 ;"}, 5, 0, "", "check: v?:w?, a token 4: outputs, declared 0, found 1\n"),
     # several files
     ("run a b", {"a": ONE, "b": TWO}, 0, 4, "1\n2\n", ""),
     ("run b a", {"a": ONE, "b": TWO}, 0, 4, "2\n1\n", ""),
