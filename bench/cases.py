@@ -250,7 +250,7 @@ class Case:
             if answer is None:
                 return fault("input", ticks), stream
             try:
-                # What `run --stack` writes of the stack is a write of its own.
+                # What is written behind a run is a write of its own.
                 for piece in pieces_of(answer, words, before):
                     output.write(piece.encode())
             except WriteFault:
@@ -294,8 +294,12 @@ def steps_of(words):
 def pieces_of(answer, words, before):
     """The pieces that a call wrote behind what it wrote in a tick less."""
     more = answer.output[len(before) :]
-    stack = "".join(text + "\n" for text in answer.stack) if words[1:2] == ["--stack"] and answer.stack else ""
-    return [more.removesuffix(stack), stack]
+    behind = ""
+    if words[1:2] == ["--stack"] and answer.stack:
+        behind = "".join(text + "\n" for text in answer.stack)
+    elif words[:1] == ["gen"] and answer.status == model.DONE:
+        behind = more.splitlines(True)[-1]
+    return [more.removesuffix(behind), behind]
 
 
 def fault(device, ticks):
@@ -313,7 +317,7 @@ def answer_of_build(words, files):
     if type(built) is not bytes:
         return built
     saved = files.save(image, built)
-    return model.Answer(model.DONE, "built") if saved else model.Answer(model.FILE_FAULT, "file fault", f"file: {image}\n")
+    return model.Answer(model.DONE, "built") if saved else model.Answer(model.FILE_FAULT, "file fault", f"file: {model.visible(image)}\n")
 
 
 def words_of(text):

@@ -149,7 +149,7 @@ class Comparison:
         command = model.read_words(case.words)
         budgets = "--steps" in model.BUILT
         if answer.status == model.SPENT and command.budget > MOST_TICKS:
-            if not budgets or command.name == "listen":
+            if not budgets or command.name in ("listen", "gen"):
                 tally.left_out += 1
                 return
             case = with_budget(case, command, MOST_TICKS)

@@ -2259,6 +2259,18 @@ def stacks(chance):
     return Case(words, case.files)
 
 
+def generated(chance):
+    """Aims at `gen`: texts of few words that are drawn from seeds, and here and there words that are none of a command."""
+    seed = chance.choice([str(chance.randrange(2**31)), str(chance.randrange(2**31)), "0", "1", "2147483647", "0000000007"])
+    count = chance.choice([str(chance.randint(1, 60)), str(chance.randint(1, 60)), "1", "2", "00003"])
+    words = ["gen", seed, count]
+    if happens(chance, 0.1):
+        odd = chance.choice(["2147483648", "00000000001", "10001", "000001", "0", "-1", "+1", "", "x", "1_0", "\u0663", "9999999999", "99999", FILE, "gen", "--steps"])
+        place = chance.randrange(3)
+        words[place : place + chance.randint(0, 1)] = [odd]
+    return Case(words, {"gen": b"1 ."} if happens(chance, 0.3) else {})
+
+
 # Each kind, how many shares of the time it has, and what it needs. A large program takes the model longer than another.
 KINDS = [
     (running, 1, []),
@@ -2291,6 +2303,7 @@ KINDS = [
     (scopes, 3, VOCABULARY_FORMS),
     (cycles, 1, ["DEFER:"]),
     (command_lines, 1, []),
+    (generated, 1, ["gen", "prelude"]),
     (array_literals, 2, ["{", "sequence-words"]),
     (sequence_words, 3, ["{", "sequence-words"]),
     (sequence_loops, 2, ["{", "sequence-words"]),

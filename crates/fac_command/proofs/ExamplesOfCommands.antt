@@ -1,7 +1,7 @@
 -- Command lines, with the commands that they ask for.
 use Rattle.std.proofs.Common.{◌≡◌, [], ◌∷◌, None, Some, refl}
 use Rattle.std.specs.Prelude.{codes}
-use Rattle.fac_command.specs.Command.{command_of, check, run, run_stack, build, exec, list}
+use Rattle.fac_command.specs.Command.{command_of, check, run, run_stack, build, exec, list, generate}
 
 -- check a b
 pub checks : command_of (codes "check" ∷ codes "a" ∷ codes "b" ∷ []) ≡ Some (check (codes "a" ∷ codes "b" ∷ []))
@@ -57,3 +57,34 @@ no_code = refl
 
 pub other_words : command_of (codes "--help" ∷ []) ≡ None
 other_words = refl
+
+-- gen 2147483647 007: the text is called `gen`
+pub draws : command_of (codes "gen" ∷ codes "2147483647" ∷ codes "007" ∷ []) ≡ Some (generate 100000000 (codes "gen" ∷ []) 2147483647 7)
+draws = refl
+
+-- gen 0 10000
+pub draws_most : command_of (codes "gen" ∷ codes "0" ∷ codes "10000" ∷ []) ≡ Some (generate 100000000 (codes "gen" ∷ []) 0 10000)
+draws_most = refl
+
+-- too great a seed; one of eleven digits; no words; too many words, and one of six digits
+pub great_seed : command_of (codes "gen" ∷ codes "2147483648" ∷ codes "1" ∷ []) ≡ None
+great_seed = refl
+
+pub long_seed : command_of (codes "gen" ∷ codes "00000000001" ∷ codes "1" ∷ []) ≡ None
+long_seed = refl
+
+pub no_words : command_of (codes "gen" ∷ codes "1" ∷ codes "0" ∷ []) ≡ None
+no_words = refl
+
+pub many_words : command_of (codes "gen" ∷ codes "1" ∷ codes "10001" ∷ []) ≡ None
+many_words = refl
+
+pub long_count : command_of (codes "gen" ∷ codes "1" ∷ codes "000001" ∷ []) ≡ None
+long_count = refl
+
+-- a seed alone, and a file behind the words
+pub no_count : command_of (codes "gen" ∷ codes "1" ∷ []) ≡ None
+no_count = refl
+
+pub one_word_more : command_of (codes "gen" ∷ codes "1" ∷ codes "1" ∷ codes "a" ∷ []) ≡ None
+one_word_more = refl

@@ -4,8 +4,9 @@ use Rattle.std.specs.declared.option.Option.{Option}
 use Rattle.std.specs.List.{list_all}
 use Rattle.std.specs.Str.{bytes_eq}
 use Rattle.fac_base.specs.declared.limits.TheConstants.{TICKS, MOST_STEPS, MOST_STEPS_DIGITS}
+use Rattle.fac_command.specs.declared.command.TheConstants.{MOST_SEED, MOST_SEED_DIGITS, MOST_WORDS, MOST_WORDS_DIGITS}
 
--- what a command line asks for, with its budget, the names of its files and that of its image
+-- what a command line asks for, with its budget, the names of its files and that of its image; or with its budget, the one name of a text, a seed and how many words are drawn
 pub data Command : Type 0 where
   check : List (List ℕ) → Command
   run : ℕ → List (List ℕ) → Command
@@ -13,6 +14,7 @@ pub data Command : Type 0 where
   build : List (List ℕ) → List ℕ → Command
   exec : ℕ → List ℕ → Command
   list : List ℕ → Command
+  generate : ℕ → List (List ℕ) → ℕ → ℕ → Command
 
 -- a file name: a word that isn't empty and doesn't begin with `-`
 abbrev pub is_file_name : List ℕ → Bool
@@ -34,9 +36,26 @@ abbrev pub at_most : ℕ → Option ℕ → Option ℕ
 at_most most None = None
 at_most most (Some n) = (if nat_le n most then Some n else None)
 
--- N: one to thirteen decimal digits of a number of at most 1,000,000,000,000
+-- one to so many decimal digits of a number of at most so much
+abbrev pub number_within : ℕ → ℕ → List ℕ → Option ℕ
+number_within digits most word = (if nat_le 1 (length word) && nat_le (length word) digits then at_most most (number_behind 0 word) else None)
+
+-- N: one to thirteen digits of a number of at most 1,000,000,000,000
 abbrev pub steps_of : List ℕ → Option ℕ
-steps_of word = (if nat_le 1 (length word) && nat_le (length word) MOST_STEPS_DIGITS then at_most MOST_STEPS (number_behind 0 word) else None)
+steps_of word = number_within MOST_STEPS_DIGITS MOST_STEPS word
+
+-- SEED: one to ten digits of a number below 2 ^ 31
+abbrev pub seed_of : List ℕ → Option ℕ
+seed_of word = number_within MOST_SEED_DIGITS MOST_SEED word
+
+-- a number that isn't 0
+abbrev pub some_number : Option ℕ → Option ℕ
+some_number None = None
+some_number (Some n) = (if nat_le 1 n then Some n else None)
+
+-- WORDS: one to five digits of a number from 1 to 10,000
+abbrev pub count_of : List ℕ → Option ℕ
+count_of word = some_number (number_within MOST_WORDS_DIGITS MOST_WORDS word)
 
 -- a command on FILES
 abbrev pub on_files : (List (List ℕ) → Command) → List (List ℕ) → Option Command
@@ -89,12 +108,23 @@ abbrev pub list_of : List (List ℕ) → Option Command
 list_of (name ∷ []) = on_image list name
 list_of _ = None
 
+-- `gen SEED WORDS`, by what SEED and WORDS are, where the text has this name
+abbrev pub generate_by : List (List ℕ) → Option ℕ → Option ℕ → Option Command
+generate_by name None words = None
+generate_by name (Some seed) None = None
+generate_by name (Some seed) (Some words) = Some (generate TICKS name seed words)
+
+-- the same by all words, of which the first is `gen`; it is the name of the text
+abbrev pub generate_of : List (List ℕ) → Option Command
+generate_of (word ∷ seed ∷ words ∷ []) = generate_by (word ∷ []) (seed_of seed) (count_of words)
+generate_of _ = None
+
 -- the command that the words ask for; every other list of words meets no form
 abbrev pub command_of : List (List ℕ) → Option Command
 command_of [] = None
-command_of (word ∷ words) = (if bytes_eq word (codes "check") then check_of words else if bytes_eq word (codes "run") then run_of words else if bytes_eq word (codes "build") then build_of words else if bytes_eq word (codes "exec") then exec_of words else if bytes_eq word (codes "list") then list_of words else None)
+command_of (word ∷ words) = (if bytes_eq word (codes "check") then check_of words else if bytes_eq word (codes "run") then run_of words else if bytes_eq word (codes "build") then build_of words else if bytes_eq word (codes "exec") then exec_of words else if bytes_eq word (codes "list") then list_of words else if bytes_eq word (codes "gen") then generate_of (word ∷ words) else None)
 
--- the names of the files of a command; those on an image have none
+-- the names of the files of a command, or that of the text that it draws; those on an image have none
 abbrev pub files_of : Command → List (List ℕ)
 files_of (check files) = files
 files_of (run steps files) = files
@@ -102,3 +132,4 @@ files_of (run_stack steps files) = files
 files_of (build files image) = files
 files_of (exec steps image) = []
 files_of (list image) = []
+files_of (generate steps name seed words) = name

@@ -1,8 +1,8 @@
--- A command as it is read, whose files and image are words of the command line.
+-- A command as it is read, whose files, image and name of a text are words of the command line.
 use Rattle.std.specs.Prelude.{map, string_bytes}
 use Rattle.fac_command.specs.declared.command.Command.{Command as CommandRead}
 use Rattle.fac_command.specs.declared.command.Command.TheVariants as read
-use Rattle.fac_command.specs.Command.{Command, check, run, run_stack, build, exec, list}
+use Rattle.fac_command.specs.Command.{Command, check, run, run_stack, build, exec, list, generate}
 
 -- what it asks for
 abbrev pub command_seen : CommandRead → Command
@@ -12,3 +12,4 @@ command_seen (read.RunStack steps files) = run_stack steps (map string_bytes fil
 command_seen (read.Build files image) = build (map string_bytes files.now) image.now
 command_seen (read.Exec steps image) = exec steps image.now
 command_seen (read.List image) = list image.now
+command_seen (read.Generate steps name seed words) = generate steps (map string_bytes name.now) seed words

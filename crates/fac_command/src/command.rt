@@ -1,34 +1,70 @@
 //! The command line.
-ghost use Rattle.std.specs.Prelude.{◌≡◌, ◌≤◌, ◌+◌, ◌∷◌, length, map, string_bytes};
+ghost use Rattle.std.specs.Prelude.{◌≡◌, ◌≤◌, ◌+◌, ◌∷◌, IfSome, length, map, string_bytes};
 ghost use Rattle.std.specs.Option.{option_map};
-ghost use Rattle.fac_command.specs.Command.{build_of, check_of, command_of, exec_by, exec_of, files_of, list_of, number_behind, on_files, on_image, plain_run_of, run_by, run_of, steps_of};
+ghost use Rattle.fac_command.specs.Command.{build_of, check_of, command_of, count_of, exec_by, exec_of, files_of, generate_by, generate_of, list_of, number_behind, number_within, on_files, on_image, plain_run_of, run_by, run_of, seed_of, steps_of};
 ghost use Rattle.fac_command.specs.Command.{is_file_name as is_name, are_files as are_names, run as run_asked, run_stack as run_stack_asked, exec as exec_asked};
 ghost use Rattle.fac_command.specs.SeenCommands.{command_seen};
 
 use fac_base::limits::{MOST_STEPS, MOST_STEPS_DIGITS, TICKS};
 
-/// What is told where the words of a command line meet no form. It has the commands, also some that are to come.
+/// What is told where the words of a command line meet no form. It has the commands, and `listen`, which is to come.
 pub const USAGE: &str = "usage: factorc check, run, build, exec, list, listen or gen\n";
 
-/// What the words of a command line ask for. The files and the image of a command are words of the command line.
+/// The greatest seed that `gen` takes.
+pub const MOST_SEED: u64 = 2_147_483_647;
+
+/// The most digits of a seed.
+pub const MOST_SEED_DIGITS: usize = 10;
+
+/// The most words that `gen` draws.
+pub const MOST_WORDS: u64 = 10_000;
+
+/// The most digits of their number.
+pub const MOST_WORDS_DIGITS: usize = 5;
+
+/// What the words of a command line ask for. The files and the image of a command, and the name of a text that is drawn, are words of the command line.
 #[derive(Clone, Copy, Debug, PartialEq, Eq)]
 pub enum Command<'a> {
     /// Compiles these files, and tells how many definitions they have.
-    Check { files: &'a [String] },
+    Check {
+        files: &'a [String],
+    },
     /// Compiles these files and runs them with a budget of so many ticks.
-    Run { steps: u64, files: &'a [String] },
+    Run {
+        steps: u64,
+        files: &'a [String],
+    },
     /// The same, and where the run is done it then writes each value of the stack on a line, from the bottom to the top.
-    RunStack { steps: u64, files: &'a [String] },
+    RunStack {
+        steps: u64,
+        files: &'a [String],
+    },
     /// Compiles these files and saves their image under this name.
-    Build { files: &'a [String], image: &'a str },
+    Build {
+        files: &'a [String],
+        image: &'a str,
+    },
     /// Runs the image of this name with a budget of so many ticks.
-    Exec { steps: u64, image: &'a str },
+    Exec {
+        steps: u64,
+        image: &'a str,
+    },
     /// Writes the code of that image as text.
-    List { image: &'a str },
+    List {
+        image: &'a str,
+    },
+    /// Draws the text of so many words from a seed, compiles it and runs it with a budget of so many ticks, and where the run is done it
+    /// then writes a line that sums it up. The one name is that of the text.
+    Generate {
+        steps: u64,
+        name: &'a [String],
+        seed: u32,
+        words: u32,
+    },
 }
 
 impl<'a> Command<'a> {
-    /// The names of the command's files. Those on an image have none.
+    /// The names of the command's files, or that of the text that it draws. Those on an image have none.
     pub fn files(self) -> &'a [String]
         ensures { map string_bytes result.now ≡ files_of (command_seen self.entry) }
     {
@@ -39,6 +75,7 @@ impl<'a> Command<'a> {
             Command::Build { files, .. } => files,
             Command::Exec { .. } => &[],
             Command::List { .. } => &[],
+            Command::Generate { name, .. } => name,
         }
     }
 }
@@ -81,23 +118,46 @@ fn number(digits: &[u8]) -> Option<u64>
     Some(number)
 }
 
-// The budget that a word gives.
-fn read_steps(word: &str) -> Option<u64>
-    ensures { result ≡ steps_of word.now }
+// The number that a word gives: one to so many digits, of a number of at most so much.
+fn read_number(word: &str, most_digits: usize, most: u64) -> Option<u64>
+    requires { most_digits ≤ 13 }
+    ensures is { result ≡ number_within most_digits most word.now }
+    ensures within { IfSome result (λ found. found ≤ most) }
 {
     let digits = word.as_bytes();
-    if digits.is_empty() || digits.len() > MOST_STEPS_DIGITS {
+    if digits.is_empty() || digits.len() > most_digits {
         return None;
     }
     match number(digits) {
         None => None,
-        Some(steps) => {
-            if steps <= MOST_STEPS {
-                Some(steps)
-            } else {
-                None
-            }
-        }
+        Some(found) => { if found <= most { Some(found) } else { None } }
+    }
+}
+
+// The budget that a word gives.
+fn read_steps(word: &str) -> Option<u64>
+    ensures { result ≡ steps_of word.now }
+{
+    read_number(word, MOST_STEPS_DIGITS, MOST_STEPS)
+}
+
+// The seed that a word gives.
+fn read_seed(word: &str) -> Option<u32>
+    ensures { result ≡ seed_of word.now }
+{
+    match read_number(word, MOST_SEED_DIGITS, MOST_SEED) {
+        None => None,
+        Some(seed) => Some(seed as u32),
+    }
+}
+
+// The number of words to be drawn that a word gives.
+fn read_count(word: &str) -> Option<u32>
+    ensures { result ≡ count_of word.now }
+{
+    match read_number(word, MOST_WORDS_DIGITS, MOST_WORDS) {
+        None => None,
+        Some(count) => { if count >= 1 { Some(count as u32) } else { None } }
     }
 }
 
@@ -231,6 +291,38 @@ fn read_list<'a>(words: &'a [String]) -> Option<Command<'a>>
     }
 }
 
+// The command that draws so many words from a seed, whose text has this name.
+fn generate<'a>(name: &'a [String], seed: Option<u32>, words: Option<u32>) -> Option<Command<'a>>
+    ensures { option_map command_seen result ≡ generate_by (map string_bytes name.now) seed words }
+{
+    match seed {
+        None => None,
+        Some(seed) => match words {
+            None => None,
+            Some(words) => Some(Command::Generate {
+                steps: TICKS,
+                name,
+                seed,
+                words,
+            }),
+        },
+    }
+}
+
+// The command of words of which the first is `gen`.
+fn read_generate<'a>(words: &'a [String]) -> Option<Command<'a>>
+    ensures { option_map command_seen result ≡ generate_of (map string_bytes words.now) }
+{
+    match words {
+        [_, seed, count] => generate(
+            &words[..1],
+            read_seed(seed.as_str()),
+            read_count(count.as_str()),
+        ),
+        _ => None,
+    }
+}
+
 /// The command that the words ask for. None exactly where they meet no form.
 pub fn read_words<'a>(words: &'a [String]) -> Option<Command<'a>>
     ensures { option_map command_seen result ≡ command_of (map string_bytes words.now) }
@@ -241,6 +333,7 @@ pub fn read_words<'a>(words: &'a [String]) -> Option<Command<'a>>
         [word, words @ ..] if word.as_str() == "build" => read_build(words),
         [word, words @ ..] if word.as_str() == "exec" => read_exec(words),
         [word, words @ ..] if word.as_str() == "list" => read_list(words),
+        [word, ..] if word.as_str() == "gen" => read_generate(words),
         _ => None,
     }
 }

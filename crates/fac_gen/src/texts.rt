@@ -3,22 +3,29 @@ ghost use Rattle.std.specs.Prelude.{◌≡◌, ◌++◌, ◌<◌, IfOk, OnOk};
 ghost use Rattle.fac_gen.specs.Generated.{behind_word, between, body, body_at, calling_body, calls, closing, definition, definitions, generated, opening};
 
 use crate::draws::{drawn, next};
-use fac_base::{Memory, Text};
+use fac_base::{Bytes, Memory};
 use itoa::Buffer;
 use std::alloc::Global;
 
+// Adds a text.
+fn push(text: &mut Bytes, more: &str) -> Result<(), Memory>
+    ensures { OnOk result (text.new ≡ text.old ++ more.now) }
+{
+    text.extend(more.as_bytes())
+}
+
 // Adds a number in decimal digits, between two texts.
-fn push_between(text: &mut Text, before: &str, number: u64, after: &str) -> Result<(), Memory>
+fn push_between(text: &mut Bytes, before: &str, number: u64, after: &str) -> Result<(), Memory>
     ensures { OnOk result (text.new ≡ text.old ++ between before.now number after.now) }
 {
     let mut buffer = Buffer::new();
-    text.push_str(before)?;
-    text.push_str(buffer.format(number))?;
-    text.push_str(after)
+    push(text, before)?;
+    push(text, buffer.format(number))?;
+    push(text, after)
 }
 
 // Adds the body of a word of this sort.
-fn push_body(text: &mut Text, sort: u64, number: u64) -> Result<(), Memory>
+fn push_body(text: &mut Bytes, sort: u64, number: u64) -> Result<(), Memory>
     ensures { OnOk result (text.new ≡ text.old ++ body sort number) }
 {
     if sort == 1 {
@@ -31,7 +38,7 @@ fn push_body(text: &mut Text, sort: u64, number: u64) -> Result<(), Memory>
 }
 
 // Adds the body of a word that calls an earlier one.
-fn push_calling(text: &mut Text, earlier: u64, number: u64) -> Result<(), Memory>
+fn push_calling(text: &mut Bytes, earlier: u64, number: u64) -> Result<(), Memory>
     ensures { OnOk result (text.new ≡ text.old ++ calling_body earlier number) }
 {
     push_between(text, "w", earlier, " ")?;
@@ -40,7 +47,7 @@ fn push_calling(text: &mut Text, earlier: u64, number: u64) -> Result<(), Memory
 
 #[tactic(auto, unfolding(crate::specs::Generated::body_at, crate::specs::Generated::behind_word))]
 // Adds the body of the word with the number k, which is drawn from this state, and answers the state behind its draws.
-fn push_drawn(text: &mut Text, k: u64, state: u64) -> Result<u64, Memory>
+fn push_drawn(text: &mut Bytes, k: u64, state: u64) -> Result<u64, Memory>
     requires { state < 4294967296 }
     ensures is { OnOk result (text.new ≡ text.old ++ body_at k state) }
     ensures state { IfOk result (λ behind. behind ≡ behind_word k state) }
@@ -62,7 +69,7 @@ fn push_drawn(text: &mut Text, k: u64, state: u64) -> Result<u64, Memory>
 
 // Adds how the definition of the word with the number k begins.
 #[tactic(auto, unfolding(crate::specs::Generated::opening))]
-fn push_opening(text: &mut Text, k: u64) -> Result<(), Memory>
+fn push_opening(text: &mut Bytes, k: u64) -> Result<(), Memory>
     ensures { OnOk result (text.new ≡ text.old ++ opening k) }
 {
     push_between(text, ": w", k, " ( x -- y ) ")
@@ -70,14 +77,14 @@ fn push_opening(text: &mut Text, k: u64) -> Result<(), Memory>
 
 // Adds how a definition ends.
 #[tactic(auto, unfolding(crate::specs::Generated::closing))]
-fn push_closing(text: &mut Text) -> Result<(), Memory>
+fn push_closing(text: &mut Bytes) -> Result<(), Memory>
     ensures { OnOk result (text.new ≡ text.old ++ closing) }
 {
-    text.push_str(" 1000 mod ;\n")
+    push(text, " 1000 mod ;\n")
 }
 
 // Adds the definition of the word with the number k, and answers the state behind its draws.
-fn push_definition(text: &mut Text, k: u64, state: u64) -> Result<u64, Memory>
+fn push_definition(text: &mut Bytes, k: u64, state: u64) -> Result<u64, Memory>
     requires { state < 4294967296 }
     ensures is { OnOk result (text.new ≡ text.old ++ definition k (body_at k state)) }
     ensures state { IfOk result (λ behind. behind ≡ behind_word k state) }
@@ -91,7 +98,7 @@ fn push_definition(text: &mut Text, k: u64, state: u64) -> Result<u64, Memory>
 
 #[tactic(auto, unfolding(crate::specs::Generated::definitions, crate::specs::Generated::state_of))]
 // Adds the definitions of so many words.
-fn push_definitions(text: &mut Text, count: u32, seed: u32) -> Result<(), Memory>
+fn push_definitions(text: &mut Bytes, count: u32, seed: u32) -> Result<(), Memory>
     ensures { OnOk result (text.new ≡ text.old ++ definitions seed count) }
 {
     let mut state = u64::from(seed);
@@ -103,7 +110,7 @@ fn push_definitions(text: &mut Text, count: u32, seed: u32) -> Result<(), Memory
 
 #[tactic(auto, unfolding(crate::specs::Generated::calls))]
 // Adds a line with the name of each of so many words.
-fn push_calls(text: &mut Text, count: u32) -> Result<(), Memory>
+fn push_calls(text: &mut Bytes, count: u32) -> Result<(), Memory>
     ensures { OnOk result (text.new ≡ text.old ++ calls count) }
 {
     for k in 0..count {
@@ -114,14 +121,14 @@ fn push_calls(text: &mut Text, count: u32) -> Result<(), Memory>
 
 #[tactic(auto, unfolding(crate::specs::Generated::generated))]
 /// The program of so many words that are drawn from a seed. Want of memory is the one error.
-pub fn generate(alloc: Global, seed: u32, words: u32) -> Result<Text, Memory>
+pub fn generate(alloc: Global, seed: u32, words: u32) -> Result<Bytes, Memory>
     ensures { IfOk result (λ text. text ≡ generated seed words) }
 {
-    let mut text = Text::new(alloc);
-    text.push_str("USING: kernel math prettyprint ;\nIN: gen\n")?;
+    let mut text = Bytes::new(alloc);
+    push(&mut text, "USING: kernel math prettyprint ;\nIN: gen\n")?;
     push_definitions(&mut text, words, seed)?;
-    text.push_str("0\n")?;
+    push(&mut text, "0\n")?;
     push_calls(&mut text, words)?;
-    text.push_str(".\n")?;
+    push(&mut text, ".\n")?;
     Ok(text)
 }

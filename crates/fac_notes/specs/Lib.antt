@@ -4,3 +4,4 @@ pub mod NoteRows
 pub mod Notes
 pub mod Sources
 pub mod Told
+pub mod Visible

@@ -12,6 +12,7 @@ use Rattle.fac_code.specs.declared.image.Image.{Image}
 use Rattle.fac_code.specs.declared.image.WordRow.{WordRow}
 use Rattle.fac_code.specs.Images.{tables_of}
 use Rattle.fac_code.specs.ImageNames.{text_of}
+use Rattle.fac_notes.specs.Visible.{visible}
 
 -- the name of a number that no word has: the tests of `call( )` and `execute( )` have the two greatest numbers
 abbrev pub name_without_word : ℕ → List ℕ
@@ -66,4 +67,4 @@ text_by [] name = name
 text_by (c ∷ cs) name = c ∷ cs ++ 58 ∷ name
 
 abbrev pub name_text : Name → List ℕ
-name_text n = text_by n.vocab n.name
+name_text n = text_by (visible n.vocab) (visible n.name)

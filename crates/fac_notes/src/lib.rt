@@ -7,6 +7,7 @@ mod line;
 mod note_table;
 mod report;
 pub mod status;
+mod visible;
 mod word_names;
 
 pub use laws::notes_are_not_empty;

@@ -1,9 +1,10 @@
 //! The note of a report, a line.
 ghost use Rattle.std.specs.Prelude.{◌≡◌, ◌++◌, IfOk, OnOk};
 ghost use Rattle.fac_notes.specs.Notes.{line_of, file_name as name_of_file, place_text, value_text, words_text};
-ghost use Rattle.fac_notes.specs.Notes.{bytes_line as bytes_line_of, syntax_line as syntax_line_of, name_line as name_line_of, check_line as check_line_of, error_line as error_line_of, trap_line as trap_line_of, too_long_line as too_long_line_of};
+ghost use Rattle.fac_notes.specs.Notes.{bytes_line as bytes_line_of, syntax_line as syntax_line_of, name_line as name_line_of, check_line as check_line_of, error_line as error_line_of, file_line as file_line_of, trap_line as trap_line_of, too_long_line as too_long_line_of};
 
 use crate::note_table::{byte_fault, name_kind, push_number, push_rule, why};
+use crate::visible::push_visible;
 use crate::word_names::push_name;
 use crate::{ByteFault, Report};
 use fac_base::{List, Memory, Name, Text};
@@ -28,7 +29,7 @@ fn file_name(names: &List<Text>, file: u32) -> &str
 fn push_place(line: &mut Text, name: &str, token: u32) -> Result<(), Memory>
     ensures { OnOk result (line.new ≡ line.old ++ place_text name.now token) }
 {
-    line.push_str(name)?;
+    push_visible(line, name)?;
     line.push_str(" token ")?;
     push_number(line, u64::from(token))?;
     line.push_str(": ")
@@ -39,7 +40,7 @@ fn bytes_line(alloc: Global, name: &str, at: u64, fault: ByteFault) -> Result<Te
     ensures { IfOk result (λ line. line ≡ bytes_line_of name.now at fault) }
 {
     let mut line = Text::from_str(alloc, "syntax: ")?;
-    line.push_str(name)?;
+    push_visible(&mut line, name)?;
     line.push_str(" byte ")?;
     push_number(&mut line, at)?;
     line.push_str(": ")?;
@@ -82,7 +83,7 @@ fn name_line(alloc: Global, name: &str, fault: &NameFault) -> Result<Text, Memor
     push_place(&mut line, name, fault.place.token)?;
     line.push_str(name_kind(&fault.kind))?;
     line.push_str(" ")?;
-    line.push_str(fault.name.as_str())?;
+    push_visible(&mut line, fault.name.as_str())?;
     push_words(&mut line, &fault.kind)?;
     line.push_str("\n")?;
     Ok(line)
@@ -144,19 +145,30 @@ fn trap_line(alloc: Global, pc: u32, reason: TrapWhy) -> Result<Text, Memory>
     Ok(line)
 }
 
+// The line of a file that was not read.
+fn file_line(alloc: Global, name: &str) -> Result<Text, Memory>
+    ensures { IfOk result (λ line. line ≡ file_line_of name.now) }
+{
+    let mut line = Text::from_str(alloc, "file: ")?;
+    push_visible(&mut line, name)?;
+    line.push_str("\n")?;
+    Ok(line)
+}
+
 // The line of a file that is too long.
 fn too_long_line(alloc: Global, name: &str, limit: u64) -> Result<Text, Memory>
     ensures { IfOk result (λ line. line ≡ too_long_line_of name.now limit) }
 {
     let mut line = Text::from_str(alloc, "too long: ")?;
-    line.push_str(name)?;
+    push_visible(&mut line, name)?;
     line.push_str(", more than ")?;
     push_number(&mut line, limit)?;
     line.push_str(" bytes\n")?;
     Ok(line)
 }
 
-/// The line of a report, with its line break. `files` has the names of the files by their numbers.
+/// The line of a report, with its line break. `files` has the names of the files by their numbers. In names a control character of ASCII is told as a
+/// question mark, so a name adds no line.
 pub fn note(alloc: Global, report: &Report, files: &List<Text>) -> Result<Text, Memory>
     ensures { IfOk result (λ line. line ≡ line_of files.now report.now) }
 {
@@ -176,10 +188,7 @@ pub fn note(alloc: Global, report: &Report, files: &List<Text>) -> Result<Text, 
         )?)),
         Report::Image { at } => Ok(Text::from_string(format!(in alloc; "image: byte {at}\n")?)),
         Report::Trap { pc, why } => trap_line(alloc, *pc, *why),
-        Report::File { name } => {
-            let name = name.as_str();
-            Ok(Text::from_string(format!(in alloc; "file: {name}\n")?))
-        }
+        Report::File { name } => file_line(alloc, name.as_str()),
         Report::TooLong { name, limit } => too_long_line(alloc, name.as_str(), *limit),
     }
 }

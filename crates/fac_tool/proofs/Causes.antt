@@ -1,5 +1,5 @@
 -- The cause of each answer, out of the whole clause.
-use Rattle.std.proofs.Common.{◌≡◌, ◌≢◌, ℕ, List, None, Some, ◌⊎◌, inl, inr, refl, ap, sym, subst, ◌∙◌, arith}
+use Rattle.std.proofs.Common.{◌≡◌, ◌≢◌, ℕ, List, [], ◌∷◌, None, Some, ◌⊎◌, inl, inr, refl, ap, sym, subst, ◌∙◌, arith}
 use Rattle.std.specs.declared.option.Option.{Option}
 use Rattle.fac_io.specs.Faults.{Rose}
 use Rattle.fac_tool.specs.declared.ended.Ended.{Ended}
@@ -8,12 +8,13 @@ use Rattle.fac_command.specs.Command.{Command, files_of}
 use Rattle.fac_command.specs.Command as command
 use Rattle.fac_lang.specs.declared.program.Program.{Program}
 use Rattle.fac_code.specs.declared.image.Image.{Image}
-use Rattle.fac_tool.specs.Answer.{Answer, Sources, answer_on, come_to, accepted}
+use Rattle.fac_gen.specs.Generated.{generated}
+use Rattle.fac_tool.specs.Answer.{Answer, Sources, answer_on, come_to, accepted, stack_behind}
 use Rattle.fac_tool.specs.Ends.{ending_of, EndsBy, EndsAs, Work, idle, work_of}
 use Rattle.fac_tool.specs.Loads.{LoadsEnd}
 use Rattle.fac_tool.specs.Saved.{since, Saves}
 use Rattle.fac_tool.specs.Executed.{BadImage, NoImageMemory, ExecutesBy, Executes, OnImage, DoesOnBytes, not_decoded, decoded, executed, listed, listed_answer}
-use Rattle.fac_tool.specs.Plans.{Task, SavesTask, DoesOnSources, DoesOnImage, checking, running, running_stack, saving, plan_of}
+use Rattle.fac_tool.specs.Plans.{Task, SavesTask, DoesOnSources, DoesOnImage, checking, running, running_then, saving, summing_up, plan_of}
 use Rattle.fac_tool.specs.Answers.{Tells, ReachesBy, AnswersBy, TellsUsage, numbered_names}
 
 -- a status that is neither a write fault nor want of memory is the one that was reached
@@ -125,9 +126,10 @@ of_image On texts files seen out ended causes does = of_decoded On does.bytes fi
 of_plan : (c : Command) (texts : List (List ℕ)) (files : FilesSeen) (seen : InputSeen) (out : SinkSeen) (ended : Ended) → (plan_of c).Does texts files seen out ended → Causes files seen out ended
 of_plan (command.check names) texts files seen out ended does = of_sources checking texts files seen out ended does
 of_plan (command.run budget names) texts files seen out ended does = of_sources (running budget) texts files seen out ended does
-of_plan (command.run_stack budget names) texts files seen out ended does = of_sources (running_stack budget) texts files seen out ended does
+of_plan (command.run_stack budget names) texts files seen out ended does = of_sources (running_then stack_behind budget) texts files seen out ended does
 of_plan (command.build names image) texts files seen out ended does = of_sources (saving image) texts files seen out ended does
 of_plan (command.exec budget image) texts files seen out ended does = of_image (executed budget) texts files seen out ended (λ M input left h. of_execution M budget input left files seen out ended h) does
+of_plan (command.generate budget name seed words) texts files seen out ended does = of_sources (summing_up words (generated seed words) budget) (generated seed words ∷ []) files seen out ended does
 of_plan (command.list image) texts files seen out ended does = of_image listed texts files seen out ended (λ M input left h. of_ends (listed_answer M input) idle files seen out left ended h.ends) does
 
 -- files that nothing but this part of the work failed on

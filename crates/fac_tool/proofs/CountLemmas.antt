@@ -5,10 +5,11 @@ use Rattle.fac_lines.specs.Channels.{ChannelsTold, CountsFaults, IsUnread, Takes
 use Rattle.fac_vm.specs.declared.machine.StopKind.{StopKind}
 use Rattle.fac_vm.specs.declared.machine.StopKind.TheVariants as stop
 use Rattle.fac_tool.specs.declared.ended.Ended.{Ended}
+use Rattle.fac_tool.specs.Answer.{Behind}
 use Rattle.fac_tool.specs.SeenObjects.{output_seen}
 use Rattle.fac_tool.specs.Ends.{Told, ending_of}
 use Rattle.fac_tool.specs.inner.StepEnds.{StatusCounts, bare}
-use Rattle.fac_tool.specs.inner.ListedStacks.{Lists, ListsStack}
+use Rattle.fac_tool.specs.inner.WrittenBehind.{WritesBy, WritesBehind}
 
 -- nothing was done with the channels
 pub still_counts : (channels : ChannelsTold) (status : ℕ) → StatusCounts channels channels status
@@ -48,17 +49,17 @@ took_counts before now piece (Err x) status took fault = record {
   output = record { later = took.cause.later; stays = λ none. absurd (none (fault refl)) };
 }
 
--- The lines of a stack were written behind a run. One that has a stack is none that was cut short.
-listed_by : (old mid new : ChannelsTold) (reached ended : Ended) (s : Option (List (List ℕ))) → reached.stack ≡ s → ((texts : List (List ℕ)) → reached.stack ≡ Some texts → ending_of reached.status ≡ Told) →
-    IsUnread mid new → StatusCounts old mid reached.status → StatusCounts mid new ended.status → Lists s reached (output_seen mid new) ended → StatusCounts old new ended.status
-listed_by old mid new reached ended None is told unread first then lists =
-    let same : reached.status ≡ ended.status = ap (λ (x : Ended). x.status) (sym lists.1) in
-    let count : new.output_faults ≡ mid.output_faults = ap (λ o. o.faults_now) lists.0 in
+-- Something was written behind a run. One that has a stack is none that was cut short.
+written_by : (behind : Behind) (old mid new : ChannelsTold) (reached ended : Ended) (s : Option (List (List ℕ))) → reached.stack ≡ s → ((texts : List (List ℕ)) → reached.stack ≡ Some texts → ending_of reached.status ≡ Told) →
+    IsUnread mid new → StatusCounts old mid reached.status → StatusCounts mid new ended.status → WritesBy behind s reached (output_seen mid new) ended → StatusCounts old new ended.status
+written_by behind old mid new reached ended None is told unread first then writes =
+    let same : reached.status ≡ ended.status = ap (λ (x : Ended). x.status) (sym writes.1) in
+    let count : new.output_faults ≡ mid.output_faults = ap (λ o. o.faults_now) writes.0 in
     record {
       input = record { later = omega (arith, first.input.later, unread.faults); stays = λ none. unread.faults ∙ first.input.stays (λ e. none (sym same ∙ e)) };
       output = record { later = omega (arith, first.output.later, then.output.later); stays = λ none. count ∙ first.output.stays (λ e. none (sym same ∙ e)) };
     }
-listed_by old mid new reached ended (Some texts) is told unread first then lists =
+written_by behind old mid new reached ended (Some texts) is told unread first then writes =
     let done = told texts is in
     let no_input : reached.status ≡ 9 → ⊥ = λ e. let at = subst (λ (n : ℕ). ending_of n ≡ Told) e done in cc in
     let no_output : reached.status ≡ 10 → ⊥ = λ e. let at = subst (λ (n : ℕ). ending_of n ≡ Told) e done in cc in
@@ -67,6 +68,6 @@ listed_by old mid new reached ended (Some texts) is told unread first then lists
       output = record { later = omega (arith, first.output.later, then.output.later); stays = λ none. then.output.stays none ∙ first.output.stays no_output };
     }
 
-pub listed_counts : (old mid new : ChannelsTold) (reached ended : Ended) → ((texts : List (List ℕ)) → reached.stack ≡ Some texts → ending_of reached.status ≡ Told) →
-    IsUnread mid new → StatusCounts old mid reached.status → StatusCounts mid new ended.status → ListsStack reached (output_seen mid new) ended → StatusCounts old new ended.status
-listed_counts old mid new reached ended told unread first then lists = listed_by old mid new reached ended reached.stack refl told unread first then lists
+pub written_counts : (behind : Behind) (old mid new : ChannelsTold) (reached ended : Ended) → ((texts : List (List ℕ)) → reached.stack ≡ Some texts → ending_of reached.status ≡ Told) →
+    IsUnread mid new → StatusCounts old mid reached.status → StatusCounts mid new ended.status → WritesBehind behind reached (output_seen mid new) ended → StatusCounts old new ended.status
+written_counts behind old mid new reached ended told unread first then writes = written_by behind old mid new reached ended reached.stack refl told unread first then writes

@@ -9,7 +9,7 @@ use Rattle.fac_notes.specs.Statuses.{status_of}
 use Rattle.fac_tool.specs.declared.ended.Ended.{Ended}
 use Rattle.fac_tool.specs.Answer.{Answer, refused, meaning}
 use Rattle.fac_tool.specs.SeenObjects.{SinkSeen, InputSeen, IsUnread}
-use Rattle.fac_tool.specs.Ends.{Ending, Told, ending_of, EndsBy, Work, idle, runs, runs_and_lists, run_output, RunPieces, MemoryInRun, OutputWhole, OutputBefore, UnreadBy, EndsOn}
+use Rattle.fac_tool.specs.Ends.{Ending, Told, ending_of, EndsBy, Work, idle, runs, runs_and_writes, run_output, RunPieces, MemoryInRun, OutputWhole, OutputBefore, UnreadBy, EndsOn}
 use Rattle.fac_tool.specs.inner.StepEnds.{bare, reported, still, EndsEarly}
 
 -- what stays grows by nothing
@@ -39,13 +39,13 @@ memory_first P input budget left seen out unread none = record {
 none_before : (work : Work) (left : List ℕ) (told : SinkTold) (m : ℕ) (seen : InputSeen) → IsUnread seen → OutputBefore work left 0 seen (still told m)
 none_before idle left told m seen unread = (refl, TookNothing-same told)
 none_before (runs P input budget) left told m seen unread = memory_first P input budget left seen (still told m) unread (TookNothing-same told)
-none_before (runs_and_lists P input budget) left told m seen unread = memory_first P input budget left seen (still told m) unread (TookNothing-same told)
+none_before (runs_and_writes behind P input budget) left told m seen unread = memory_first P input budget left seen (still told m) unread (TookNothing-same told)
 
 -- which is the whole of an empty output
 none_at_all : (why : Report) (input : List ℕ) (work : Work) (told : SinkTold) (m : ℕ) → OutputWhole work (refused why input) 0 (still told m)
 none_at_all why input idle told m = grows_nothing told.pieces
 none_at_all why input (runs P bytes budget) told m = run_of_none P bytes told m
-none_at_all why input (runs_and_lists P bytes budget) told m = run_of_none P bytes told m
+none_at_all why input (runs_and_writes behind P bytes budget) told m = run_of_none P bytes told m
 
 -- memory was wanted
 pub no_memory : (answer : List ℕ → Answer) (ended : Ended) → ended ≡ bare 12 0 → EndsEarly answer ended

@@ -14,7 +14,7 @@ pub mod NoteLemmas
 pub mod ClosedLemmas
 pub mod EffectRows
 pub mod DirectUses
-pub mod ListedLemmas
+pub mod BehindLemmas
 pub mod Composing
 pub mod CountLemmas
 pub mod ExecutedLemmas

@@ -75,18 +75,33 @@ of_run P budget Stuck = record { status = BAD_IMAGE; ticks = 0; stack = None; re
 abbrev pub run_answer : Program → List ℕ → ℕ → Answer
 run_answer P input budget = of_run P budget (meaning P input budget)
 
--- those of the stack that an answer has
-abbrev pub lines_if : Option (List (List ℕ)) → List ℕ
-lines_if None = []
-lines_if (Some texts) = stack_lines texts
+-- what is written behind a run that is done, by its ticks and by the texts of its stack from the bottom to the top
+abbrev pub Behind : Type 0
+Behind = ℕ → List (List ℕ) → List ℕ
 
--- the answer of a run that then writes its stack, from the bottom to the top, where it is done
-abbrev pub with_lines : Answer → Answer
-with_lines answer = record { status = answer.status; ticks = answer.ticks; stack = answer.stack; refusal = answer.refusal; output = answer.output ++ lines_if answer.stack; left = answer.left }
+-- the stack, each value on a line
+abbrev pub stack_behind : Behind
+stack_behind ticks texts = stack_lines texts
+
+-- a line that sums up a text of so many words and bytes, and its run
+abbrev pub summary_line : ℕ → ℕ → ℕ → List ℕ
+summary_line words bytes ticks = codes "words " ++ decimal words ++ codes " bytes " ++ decimal bytes ++ codes " ticks " ++ decimal ticks ++ codes "\n"
+
+abbrev pub summary_behind : ℕ → ℕ → Behind
+summary_behind words bytes ticks texts = summary_line words bytes ticks
+
+-- that of an answer, which is done where it has a stack
+abbrev pub lines_if : Behind → ℕ → Option (List (List ℕ)) → List ℕ
+lines_if behind ticks None = []
+lines_if behind ticks (Some texts) = behind ticks texts
+
+-- the answer of a run behind which that is written
+abbrev pub with_lines : Behind → Answer → Answer
+with_lines behind answer = record { status = answer.status; ticks = answer.ticks; stack = answer.stack; refusal = answer.refusal; output = answer.output ++ lines_if behind answer.ticks answer.stack; left = answer.left }
 
 -- that of a program's run on this input with this budget
-abbrev pub stack_answer : Program → List ℕ → ℕ → Answer
-stack_answer P input budget = with_lines (run_answer P input budget)
+abbrev pub written_answer : Behind → Program → List ℕ → ℕ → Answer
+written_answer behind P input budget = with_lines behind (run_answer P input budget)
 
 -- whether a form defines a word that has a phrase
 abbrev pub is_definition : Form → Bool

@@ -11,8 +11,8 @@ use Rattle.fac_lang.specs.Eval.{Result as Run, Done, Failed, Spent, Stuck}
 use Rattle.fac_vm.specs.Runs.{GrowsBeyond}
 use Rattle.fac_notes.specs.declared.status.TheConstants.{NO_COMMAND, FILE_FAULT, INPUT_FAULT, WRITE_FAULT, TOO_LONG, NO_MEMORY}
 use Rattle.fac_tool.specs.declared.ended.Ended.{Ended}
-use Rattle.fac_notes.specs.Told.{shown, stack_lines}
-use Rattle.fac_tool.specs.Answer.{Answer, meaning, run_answer, lines_if}
+use Rattle.fac_notes.specs.Told.{shown}
+use Rattle.fac_tool.specs.Answer.{Answer, Behind, meaning, run_answer, lines_if}
 use Rattle.fac_tool.specs.SeenObjects.{SinkSeen, InputSeen, IsUnread}
 
 -- the kinds of statuses: an answer of the definition, or one that the outside or want of memory brings
@@ -28,11 +28,12 @@ pub data Ending : Type 0 where
 abbrev pub ending_of : ℕ → Ending
 ending_of status = (if status == NO_COMMAND then Usage else if status == FILE_FAULT then FileFault else if status == INPUT_FAULT then InputFault else if status == WRITE_FAULT then WriteFault else if status == TOO_LONG then TooLong else if status == NO_MEMORY then NoMemory else Told)
 
--- What a command does with the accepted program of its files: it runs nothing, or runs it on this input with this budget, or runs it and then writes the lines of its stack.
+-- What a command does with the accepted program of its texts: it runs nothing, or runs it on this input with this budget, or runs it and then writes this behind
+-- the run.
 pub data Work : Type 0 where
   idle : Work
   runs : Program → List ℕ → ℕ → Work
-  runs_and_lists : Program → List ℕ → ℕ → Work
+  runs_and_writes : Behind → Program → List ℕ → ℕ → Work
 
 -- where there is none nothing is run
 abbrev pub work_of : (Program → List ℕ → Work) → Option Program → List ℕ → Work
@@ -104,11 +105,11 @@ pub record StopsWithin (P : Program) (input : List ℕ) (budget : ℕ) (ticks : 
   pub spent_before : 0 < ticks → (st : State Value) × (i : Option Item) × (meaning P input (ticks - 1) ≡ Spent st i) × GrowsBeyond out.before.taken out.now.taken st.world.output
   pub at_most : GrowsByPrefix out.before.taken out.now.taken (run_output (meaning P input ticks))
 
--- in which pieces the output was taken: outside a run in one write of the whole, and behind a run the lines in one write
+-- in which pieces the output was taken: outside a run in one write of the whole, and what is written behind a run in one write
 abbrev pub OutputWhole : Work → Answer → ℕ → SinkSeen → Type 0
 OutputWhole idle answer ticks out = Grows out.before.pieces out.now.pieces (one_piece answer.output)
 OutputWhole (runs P input budget) answer ticks out = RunPieces P input ticks [] out
-OutputWhole (runs_and_lists P input budget) answer ticks out = RunPieces P input ticks (lines_if answer.stack) out
+OutputWhole (runs_and_writes behind P input budget) answer ticks out = RunPieces P input ticks (lines_if behind answer.ticks answer.stack) out
 
 -- Something is so of what a run came to in so many ticks, or with one tick less: what is wanted for an item is wanted when its tick is taken.
 abbrev pub ThenOrBefore : Program → List ℕ → ℕ → (Run → Type 0) → Type 0
@@ -142,7 +143,7 @@ pub record MemoryInRun (P : Program) (input : List ℕ) (budget : ℕ) (left : L
 abbrev pub OutputBefore : Work → List ℕ → ℕ → InputSeen → SinkSeen → Type 0
 OutputBefore idle left ticks seen out = (ticks ≡ 0) × TookNothing out.before out.now
 OutputBefore (runs P input budget) left ticks seen out = MemoryInRun P input budget left ticks seen out
-OutputBefore (runs_and_lists P input budget) left ticks seen out = MemoryInRun P input budget left ticks seen out
+OutputBefore (runs_and_writes behind P input budget) left ticks seen out = MemoryInRun P input budget left ticks seen out
 
 -- In a run the item that took the last of these ticks asked for a line: of this the lines that were asked for are one more than with one tick less, and
 -- what is left of the input is what was left then. All that is written in these ticks was taken.
@@ -162,7 +163,7 @@ pub record InputFaultInRun (P : Program) (input : List ℕ) (budget : ℕ) (left
 abbrev pub OutputAsked : Work → List ℕ → ℕ → SinkSeen → Type 0
 OutputAsked idle left ticks out = ⊥
 OutputAsked (runs P input budget) left ticks out = InputFaultInRun P input budget left ticks out
-OutputAsked (runs_and_lists P input budget) left ticks out = InputFaultInRun P input budget left ticks out
+OutputAsked (runs_and_writes behind P input budget) left ticks out = InputFaultInRun P input budget left ticks out
 
 -- likewise where a write of a run failed: of the piece of the last item a front was taken, and of the input is left what the run left of it in these ticks
 pub record FaultInRun (P : Program) (input : List ℕ) (budget : ℕ) (left : List ℕ) (ticks : ℕ) (out : SinkSeen) : Type 0 where
@@ -170,15 +171,15 @@ pub record FaultInRun (P : Program) (input : List ℕ) (budget : ℕ) (left : Li
   pub front : RunFront P input ticks out
   pub rest : left ≡ run_left (meaning P input ticks)
 
--- A write failed behind a run that is done with these ticks, that of the lines of its stack, which aren't empty: behind all of the run's output a
--- front of them was taken. Of the input is left what the run left.
-pub record FaultBehindRun (P : Program) (input : List ℕ) (budget : ℕ) (left : List ℕ) (ticks : ℕ) (out : SinkSeen) : Type 0 where
+-- A write failed behind a run that is done with these ticks, that of lines that aren't empty: behind all of the run's output a front of them was
+-- taken. Of the input is left what the run left.
+pub record FaultBehindRun (behind : Behind) (P : Program) (input : List ℕ) (budget : ℕ) (left : List ℕ) (ticks : ℕ) (out : SinkSeen) : Type 0 where
   pub state : State Value
   pub more : ℕ
   pub done : meaning P input budget ≡ Done state more
   pub used : ticks ≡ budget - more
   pub lines : List ℕ
-  pub lines_are : lines ≡ stack_lines (map (shown P state.world) (reverse state.stack))
+  pub lines_are : lines ≡ behind ticks (map (shown P state.world) (reverse state.stack))
   pub some : 0 < length lines
   pub count : ℕ
   pub most : count ≤ length lines
@@ -190,7 +191,7 @@ pub record FaultBehindRun (P : Program) (input : List ℕ) (budget : ℕ) (left 
 abbrev pub OutputFront : Work → Answer → List ℕ → ℕ → SinkSeen → Type 0
 OutputFront idle answer left ticks out = (ticks ≡ 0) × (0 < length answer.output) × TookFront out.before out.now answer.output
 OutputFront (runs P input budget) answer left ticks out = FaultInRun P input budget left ticks out
-OutputFront (runs_and_lists P input budget) answer left ticks out = FaultInRun P input budget left ticks out ⊎ FaultBehindRun P input budget left ticks out
+OutputFront (runs_and_writes behind P input budget) answer left ticks out = FaultInRun P input budget left ticks out ⊎ FaultBehindRun behind P input budget left ticks out
 
 -- there is neither a stack nor a refusal: what stood on the stack of a run that was cut short isn't told
 pub record IsBare (ended : Ended) : Type 0 where
@@ -215,7 +216,7 @@ EndsAs answer work out seen left ended = EndsBy (ending_of ended.status) answer 
 abbrev pub UnreadBy : Work → InputSeen → Type 0
 UnreadBy idle seen = IsUnread seen
 UnreadBy (runs P input budget) seen = Unit {0}
-UnreadBy (runs_and_lists P input budget) seen = Unit {0}
+UnreadBy (runs_and_writes behind P input budget) seen = Unit {0}
 
 -- the work on this input has its answer, or was cut short, and this is left
 pub record EndsOn (answer : List ℕ → Answer) (work : List ℕ → Work) (out : SinkSeen) (seen : InputSeen) (ended : Ended) (input left : List ℕ) : Type 0 where

@@ -3,6 +3,7 @@ pub mod Stops
 pub mod StepEnds
 pub mod FormsTaken
 pub mod ImageSteps
-pub mod ListedStacks
+pub mod WrittenBehind
 pub mod Tasks
 pub mod Uses
+pub mod Drawings

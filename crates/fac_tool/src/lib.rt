@@ -2,13 +2,14 @@
 #![tactic(auto)]
 
 mod accepting;
+mod behind;
 mod definitions;
+mod drawing;
 mod ended;
 mod executing;
 mod images;
 mod laws;
 mod linking;
-mod listing;
 mod loading;
 mod program_run;
 mod reading;

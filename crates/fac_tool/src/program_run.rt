@@ -1,17 +1,18 @@
 //! The run of an accepted program: its image is run.
 ghost use Rattle.std.specs.Prelude.{IfOk};
 ghost use Rattle.fac_lang.specs.declared.program.Program.{Program as Source};
-ghost use Rattle.fac_tool.specs.Answer.{run_answer, stack_answer};
-ghost use Rattle.fac_tool.specs.Ends.{runs, runs_and_lists};
+ghost use Rattle.fac_tool.specs.Answer.{run_answer, written_answer};
+ghost use Rattle.fac_tool.specs.Ends.{runs, runs_and_writes};
 ghost use Rattle.fac_tool.specs.SeenObjects.{input_seen, output_seen, OnInput};
 ghost use Rattle.fac_tool.specs.inner.Stops.{Carried, IsFresh, StandsForSafe};
 ghost use Rattle.fac_tool.specs.inner.StepEnds.{StepsEnd, EndsRun, StatusCounts, ended_by};
+ghost use Rattle.fac_tool.specs.inner.WrittenBehind.{behind_seen};
 
 use crate::Ended;
+use crate::behind::{Behind, write_behind};
 use crate::ended::bare;
 use crate::executing::run_image;
 use crate::linking::link_to_run;
-use crate::listing::list_stack;
 use fac_base::Memory;
 use fac_carry::printed_forms_are_equal;
 use fac_check::Checked;
@@ -70,21 +71,22 @@ pub fn run_program<S: Reader, K: Sink>(
 
 // The two commands that run have one clause, each with its answer.
 
-/// Likewise, and then writes the lines of the stack where the run is done.
-pub fn run_and_list<S: Reader, K: Sink>(
+/// Likewise, and then writes this where the run is done.
+pub fn run_and_write<S: Reader, K: Sink>(
     alloc: Global,
     checked: Checked,
+    behind: Behind,
     budget: u64,
     channels: &mut Channels<S, K>,
 ) -> Result<Ended, Ended>
     requires { (P : Source) × StandsForSafe checked.closed P }
-    ensures ends { StepsEnd checked.closed (λ P input. stack_answer P input budget) (λ P input. runs_and_lists P input budget) channels.old channels.new result }
+    ensures ends { StepsEnd checked.closed (λ P input. written_answer (behind_seen behind) P input budget) (λ P input. runs_and_writes (behind_seen behind) P input budget) channels.old channels.new result }
     ensures counts { StatusCounts channels.old channels.new (ended_by result).status }
 {
     match machine_of(alloc, checked) {
         Ok(mut machine) => {
             let ended = run_carried(alloc, &mut machine, budget, channels);
-            Ok(list_stack(alloc, ended, channels))
+            Ok(write_behind(alloc, behind, ended, channels))
         }
         Err(_) => Err(bare(NO_MEMORY, 0)),
     }

@@ -61,8 +61,8 @@ fn answer<F: Files, S: Source, K: Sink, N: Sink>(
 /// no accepted program underflows a stack or changes its height other than its declared effects say.
 ///
 /// The clause `answer` says what is answered, by cases on the command and on what the prelude and its files come to: of `check`, `run` and `build`,
-/// on files of at most 4,194,304 bytes together, of `run` on every input and at every budget of at most 1,000,000,000,000 ticks; and of `exec` and
-/// `list`, by cases on the bytes of their image. What `build` saves is the image of code that carries the program, in which direct phrases are done in
+/// on files of at most 4,194,304 bytes together, of `run` on every input and at every budget of at most 1,000,000,000,000 ticks; of `gen`, which runs
+/// the text that it draws; and of `exec` and `list`, by cases on the bytes of their image. What `build` saves is the image of code that carries the program, in which direct phrases are done in
 /// place and no last call leaves a return entry, and what `exec` answers is the run of the image of its bytes; the law
 /// `saved_code_runs_as_its_source` says of both that this is what `run` answers on the sources. That `run` goes through code isn't in it: `compile`
 /// and `Machine::run` promise that. Want of memory may be answered at any point; a fault only where the object that was handed in counted one.

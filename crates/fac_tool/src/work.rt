@@ -1,29 +1,36 @@
 //! The work of a command, as a list of steps: each gives a result for the next one, or an ending of the work.
 ghost use Rattle.std.specs.Prelude.{◌≤◌, map, string_bytes};
+ghost use Rattle.fac_gen.specs.Generated.{generated};
 ghost use Rattle.fac_command.specs.SeenCommands.{command_seen};
 ghost use Rattle.fac_lang.specs.declared.program.Program.{Program as Source};
 ghost use Rattle.fac_lines.specs.Channels.{ChannelsTold};
 ghost use Rattle.fac_tool.specs.Answers.{Reaches, ReachesBy};
 ghost use Rattle.fac_tool.specs.Executed.{executed, listed};
-ghost use Rattle.fac_tool.specs.Plans.{on_image, on_sources, plan_of, saving};
+ghost use Rattle.fac_tool.specs.Plans.{DoesOnSources, on_image, on_sources, on_text, plan_of, saving, summing_up};
+ghost use Rattle.fac_tool.specs.Saved.{FilesTold};
 ghost use Rattle.fac_tool.specs.SeenObjects.{files_seen, input_seen, output_seen};
 ghost use Rattle.fac_tool.specs.inner.Stops.{StandsForSafe};
-ghost use Rattle.fac_tool.specs.inner.StepEnds.{StepsEnd, ended_by, StatusCounts};
+ghost use Rattle.fac_tool.specs.inner.StepEnds.{StepsEnd, ended_by, StatusCounts, still_files};
 ghost use Rattle.fac_tool.specs.inner.Tasks.{task_seen};
 
 use crate::accepting::{Accepted, accepted_program};
+use crate::behind::Behind;
 use crate::definitions::tell_checked;
+use crate::drawing::{Drawn, draw};
+use crate::ended::bare;
 use crate::executing::execute;
 use crate::images::list_image;
 use crate::loading::{load_all, load_one};
-use crate::program_run::{run_and_list, run_program};
+use crate::program_run::{run_and_write, run_program};
 use crate::saving::save_image;
 use crate::{Command, Ended};
 use fac_base::limits::MOST_IMAGE_BYTES;
+use fac_base::{Bytes, List};
 use fac_check::accepted_programs_are_safe;
 use fac_io::{Files, Sink, Source as Reader};
 use fac_lines::Channels;
 use fac_names::resolved_programs_are_whole;
+use fac_notes::status::NO_MEMORY;
 use std::alloc::Global;
 
 // What is done with an accepted program whose image isn't saved.
@@ -33,8 +40,8 @@ enum Task {
     Check,
     // It is run with a budget of so many ticks.
     Run(u64),
-    // The same, and then the stack is written.
-    RunStack(u64),
+    // The same, and then something is written behind the run.
+    RunThen(Behind, u64),
 }
 
 // Does this with an accepted program.
@@ -51,8 +58,26 @@ fn carry_out<S: Reader, K: Sink>(
     match task {
         Task::Check => Ok(tell_checked(alloc, accepted.definitions, channels)),
         Task::Run(budget) => run_program(alloc, accepted.checked, budget, channels),
-        Task::RunStack(budget) => run_and_list(alloc, accepted.checked, budget, channels),
+        Task::RunThen(behind, budget) => {
+            run_and_write(alloc, accepted.checked, behind, budget, channels)
+        }
     }
+}
+
+// Does this with the program of the prelude and of texts.
+fn do_on_texts<S: Reader, K: Sink>(
+    alloc: Global,
+    task: Task,
+    texts: List<Bytes>,
+    channels: &mut Channels<S, K>,
+) -> Result<Ended, Ended>
+    ensures does { (files : FilesTold) → DoesOnSources (task_seen task) texts (still_files files) (input_seen channels.old channels.new) (output_seen channels.old channels.new) (ended_by result) }
+    ensures counts { StatusCounts channels.old channels.new (ended_by result).status }
+{
+    accepted_programs_are_safe();
+    resolved_programs_are_whole();
+    let accepted = accepted_program(alloc, texts)?;
+    carry_out(alloc, task, accepted, channels)
 }
 
 // The steps of a command on the sources of these names.
@@ -67,11 +92,31 @@ fn steps<F: Files, S: Reader, K: Sink>(
     ensures counts { StatusCounts channels.old channels.new (ended_by result).status }
     ensures ending { ReachesBy (on_sources (map string_bytes names.now) (task_seen task)) (files_seen F.held F.asked F.faults files.old files.new) (input_seen channels.old channels.new) (output_seen channels.old channels.new) (ended_by result) }
 {
-    accepted_programs_are_safe();
-    resolved_programs_are_whole();
     let texts = load_all(alloc, names, files)?;
-    let accepted = accepted_program(alloc, texts)?;
-    carry_out(alloc, task, accepted, channels)
+    do_on_texts(alloc, task, texts, channels)
+}
+
+// The steps of `gen` on the text of so many words that are drawn from this seed. No file is asked for.
+fn generate_steps<S: Reader, K: Sink>(
+    alloc: Global,
+    seed: u32,
+    words: u32,
+    budget: u64,
+    channels: &mut Channels<S, K>,
+) -> Result<Ended, Ended>
+    ensures counts { StatusCounts channels.old channels.new (ended_by result).status }
+    ensures ending { (files : FilesTold) →
+        ReachesBy (on_text (generated seed words) (summing_up words (generated seed words) budget)) (still_files files) (input_seen channels.old channels.new) (output_seen channels.old channels.new) (ended_by result) }
+{
+    match draw(alloc, seed, words) {
+        Err(_) => Err(bare(NO_MEMORY, 0)),
+        Ok(Drawn { texts, bytes }) => do_on_texts(
+            alloc,
+            Task::RunThen(Behind::Summary { words, bytes }, budget),
+            texts,
+            channels,
+        ),
+    }
 }
 
 // The steps of `build` on the sources of these names, whose image has this one.
@@ -143,7 +188,13 @@ fn command_steps<F: Files, S: Reader, K: Sink>(
         Command::RunStack {
             steps: budget,
             files: names,
-        } => steps(alloc, Task::RunStack(budget), names, files, channels),
+        } => steps(
+            alloc,
+            Task::RunThen(Behind::Stack, budget),
+            names,
+            files,
+            channels,
+        ),
         Command::Build {
             files: names,
             image,
@@ -153,6 +204,12 @@ fn command_steps<F: Files, S: Reader, K: Sink>(
             image,
         } => execute_steps(alloc, image, budget, files, channels),
         Command::List { image } => list_steps(alloc, image, files, channels),
+        Command::Generate {
+            steps: budget,
+            seed,
+            words,
+            ..
+        } => generate_steps(alloc, seed, words, budget, channels),
     }
 }
 

@@ -27,6 +27,7 @@ use Rattle.fac_tool.specs.SeenObjects.{SinkSeen, FilesSeen, InputSeen, OnInput, 
 use Rattle.fac_tool.specs.Ends.{Work, runs, StopsWithin, EndsAs, EndsOn}
 use Rattle.fac_tool.specs.inner.Stops.{StandsForSafe}
 use Rattle.fac_tool.specs.Loads.{LoadsGive, LoadsEnd}
+use Rattle.fac_tool.specs.Saved.{FilesTold}
 
 -- an ending with neither a stack nor a refusal
 abbrev pub bare : ℕ → ℕ → Ended
@@ -52,6 +53,10 @@ tree_ending file parse.Memory = bare NO_MEMORY 0
 -- a sink that stays as it was
 abbrev pub still : SinkTold → ℕ → SinkSeen
 still told faults = record { before = told; now = told; faults_before = faults; faults_now = faults }
+
+-- files that stay as they were
+abbrev pub still_files : FilesTold → FilesSeen
+still_files told = record { held_before = told.held; held_now = told.held; asked_before = told.asked; asked_now = told.asked; faults_before = told.faults; faults_now = told.faults }
 
 -- an ending before anything is read or written, whatever the work was to be and on whatever input, of which nothing was taken: the answer, or want of memory
 abbrev pub EndsEarly : (List ℕ → Answer) → Ended → Type 0

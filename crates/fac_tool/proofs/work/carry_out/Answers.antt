@@ -19,7 +19,7 @@ returns-in-Run-clause-ends g c =
     let accepted = c.args.accepted in
     subst (λ (x : Task). StepsEnd accepted.checked.closed ((task_seen x).answer accepted.definitions) (task_seen x).work c.args.channels.now c.run_program.new.channels c.run_program.result) (sym c.in-Run.is) c.run_program.ensures.ends
 
-pub returns-in-RunStack-clause-ends : goal.returns-in-RunStack-clause-ends
-returns-in-RunStack-clause-ends g c =
+pub returns-in-RunThen-clause-ends : goal.returns-in-RunThen-clause-ends
+returns-in-RunThen-clause-ends g c =
     let accepted = c.args.accepted in
-    subst (λ (x : Task). StepsEnd accepted.checked.closed ((task_seen x).answer accepted.definitions) (task_seen x).work c.args.channels.now c.run_and_list.new.channels c.run_and_list.result) (sym c.in-RunStack.is) c.run_and_list.ensures.ends
+    subst (λ (x : Task). StepsEnd accepted.checked.closed ((task_seen x).answer accepted.definitions) (task_seen x).work c.args.channels.now c.run_and_write.new.channels c.run_and_write.result) (sym c.in-RunThen.is) c.run_and_write.ensures.ends

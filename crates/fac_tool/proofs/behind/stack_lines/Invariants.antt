@@ -1,7 +1,7 @@
 use Rattle.std.proofs.Common.{◌≡◌, ◌++◌, drop}
 use Rattle.std.specs.Prelude.{string_bytes}
 use Rattle.fac_notes.specs.Told.{stack_lines}
-use Rattle.fac_tool.proofs.listing.lines.Given as goal
+use Rattle.fac_tool.proofs.behind.stack_lines.Given as goal
 
 abbrev pub invariant-loop-text : goal.invariant-loop-text
 invariant-loop-text l = stack_lines l.texts ≡ string_bytes l.lines ++ stack_lines (drop l.text-index l.texts)
