@@ -1,3 +1,4 @@
+pub mod BelowSteps
 pub mod CollectedLemmas
 pub mod EachInstruction
 mod ExamplesOfFrames

@@ -1,4 +1,5 @@
 pub mod Machine
+pub mod Below
 pub mod MachineLaws
 pub mod Renaming
 pub mod Collected

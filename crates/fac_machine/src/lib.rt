@@ -4,4 +4,6 @@
 
 mod laws;
 
-pub use laws::{runs_dont_tell_addresses, runs_have_one_end, runs_may_be_collected};
+pub use laws::{
+    runs_dont_tell_addresses, runs_have_one_end, runs_leave_values_below, runs_may_be_collected,
+};
