@@ -3,6 +3,7 @@ use Rattle.std.proofs.Common.{◌≡◌, inl, inr, ℕ, List, [], ◌∷◌, len
 use Rattle.std.specs.Prelude.{◌⊎◌}
 use Rattle.fac_base.specs.declared.limits.TheConstants.{TICKS}
 use Rattle.fac_lang.specs.LongerPrograms.{IsLonger}
+use Rattle.fac_lang.specs.Meaning.{word_phrase}
 use Rattle.fac_lang.specs.Eval.{Result as Run, Done, Failed, Spent, Stuck}
 use Rattle.fac_lang.specs.Phrases.{Phrase, end, then}
 use Rattle.fac_source.specs.declared.refusal.NameFault.{NameFault}
@@ -40,7 +41,7 @@ module _ (C : Known → Type 0) (s : Session) (before : C s.known) where
   text_comes : (text input : List ℕ) (m : Meant) → ((k : Known) → m ≡ goes_on k → C k) → C (on_meant s text input m).session.known
   text_comes text input (waits at) behind = before
   text_comes text input (refuses r) behind = before
-  text_comes text input (goes_on k) behind = phrase_comes k input (behind k refl) _
+  text_comes text input (goes_on k) behind = phrase_comes k input (behind k refl) (word_phrase k.program k.program.top)
 
 -- A text that goes on has a tree, and its names come to what it goes on with.
 record ComesTo (k : Known) (text : Source) (q : Known) : Type 0 where

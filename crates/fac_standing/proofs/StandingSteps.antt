@@ -1,6 +1,6 @@
 -- Each step of a machine keeps whole values, where its code pushes no top-level phrase.
 use Rattle.std.proofs.Common.{◌≡◌, ℕ, zero, suc, ◌+◌, List, [], ◌∷◌, ◌++◌, ◌-◌, length, length-append, Bool, true, false, ◌&&◌, Option, Some, None, refl, sym, ap, subst, ◌∙◌, arith}
-use Rattle.std.specs.Prelude.{slice_get, drop, take, nat_eq}
+use Rattle.std.specs.Prelude.{slice_get, drop, take, nat_eq, nat_le, nat_lt}
 use Rattle.std.specs.List.{list_all}
 use Rattle.fac_base.specs.declared.height.Height.{Height}
 use Rattle.fac_lang.specs.declared.program.Program.{Program}
@@ -37,6 +37,7 @@ use Rattle.fac_carry.specs.WholeValues as whole
 use Rattle.fac_carry.proofs.AccessorLemmas.{accessor_keeps, tuple_keeps}
 use Rattle.fac_carry.proofs.KeptPrimitives.{prim_keeps}
 use Rattle.fac_carry.proofs.WholeValueLemmas.{get_whole, pile_whole, more_whole, parts_whole, kept_whole, cells_whole, made_whole, branch_whole}
+use Rattle.fac_longer.proofs.LongerPrograms.{same_number}
 use Rattle.fac_standing.specs.Standing.{end_machine}
 
 both_hold : (a b : Bool) → (a && b) ≡ true → (a ≡ true) × (b ≡ true)
@@ -51,13 +52,15 @@ passes_at test (x ∷ is) (suc k) i h e = passes_at test is k i (both_hold (test
 
 refers_at : (M : Image) (k : ℕ) (i : Instr) → slice_get M.code k ≡ Some i → instr_refers (tables_of M) i ≡ true
 refers_at M k i e =
-    let code = (both_hold (tables_refer (tables_of M) (length M.code)) _ M.refers).1 in
-    passes_at (instr_refers (tables_of M)) M.code k i (both_hold (list_all (instr_refers (tables_of M)) M.code) _ code).0 e
+    let T = tables_of M in
+    let places = places_refer (length M.code) 0 M.code && nat_lt M.start (length M.code) in
+    let code = (both_hold (tables_refer T (length M.code)) (list_all (instr_refers T) M.code && places) M.refers).1 in
+    passes_at (instr_refers T) M.code k i (both_hold (list_all (instr_refers T) M.code) places code).0 e
 
 -- a template without holes
 no_holes : (o : Option TemplateRow) (t : TemplateRow) → o ≡ Some t → names_quotation o ≡ true → t.holes ≡ 0
 no_holes None t e h = absurd cc
-no_holes (Some r) t e h = let same : r ≡ t = cc in let none : r.holes ≡ 0 = grind arith in sym (ap (λ (x : TemplateRow). x.holes) same) ∙ none
+no_holes (Some r) t e h = let same : r ≡ t = cc in let none = same_number r.holes 0 h in sym (ap (λ (x : TemplateRow). x.holes) same) ∙ none
 
 module _ (R : Program) (M : Image) where
   abbrev Whole : MValue → Type 0
@@ -93,48 +96,52 @@ module _ (R : Program) (M : Image) where
   FineJob (Some (instr i)) = FineInstr i
   FineJob (Some (acts w)) = is_top_phrase R w ≡ false
 
-  abbrev FineStep : Step → Type 0
-  FineStep (goes_on s n) = Fine s × FineJob s.job
-  FineStep (ends e) = Fine (end_machine e)
+  abbrev FineCase : Step → Type 0
+  FineCase (goes_on s n) = Fine s × FineJob s.job
+  FineCase (ends e) = Fine (end_machine e)
+
+  -- a record, so that what goes on behind something is found
+  record FineStep (x : Step) : Type 0 where
+    by : FineCase x
 
   with_stack : (s : Machine) (r : List MValue) → Fine s → AllWhole r → Fine (record s { stack = r })
   with_stack s r h hr = (hr, h.1, h.2, h.3, h.4)
 
   pushed : (s : Machine) (n : ℕ) (v : MValue) → Fine s → Whole v → FineStep (goes_on (after (push v s)) n)
-  pushed s n v h hv = (((hv, h.0), h.1, h.2, h.3, h.4), tt)
+  pushed s n v h hv = record { by = (((hv, h.0), h.1, h.2, h.3, h.4), tt) }
 
   -- what is taken from the stack
   one_fine : (st : List MValue) (s : Machine) (n : ℕ) (go : MValue → Machine → Step) → Fine s → AllWhole st → ((x : MValue) (r : List MValue) → Whole x → AllWhole r → FineStep (go x (record s { stack = r }))) → FineStep (popping1 st s n go)
-  one_fine [] s n go h hs f = h
+  one_fine [] s n go h hs f = record { by = h }
   one_fine (x ∷ r) s n go h hs f = f x r hs.0 hs.1
 
   two_fine : (st : List MValue) (s : Machine) (n : ℕ) (go : MValue → MValue → Machine → Step) → Fine s → AllWhole st → ((x y : MValue) (r : List MValue) → Whole x → Whole y → AllWhole r → FineStep (go x y (record s { stack = r }))) → FineStep (popping2 st s n go)
-  two_fine [] s n go h hs f = h
-  two_fine (y ∷ []) s n go h hs f = h
+  two_fine [] s n go h hs f = record { by = h }
+  two_fine (y ∷ []) s n go h hs f = record { by = h }
   two_fine (y ∷ x ∷ r) s n go h hs f = f x y r hs.1.0 hs.0 hs.1.1
 
   three_fine :
       (st : List MValue) (s : Machine) (n : ℕ) (go : MValue → MValue → MValue → Machine → Step) → Fine s → AllWhole st → ((x y z : MValue) (r : List MValue) → Whole x → Whole y → Whole z → AllWhole r → FineStep (go x y z (record s { stack = r }))) →
       FineStep (popping3 st s n go)
-  three_fine [] s n go h hs f = h
-  three_fine (z ∷ []) s n go h hs f = h
-  three_fine (z ∷ y ∷ []) s n go h hs f = h
+  three_fine [] s n go h hs f = record { by = h }
+  three_fine (z ∷ []) s n go h hs f = record { by = h }
+  three_fine (z ∷ y ∷ []) s n go h hs f = record { by = h }
   three_fine (z ∷ y ∷ x ∷ r) s n go h hs f = f x y z r hs.1.1.0 hs.1.0 hs.0 hs.1.1.1
 
   many_fine :
       (k : ℕ) (vs st : List MValue) (s : Machine) (n : ℕ) (go : List MValue → Machine → Step) → Fine s → AllWhole vs → AllWhole st → ((us r : List MValue) → length us ≡ k + length vs → AllWhole us → AllWhole r → FineStep (go us (record s { stack = r }))) →
       FineStep (popping k vs st s n go)
   many_fine zero vs st s n go h hv hs f = f vs st (omega arith) hv hs
-  many_fine (suc k) vs [] s n go h hv hs f = h
+  many_fine (suc k) vs [] s n go h hv hs f = record { by = h }
   many_fine (suc k) vs (x ∷ st) s n go h hv hs f = many_fine k (x ∷ vs) st s n go h (hs.0, hv) hs.1 (λ us r l hu hr. let more : length (x ∷ vs) ≡ suc (length vs) = refl in f us r (omega (arith, l, more)) hu hr)
 
   -- what is there, or is wanted
   there_fine : {A : Type 0} (o : Option A) (y : TrapWhy) (s : Machine) (n : ℕ) (go : A → Step) → Fine s → ((a : A) → o ≡ Some a → FineStep (go a)) → FineStep (or_trap o y s n go)
-  there_fine None y s n go h f = h
+  there_fine None y s n go h f = record { by = h }
   there_fine (Some a) y s n go h f = f a refl
 
   callable_fine : (v : MValue) (s : Machine) (n : ℕ) (go : MCallable → Step) → Fine s → Whole v → ((c : MCallable) → WholeCallable c → FineStep (go c)) → FineStep (want_callable v s n go)
-  callable_fine (m_plain p) s n go h hv f = h
+  callable_fine (m_plain p) s n go h hv f = record { by = h }
   callable_fine (m_fun c) s n go h hv f = f c hv
 
   -- a word that is seen is no top-level phrase
@@ -150,13 +157,13 @@ module _ (R : Program) (M : Image) where
   seen_spared (m_plain (tup b)) a h e = absurd cc
 
   word_fine : (o : Option ℕ) (s : Machine) (n : ℕ) (go : ℕ → Step) → Fine s → ((a : ℕ) → o ≡ Some a → FineStep (go a)) → FineStep (want_word o s n go)
-  word_fine None s n go h f = h
+  word_fine None s n go h f = record { by = h }
   word_fine (Some a) s n go h f = f a refl
 
   -- what primitives, accessors and new tuples give
   given_fine : (a : ℕ) (s : Machine) (n : ℕ) (g : Gives MValue) → Fine s → whole.WholeGives R M g → FineStep (given a s n (λ t. goes_on (after t) n) g)
-  given_fine a s n (gives vs w) h k = ((pile_whole R M vs s.stack k.0 h.0, h.1, h.2, h.3, k.1), tt)
-  given_fine a s n (bad e v w) h k = (h.0, h.1, h.2, h.3, k)
+  given_fine a s n (gives vs w) h k = record { by = ((pile_whole R M vs s.stack k.0 h.0, h.1, h.2, h.3, k.1), tt) }
+  given_fine a s n (bad e v w) h k = record { by = (h.0, h.1, h.2, h.3, k) }
 
   does_fine : (a : ℕ) (f : Fn MValue) (s : Machine) (n : ℕ) → whole.Keeps R M f → Fine s → FineStep (does a f s n (λ t. goes_on (after t) n))
   does_fine a (fn0 f) s n k h = given_fine a s n (f s.world) h (k s.world h.4)
@@ -165,25 +172,25 @@ module _ (R : Program) (M : Image) where
   does_fine a (fn3 f) s n k h = three_fine s.stack s n _ h h.0 (λ x y z r hx hy hz hr. given_fine a (record s { stack = r }) n (f x y z s.world) (with_stack s r h hr) (k x y z s.world hx hy hz h.4))
 
   back_fine : (pc : ℕ) (f : Step) → FineStep f → FineStep (back pc f)
-  back_fine pc (goes_on s n) h = (h.0, tt)
-  back_fine pc (ends e) h = h
+  back_fine pc (goes_on s n) h = record { by = (h.by.0, tt) }
+  back_fine pc (ends e) h = record { by = h.by }
 
   pay_fine : (k : ℕ) (s : Machine) (n : ℕ) (go : ℕ → Step) → Fine s → ((m : ℕ) → FineStep (go m)) → FineStep (paying k s n go)
   pay_fine zero s n go h f = f n
-  pay_fine (suc k) s zero go h f = h
+  pay_fine (suc k) s zero go h f = record { by = h }
   pay_fine (suc k) s (suc n) go h f = pay_fine k s n go h f
 
   -- callables, and return entries
   enter_fine : (c : MCallable) (s : Machine) (n : ℕ) → Fine s → WholeCallable c → FineStep (entering M c s n)
-  enter_fine (m_lit q k) s n h hc = there_fine (slice_get M.templates q) t_kind s n _ h (λ t e. ((h.0, h.1, h.2, kept_whole R M k hc.3, h.4), tt))
-  enter_fine (m_cur v c) s zero h hc = h
+  enter_fine (m_lit q k) s n h hc = there_fine (slice_get M.templates q) t_kind s n _ h (λ t e. record { by = ((h.0, h.1, h.2, kept_whole R M k hc.3, h.4), tt) })
+  enter_fine (m_cur v c) s zero h hc = record { by = h }
   enter_fine (m_cur v c) s (suc n) h hc = enter_fine c (push v s) n ((hc.0, h.0), h.1, h.2, h.3, h.4) hc.1
-  enter_fine (m_com c d) s zero h hc = h
+  enter_fine (m_com c d) s zero h hc = record { by = h }
   enter_fine (m_com c d) s (suc n) h hc = enter_fine c (waiting (enter d) s) n (h.0, h.1, (hc.1, h.2), h.3, h.4) hc.0
 
   return_fine : (es : List Entry) (s : Machine) (n : ℕ) → WholeEntries es → Fine s → FineStep (returning M es s n)
-  return_fine [] s n he h = (h.0, h.1, tt, h.3, h.4)
-  return_fine (resume a F ∷ es) s n he h = ((h.0, h.1, he.1, he.0, h.4), tt)
+  return_fine [] s n he h = record { by = (h.0, h.1, tt, h.3, h.4) }
+  return_fine (resume a F ∷ es) s n he h = record { by = ((h.0, h.1, he.1, he.0, h.4), tt) }
   return_fine (put_back v ∷ es) s n he h = return_fine es (push v s) n he.1 ((he.0, h.0), h.1, h.2, h.3, h.4)
   return_fine (enter c ∷ es) s n he h = enter_fine c (record s { returns = es }) n (h.0, h.1, he.1, h.3, h.4) he.0
 
@@ -192,12 +199,12 @@ module _ (R : Program) (M : Image) where
   leaving_fine false s h = (h.0, h.1, (h.3, h.2), h.3, h.4)
 
   jumps_if_fine : (b : Bool) (a : ℕ) (s : Machine) (n : ℕ) → Fine s → FineStep (goes_on (jumping_if b a s) n)
-  jumps_if_fine true a s n h = (h, tt)
-  jumps_if_fine false a s n h = (h, tt)
+  jumps_if_fine true a s n h = record { by = (h, tt) }
+  jumps_if_fine false a s n h = record { by = (h, tt) }
 
   takes_back_fine : (held : List MValue) (s : Machine) (n : ℕ) → AllWhole held → Fine s → FineStep (takes_back held s n)
-  takes_back_fine [] s n hv h = h
-  takes_back_fine (v ∷ vs) s n hv h = (((hv.0, h.0), hv.1, h.2, h.3, h.4), tt)
+  takes_back_fine [] s n hv h = record { by = h }
+  takes_back_fine (v ∷ vs) s n hv h = record { by = (((hv.0, h.0), hv.1, h.2, h.3, h.4), tt) }
 
   truth_whole : (b : Bool) → Whole (truth b)
   truth_whole true = tt
@@ -232,28 +239,28 @@ module _ (R : Program) (M : Image) where
 
     -- methods
     method_fine : (o : Option MethodRow) (e : ErrorName) (g : ℕ) (v : MValue) → Whole v → FineStep (enters_method M o e g v s n)
-    method_fine None e g v hv = h
-    method_fine (Some m) e g v hv = (((hv, h.0), h.1, h.2, tt, h.4), tt)
+    method_fine None e g v hv = record { by = h }
+    method_fine (Some m) e g v hv = record { by = (((hv, h.0), h.1, h.2, tt, h.4), tt) }
 
     -- what is tested
     tested_if : (b : Bool) (c : MCallable) → WholeCallable c → FineStep (enters_if M b c s n)
     tested_if true c hc = enter_fine c s n h hc
-    tested_if false c hc = h
+    tested_if false c hc = record { by = h }
 
     tested_fine : (x : Height) (v : MValue) → Whole v → FineStep (tested_call M x v s n)
-    tested_fine x (m_plain p) hv = h
+    tested_fine x (m_plain p) hv = record { by = h }
     tested_fine x (m_fun c) hv = tested_if (fits_in x (callable_height (template_heights M) c)) c hv
 
     executes_if_fine : (b : Bool) (v : MValue) (a : ℕ) → is_top_phrase R a ≡ false → FineStep (executes_if M b v a s n)
-    executes_if_fine true v a spare = (h, spare)
-    executes_if_fine false v a spare = h
+    executes_if_fine true v a spare = record { by = (h, spare) }
+    executes_if_fine false v a spare = record { by = h }
 
     tested_word_fine : (x : Height) (v : MValue) (o : Option ℕ) → ((a : ℕ) → o ≡ Some a → is_top_phrase R a ≡ false) → FineStep (tested_word M x v o s n)
-    tested_word_fine x v None spare = h
+    tested_word_fine x v None spare = record { by = h }
     tested_word_fine x v (Some a) spare = executes_if_fine (fits_in x (row_height (slice_get M.words a))) v a (spare a refl)
 
     enters_word_fine : (a : ℕ) → FineStep (enters_word M a s n)
-    enters_word_fine a = there_fine (slice_get M.words a) t_kind s n _ h (λ t e. there_fine (code_of t.action) t_kind s n _ h (λ b e. ((h.0, h.1, h.2, tt, h.4), tt)))
+    enters_word_fine a = there_fine (slice_get M.words a) t_kind s n _ h (λ t e. there_fine (code_of t.action) t_kind s n _ h (λ b e. record { by = ((h.0, h.1, h.2, tt, h.4), tt) }))
 
     -- callables are made
     makes_fine : (q : ℕ) (t : TemplateRow) → slice_get M.templates q ≡ Some t → t.holes ≡ 0 → FineStep (makes M q t s n)
@@ -286,7 +293,7 @@ module _ (R : Program) (M : Image) where
     enters_for_fine pick e g = one_fine s.stack s n _ h h.0 (λ v r hv hr. method_fine (record s { stack = r }) n (with_stack s r h hr) (pick (kind_in M (record s { stack = r }) v)) e g v hv)
 
     binds_fine : FineStep (binds M s n)
-    binds_fine = one_fine s.stack s n _ h h.0 (λ v r hv hr. ((hr, h.1, h.2, more_whole R M s.frame (v ∷ []) h.3 (hv, tt), h.4), tt))
+    binds_fine = one_fine s.stack s n _ h h.0 (λ v r hv hr. record { by = ((hr, h.1, h.2, more_whole R M s.frame (v ∷ []) h.3 (hv, tt), h.4), tt) })
 
     calls_fine : FineStep (calls M s n)
     calls_fine = one_fine s.stack s n _ h h.0 (λ v r hv hr. callable_fine v (record s { stack = r }) n _ (with_stack s r h hr) hv (λ c hc. enter_fine c (record s { stack = r }) n (with_stack s r h hr) hc))
@@ -306,13 +313,13 @@ module _ (R : Program) (M : Image) where
         (λ x q r hx hq hr. callable_fine q (record s { stack = r }) n _ (with_stack s r h hr) hq (λ c hc. enter_fine c (waiting (put_back x) (leaving false (record s { stack = r }))) n (hr, h.1, (hx, (h.3, h.2)), h.3, h.4) hc))
 
     executes_fine : FineStep (executes M s n)
-    executes_fine = one_fine s.stack s n _ h h.0 (λ v r hv hr. word_fine (seen_word (m_seen v)) (record s { stack = r }) n _ (with_stack s r h hr) (λ a e. (with_stack s r h hr, seen_spared v a hv e)))
+    executes_fine = one_fine s.stack s n _ h h.0 (λ v r hv hr. word_fine (seen_word (m_seen v)) (record s { stack = r }) n _ (with_stack s r h hr) (λ a e. record { by = (with_stack s r h hr, seen_spared v a hv e) }))
 
     branches_fine : (a : ℕ) → FineStep (branches a s n)
     branches_fine a = one_fine s.stack s n _ h h.0 (λ v r hv hr. jumps_if_fine (seen_no (m_seen v)) a (record s { stack = r }) n (with_stack s r h hr))
 
     holds_fine : FineStep (holds s n)
-    holds_fine = one_fine s.stack s n _ h h.0 (λ v r hv hr. ((hr, (hv, h.1), h.2, h.3, h.4), tt))
+    holds_fine = one_fine s.stack s n _ h h.0 (λ v r hv hr. record { by = ((hr, (hv, h.1), h.2, h.3, h.4), tt) })
 
   -- each instruction, core word, action and job
   module _ (s : Machine) (n : ℕ) (h : Fine s) where
@@ -323,7 +330,7 @@ module _ (R : Program) (M : Image) where
     next_fine g place t = there_fine (slice_get M.generics g) t_kind s n _ h (λ x e. enters_for_fine (leaving t s) n (leaving_fine t s h) (λ k. method_after M.sets k (drop place x.methods)) NoNextMethod x.word)
 
     core_fine : (o : CoreWord) → FineStep (does_core M o s n)
-    core_fine c_cond = h
+    core_fine c_cond = record { by = h }
     core_fine c_call = calls_fine s n h
     core_fine c_dip = dips_fine s n h true
     core_fine c_if = ifs_fine s n h
@@ -333,8 +340,8 @@ module _ (R : Program) (M : Image) where
     action_fine : (a : ℕ) → is_top_phrase R a ≡ false → (o : Action) → FineStep (does_action M a o s n)
     action_fine a spare (action.Prim p) = back_fine s.pc (does_prim M p s n) (prim_fine s n h p)
     action_fine a spare (action.Core k) = core_fine k
-    action_fine a spare (action.Code b) = ((h.0, h.1, h.2, tt, h.4), tt)
-    action_fine a spare action.Itself = (((spare, h.0), h.1, h.2, h.3, h.4), tt)
+    action_fine a spare (action.Code b) = record { by = ((h.0, h.1, h.2, tt, h.4), tt) }
+    action_fine a spare action.Itself = record { by = (((spare, h.0), h.1, h.2, h.3, h.4), tt) }
     action_fine a spare (action.Generic g) = dispatch_fine g true
     action_fine a spare (action.Get k) = back_fine s.pc _ (get_fine s n h k)
     action_fine a spare (action.Set k) = back_fine s.pc _ (set_fine s n h k)
@@ -342,8 +349,8 @@ module _ (R : Program) (M : Image) where
     action_fine a spare (action.Isa c) = back_fine s.pc _ (class_fine s n h (slice_get M.sets c))
 
     instr_fine : (i : Instr) → FineInstr i → FineStep (does_instr M i s n)
-    instr_fine Halt f = h
-    instr_fine (Tick k) f = (h, tt)
+    instr_fine Halt f = record { by = h }
+    instr_fine (Tick k) f = record { by = (h, tt) }
     instr_fine (Int z) f = pushed s n (m_plain (int z)) h tt
     instr_fine True f = pushed s n (m_plain yes) h tt
     instr_fine False f = pushed s n (m_plain no) h tt
@@ -354,10 +361,10 @@ module _ (R : Program) (M : Image) where
     instr_fine (Fry q) f = there_fine (slice_get M.templates q) t_kind s n _ h (λ t e. fries_fine s n h q t e)
     instr_fine Bind f = binds_fine s n h
     instr_fine (Local k) f = there_fine (slice_get s.frame k) t_frame s n _ h (λ v e. pushed s n v h (get_whole R M s.frame k v h.3 e))
-    instr_fine (Unbind k) f = there_fine (without_last k s.frame) t_frame s n _ h (λ F e. ((h.0, h.1, h.2, cut_whole _ k s.frame F h.3 e, h.4), tt))
+    instr_fine (Unbind k) f = there_fine (without_last k s.frame) t_frame s n _ h (λ F e. record { by = ((h.0, h.1, h.2, cut_whole (nat_le k (length s.frame)) k s.frame F h.3 e, h.4), tt) })
     instr_fine (prim p) f = prim_fine s n h p
     instr_fine (Callw a t) f = enters_word_fine (leaving t s) n (leaving_fine t s h) a
-    instr_fine (Callp a t) f = (leaving_fine t s h, tt)
+    instr_fine (Callp a t) f = record { by = (leaving_fine t s h, tt) }
     instr_fine (Call t) f = calls_fine (leaving t s) n (leaving_fine t s h)
     instr_fine Dip f = dips_fine s n h false
     instr_fine (If t) f = ifs_fine (leaving t s) n (leaving_fine t s h)
@@ -371,7 +378,7 @@ module _ (R : Program) (M : Image) where
     instr_fine Ret f = return_fine s.returns s n h.2 h
     instr_fine Hold f = holds_fine s n h
     instr_fine Back f = takes_back_fine s.retain s n h.1 h
-    instr_fine (Jump a) f = (h, tt)
+    instr_fine (Jump a) f = record { by = (h, tt) }
     instr_fine (Branch a) f = branches_fine s n h a
     instr_fine Boa f = tuple_fine s n h
     instr_fine (Get k) f = get_fine s n h k
@@ -393,7 +400,7 @@ module _ (R : Program) (M : Image) where
     code_fine k _ e = tt
 
     fetched_fine : (s : Machine) (n : ℕ) (o : Option Instr) → Fine s → ((i : Instr) → o ≡ Some i → FineInstr i) → FineStep (fetched M o s n)
-    fetched_fine s n None h f = h
+    fetched_fine s n None h f = record { by = h }
     fetched_fine s n (Some i) h f = pay_fine (cost i) s n (does_instr M i s) h (λ m. instr_fine s m h i (f i refl))
 
     next_fine_job : (s : Machine) (n : ℕ) (o : Option Job) → Fine s → FineJob o → FineStep (job_or_fetched M o s n)
@@ -405,8 +412,8 @@ module _ (R : Program) (M : Image) where
     steps_fine (suc k) s n e h f is = by (step M s n) (next_fine_job s n s.job h f) is
       where
         by : (x : Step) → FineStep x → stepped M (steps M k) x ≡ Some e → Fine (end_machine e)
-        by (goes_on t m) g is = steps_fine k t m e g.0 g.1 is
-        by (ends d) g is = let same : d ≡ e = cc in subst (λ (y : End). Fine (end_machine y)) same g
+        by (goes_on t m) g is = steps_fine k t m e g.by.0 g.by.1 is
+        by (ends d) g is = let same : d ≡ e = cc in subst (λ (y : End). Fine (end_machine y)) same g.by
 
     pub ends_fine : (s : Machine) (n : ℕ) (e : End) → Fine s → FineJob s.job → Ends M s n e → Fine (end_machine e)
     ends_fine s n e h f ends = steps_fine ends.count s n e h f ends.there

@@ -23,10 +23,12 @@ use Rattle.fac_check.specs.CallableEffects.{callable_height}
 use Rattle.fac_base.specs.HeightArithmetic.{curried_height, composed_height}
 use Rattle.fac_code.specs.declared.image.Image.{Image}
 use Rattle.fac_code.specs.declared.image.TemplateRow.{TemplateRow}
+use Rattle.fac_code.specs.declared.image.Instr.TheVariants.{Ret}
+use Rattle.fac_store.specs.CallableHeights.{height_there}
 use Rattle.fac_store.specs.MachineValues.{MValue, m_plain, m_fun, MCallable, m_lit, m_cur, m_com, Kept, none_kept, kept, kept_list}
 use Rattle.fac_carry.specs.MachineView.{Templates, template_phrases, value_view, callable_view, kept_view, values_view, object_view, world_view}
 use Rattle.fac_carry.specs.WholeValues.{Whole, WholeCallable, WholeKept, AllWhole, WholeObject, WholeObjects}
-use Rattle.fac_emit.specs.ProgramCode.{phrase_code, template_rows}
+use Rattle.fac_emit.specs.ProgramCode.{phrase_code, row_at, template_rows}
 use Rattle.fac_longer.proofs.LongerPrograms.{below_top, other_number, other_stays}
 use Rattle.fac_longer.proofs.StayingLiterals.{literals_are, numbered_are, templates_are}
 use Rattle.fac_standing.specs.Standing.{IsImageOf, Spares, ValuesStand, ObjectsStand}
@@ -53,17 +55,17 @@ record OfTemplate (r : TemplateRow) (t : Template) : Type 0 where
 module _ (C : Closed) (heights : List (Option Height)) where
   template_of : (at q : ℕ) (ts : List Template) (k : ℕ) (r : TemplateRow) → slice_get (template_rows C heights at q ts) k ≡ Some r → (t : Template) × (slice_get ts k ≡ Some t) × OfTemplate r t
   template_of at q [] k r e = absurd cc
-  template_of at q (t ∷ ts) zero r e = let cells : r.cells ≡ t.captures = cc in let holes : r.holes ≡ t.holes = cc in (t, refl, record { cells = cells; holes = holes })
-  template_of at q (t ∷ ts) (suc k) r e = template_of _ (suc q) ts k r e
+  template_of at q (t ∷ ts) zero r e = let same : row_at (height_there (slice_get heights q)) at t ≡ r = cc in (t, refl, record { cells = sym (ap (λ (x : TemplateRow). x.cells) same); holes = sym (ap (λ (x : TemplateRow). x.holes) same) })
+  template_of at q (t ∷ ts) (suc k) r e = template_of (at + length (phrase_code C Ret t.body)) (suc q) ts k r e
 
   row_of : (at q : ℕ) (ts : List Template) (k : ℕ) (t : Template) → slice_get ts k ≡ Some t → (r : TemplateRow) × (slice_get (template_rows C heights at q ts) k ≡ Some r) × OfTemplate r t
   row_of at q [] k t e = absurd cc
-  row_of at q (x ∷ ts) zero t e = let same : x ≡ t = cc in (_, refl, record { cells = ap (λ (y : Template). y.captures) same; holes = ap (λ (y : Template). y.holes) same })
-  row_of at q (x ∷ ts) (suc k) t e = row_of _ (suc q) ts k t e
+  row_of at q (x ∷ ts) zero t e = let same : x ≡ t = cc in (row_at (height_there (slice_get heights q)) at x, refl, record { cells = ap (λ (y : Template). y.captures) same; holes = ap (λ (y : Template). y.holes) same })
+  row_of at q (x ∷ ts) (suc k) t e = row_of (at + length (phrase_code C Ret x.body)) (suc q) ts k t e
 
   rows_count : (at q : ℕ) (ts : List Template) → length (template_rows C heights at q ts) ≡ length ts
   rows_count at q [] = refl
-  rows_count at q (t ∷ ts) = ap suc (rows_count _ (suc q) ts)
+  rows_count at q (t ∷ ts) = ap suc (rows_count (at + length (phrase_code C Ret t.body)) (suc q) ts)
 
 module _ (P : Program) (M : Image) (is : IsImageOf P M) where
   -- an image has as many templates as its program has literals

@@ -1,5 +1,5 @@
 -- A walk of a phrase of a program finds in a longer program what it found, or breaks the same rule at the same place.
-use Rattle.std.proofs.Common.{◌≡◌, ◌<◌, ℕ, zero, suc, List, [], ◌∷◌, ◌++◌, length, Bool, true, false, ◌&&◌, Option, Some, None, refl, sym, ap, subst, ◌∙◌, arith}
+use Rattle.std.proofs.Common.{◌≡◌, ◌<◌, ℕ, zero, suc, ◌+◌, List, [], ◌∷◌, ◌++◌, length, Bool, true, false, ◌&&◌, Option, Some, None, refl, sym, ap, subst, ◌∙◌, arith}
 use Rattle.std.specs.Prelude.{map, drop, slice_get, nat_eq, nat_le, nat_lt, not}
 use Rattle.std.proofs.lemmas.Bool.Decides.{Decides-ltb}
 use Rattle.fac_base.specs.Effects.{inputs_count, effect_height}
@@ -35,7 +35,7 @@ use Rattle.fac_locals.proofs.RunningPhrases.{IsMethod, IsRun, IsRunItem, RunsAs,
 use Rattle.fac_abs.specs.Marks.{AbstractStack, dead, on, base_eq, mark_eq, mark_depth, deepest_mark, limited, is_callable, curried_mark, composed_mark, join_mark, join_marks, joined, cover_marks, unknowns, popped, piled}
 use Rattle.fac_abs.specs.RowVariables.{Row, row_eq, named_row, effect_inputs, effect_leaving, outer_in, outer_out, bindable, is_row, row_name}
 use Rattle.fac_abs.specs.declared.rule.Rule.{Rule}
-use Rattle.fac_abs.specs.declared.rule.Rule.TheVariants.{Underflow, NotKnown, Branches}
+use Rattle.fac_abs.specs.declared.rule.Rule.TheVariants.{Underflow, NotKnown, Branches, Rows}
 use Rattle.fac_rows.specs.RowBinding.{Binding, Tied, tied, untied, bound_to, row_binding, tied_if, tie_bound, tie_free, tie_row, tie, stack_or_dead, start_row, leaving_on, row_bound, row_result, inputs_known}
 use Rattle.fac_check.specs.CallableEffects.{forgotten, forgotten_item, no_word, least_height, most_inputs, callable_height}
 use Rattle.fac_check.specs.Flow.{Walked, found, refused, and_then, living, Doing, breaks, gives, names_local, expands, walks, forks, again, uses, Walk, counted, inside, called, join, marks_back, tied_on, started, phrase_rule, unless_broken, walk_phrase, walk_mark, walk_from, walk_inputs, walk_use, first_rule, use_rule, walk_on, walk, needing, by_height, callable_or, mark_at, marks_moved, mark_made, procedure_doing, prim_doing, array_doing, known_word, row_doing, makes_by, core_doing, row_or_phrase, inline_doing, body_doing, sort_doing, word_doing, generic_doing, next_doing, lit_doing, doing, most_nested, most_walked, most_steps, walked}
@@ -308,11 +308,11 @@ module _ (P : Program) where
 
   tie_bound_good : (k outs : ℕ) (A : AbstractStack) (b : Option Row) (ms : List Mark) (bs : Binding) → GoodBinding bs → GoodTied (tie_bound k outs A b ms bs)
   tie_bound_good k outs dead b ms bs h = tt
-  tie_bound_good k outs (on c rs) b ms bs h = tied_if_good _ bs _ h
+  tie_bound_good k outs (on c rs) b ms bs h = tied_if_good (base_eq c b && (nat_eq (length ms) (length rs + outs) && cover_marks rs (drop outs ms))) bs (Rows k (length rs + outs) (length ms)) h
 
   tie_row_good : (k outs : ℕ) (r : Row) (o : Option AbstractStack) (A : AbstractStack) (bs : Binding) → GoodStack A → GoodBinding bs → GoodTied (tie_row k outs r o A bs)
   tie_row_good k outs r None dead bs h g = (tt, g)
-  tie_row_good k outs r None (on b ms) bs h g = tied_if_good _ ((r, on b (drop outs ms)) ∷ bs) _ (drop_good outs ms h, g)
+  tie_row_good k outs r None (on b ms) bs h g = tied_if_good (not (nat_lt (length ms) outs)) ((r, on b (drop outs ms)) ∷ bs) (Rows k outs (length ms)) (drop_good outs ms h, g)
   tie_row_good k outs r (Some A) dead bs h g = g
   tie_row_good k outs r (Some A) (on b ms) bs h g = tie_bound_good k outs A b ms bs g
 
@@ -320,7 +320,7 @@ module _ (P : Program) where
   tie_good k y never dead bs h g = g
   tie_good k y never (on b ms) bs h g = tt
   tie_good k None (leaves_names None xs) dead bs h g = g
-  tie_good k None (leaves_names None xs) (on b ms) bs h g = tied_if_good _ bs _ g
+  tie_good k None (leaves_names None xs) (on b ms) bs h g = tied_if_good (base_eq b None && nat_eq (length ms) (length xs)) bs (Rows k (length xs) (length ms)) g
   tie_good k None (leaves_names (Some x) xs) A bs h g = tt
   tie_good k (Some y) (leaves_names None xs) A bs h g = tt
   tie_good k (Some y) (leaves_names (Some x) xs) A bs h g = tie_row_good k (length xs) (named_row x) (bound_to (named_row x) bs) A bs h g
@@ -422,9 +422,9 @@ module _ (P : Program) where
   height_good i (Some o) b ms h = needing_good i ms (λ taken rest. gives (on b (unknowns o rest))) h (λ taken rest g k. unknowns_good o rest k)
 
   procedure_good : {outs : Option ℕ} (i : ℕ) (p : Procedure outs) (b : Option Row) (ms : List Mark) → GoodMarks ms → GoodDoing (procedure_doing i p b ms)
-  procedure_good i (leaves places) b ms h = needing_good i ms _ h (λ taken rest g k. piled_good (picked any taken places) rest (picked_good taken places g) k)
-  procedure_good i (curries j l p) b ms h = needing_good i ms _ h (λ taken rest g k. (curried_good (mark_at taken j) (mark_at taken l) (at_good taken j g) (at_good taken l g), k))
-  procedure_good i (composes j l p) b ms h = needing_good i ms _ h (λ taken rest g k. (composed_good (mark_at taken j) (mark_at taken l) (at_good taken j g) (at_good taken l g), k))
+  procedure_good i (leaves places) b ms h = needing_good i ms (λ taken rest. gives (on b (piled (picked any taken places) rest))) h (λ taken rest g k. piled_good (picked any taken places) rest (picked_good taken places g) k)
+  procedure_good i (curries j l p) b ms h = needing_good i ms (λ taken rest. gives (on b (curried_mark (mark_at taken j) (mark_at taken l) ∷ rest))) h (λ taken rest g k. (curried_good (mark_at taken j) (mark_at taken l) (at_good taken j g) (at_good taken l g), k))
+  procedure_good i (composes j l p) b ms h = needing_good i ms (λ taken rest. gives (on b (composed_mark (mark_at taken j) (mark_at taken l) ∷ rest))) h (λ taken rest g k. (composed_good (mark_at taken j) (mark_at taken l) (at_good taken j g) (at_good taken l g), k))
   procedure_good {outs = o} i (answers p) b ms h = height_good i o b ms h
   procedure_good {outs = o} i (answers_array ks) b ms h = height_good i o b ms h
   procedure_good {outs = o} i (answers_tuple c n) b ms h = height_good i o b ms h
@@ -478,7 +478,8 @@ module _ (P : Program) where
   core_good c_cond b ms h = tt
 
   row_good : (e : Signature) (b : Option Row) (ms : List Mark) → GoodMarks ms → GoodDoing (row_doing e b ms)
-  row_good e b ms h = needing_good (inputs_count (effect_inputs e)) ms _ h (λ taken rest g k. by taken rest g k (bindable e))
+  row_good e b ms h =
+      needing_good (inputs_count (effect_inputs e)) ms (λ taken rest. elim (bindable e) [ true ↦ callable_or (inputs_known (effect_inputs e) taken) NotKnown (uses e taken b rest) | false ↦ gives dead ]) h (λ taken rest g k. by taken rest g k (bindable e))
     where
       by : (taken rest : List Mark) → GoodMarks taken → GoodMarks rest → (x : Bool) → GoodDoing (elim x [ true ↦ callable_or (inputs_known (effect_inputs e) taken) NotKnown (uses e taken b rest) | false ↦ gives dead ])
       by taken rest g k true = callable_or_good (inputs_known (effect_inputs e) taken) NotKnown (uses e taken b rest) (g, k)
@@ -767,7 +768,7 @@ module _ (P Q : Program) (p : IsWhole P) (q : IsWhole Q) (F : IsLonger P Q) wher
   item_does at (bind x) r [] g h = (refl, tt)
   item_does at (bind x) r (m ∷ ms) g h = (refl, h)
   item_does at (local x) r ms g h = (refl, tt)
-  item_does at (fry t n) r ms g h = (refl, needing_good P n ms _ h (λ taken rest k l. (limited_good P (lit_mark at (put_holes (map known taken) t)) (holes_good P taken t k g), l)))
+  item_does at (fry t n) r ms g h = (refl, needing_good P n ms (λ taken rest. gives (on r (limited (lit_mark at (put_holes (map known taken) t)) ∷ rest))) h (λ taken rest k l. (limited_good P (lit_mark at (put_holes (map known taken) t)) (holes_good P taken t k g), l)))
   item_does at (hole k) r ms g h = (refl, tt)
   item_does at (call_effect e) r ms g h = (refl, height_good P (suc e.ins) e.outs r ms h)
   item_does at (execute_effect e) r ms g h = (refl, height_good P (suc e.ins) e.outs r ms h)
