@@ -75,14 +75,15 @@ shape_front [] more c s e = absurd cc
 shape_front (d ∷ cs) more zero s e = e
 shape_front (d ∷ cs) more (suc c) s e = shape_front cs more c s e
 
+one_or_other : (b : Bool) (x y u v : Option ℕ) → x ≡ u → y ≡ v → ◌≡◌ {A = Option ℕ} (elim b [ true ↦ x | false ↦ y ]) (elim b [ true ↦ u | false ↦ v ])
+one_or_other true x y u v e f = e
+one_or_other false x y u v e f = f
+
 kind_front : (k : ℕ) (cs more : List ClassDef) (c : ℕ) (s : Shape) → shape_at cs c ≡ Some s → own_kind k (cs ++ more) c ≡ own_kind k cs c
 kind_front k [] more c s e = absurd cc
 kind_front k (d ∷ cs) more zero s e = refl
-kind_front k (d ∷ cs) more (suc c) s e = by (has_own d.shape)
-  where
-    by : (b : Bool) → ◌≡◌ {A = Option ℕ} (elim b [ true ↦ own_kind (suc k) (cs ++ more) c | false ↦ own_kind k (cs ++ more) c ]) (elim b [ true ↦ own_kind (suc k) cs c | false ↦ own_kind k cs c ])
-    by true = kind_front (suc k) cs more c s e
-    by false = kind_front k cs more c s e
+kind_front k (d ∷ cs) more (suc c) s e =
+    one_or_other (has_own d.shape) (own_kind (suc k) (cs ++ more) c) (own_kind k (cs ++ more) c) (own_kind (suc k) cs c) (own_kind k cs c) (kind_front (suc k) cs more c s e) (kind_front k cs more c s e)
 
 both_hold : (a b : Bool) → (a && b) ≡ true → (a ≡ true) × (b ≡ true)
 both_hold true b h = (refl, h)

@@ -128,7 +128,7 @@ long_enough zero xs h = omega arith
 long_enough (suc n) xs h = let last = h n ((Decides-ltb n (suc n)).1 (omega arith)) in let lt = within xs n last.0 last.1 in omega (arith, lt)
 
 addresses_there : (Q : Program) (k : ℕ) (lss : List (List Lit)) (w : World Value) (a : ℕ) → a < length w.literals + length lss → (x : ℕ) × (slice_get (with_arrays Q k lss w).literals a ≡ Some x)
-addresses_there Q k [] w a lt = there w.literals a (let none : length {A = List Lit} [] ≡ 0 = refl in omega (arith, lt, none))
+addresses_there Q k [] w a lt = there w.literals a (let low : a < length w.literals + 0 = lt in omega (arith, low))
 addresses_there Q k (ls ∷ lss) w a lt =
     let longer = length-append w.literals (length w.objects ∷ []) in
     let one : length (length w.objects ∷ []) ≡ 1 = refl in

@@ -281,10 +281,11 @@ module _ (R : Program) (M : Image) where
     fries_fine : (q : ℕ) (t : TemplateRow) → slice_get M.templates q ≡ Some t → FineStep (fries M q t s n)
     fries_fine q t there =
         many_fine t.holes [] s.stack s n _ h tt h.0 (λ hs r l hhs hr. there_fine (cells_at t.cells s.frame) t_frame (record s { stack = r }) n _ (with_stack s r h hr) (λ vs e.
+        let many : length hs ≡ t.holes + 0 = l in
         let cells = cells_whole R M t.cells s.frame vs h.3 e in
         let count = cells.1 in
         let all = length-append vs hs in
-        pushed (record s { stack = r }) n (m_fun (m_lit q (keep_list (vs ++ hs)))) (with_stack s r h hr) (made_whole R M q t (vs ++ hs) there (omega (arith, count, l, all)) (more_whole R M vs hs cells.0 hhs))))
+        pushed (record s { stack = r }) n (m_fun (m_lit q (keep_list (vs ++ hs)))) (with_stack s r h hr) (made_whole R M q t (vs ++ hs) there (omega (arith, count, many, all)) (more_whole R M vs hs cells.0 hhs))))
 
     class_fine : (o : Option (List ℕ)) → FineStep (tells_class M o s n)
     class_fine o = one_fine s.stack s n _ h h.0 (λ v r hv hr. pushed (record s { stack = r }) n (truth (set_has o (kind_in M (record s { stack = r }) v))) (with_stack s r h hr) (truth_whole _))
@@ -407,13 +408,13 @@ module _ (R : Program) (M : Image) where
     next_fine_job s n None h f = fetched_fine s n (slice_get M.code s.pc) h (λ i e. code_fine s.pc i e)
     next_fine_job s n (Some j) h f = pay_fine (job_cost j) (record s { job = None }) n (does_job M j (record s { job = None })) h (λ m. job_fine (record s { job = None }) m h j f)
 
+    stepped_fine : (go : Machine → ℕ → Option End) → ((t : Machine) (m : ℕ) (e : End) → Fine t → FineJob t.job → go t m ≡ Some e → Fine (end_machine e)) → (x : Step) (e : End) → FineStep x → stepped M go x ≡ Some e → Fine (end_machine e)
+    stepped_fine go h (goes_on t m) e f is = h t m e f.by.0 f.by.1 is
+    stepped_fine go h (ends d) e f is = let same : d ≡ e = cc in subst (λ (y : End). Fine (end_machine y)) same f.by
+
     steps_fine : (k : ℕ) (s : Machine) (n : ℕ) (e : End) → Fine s → FineJob s.job → steps M k s n ≡ Some e → Fine (end_machine e)
     steps_fine zero s n e h f is = absurd cc
-    steps_fine (suc k) s n e h f is = by (step M s n) (next_fine_job s n s.job h f) is
-      where
-        by : (x : Step) → FineStep x → stepped M (steps M k) x ≡ Some e → Fine (end_machine e)
-        by (goes_on t m) g is = steps_fine k t m e g.by.0 g.by.1 is
-        by (ends d) g is = let same : d ≡ e = cc in subst (λ (y : End). Fine (end_machine y)) same g.by
+    steps_fine (suc k) s n e h f is = stepped_fine (steps M k) (steps_fine k) (step M s n) e (next_fine_job s n s.job h f) is
 
     pub ends_fine : (s : Machine) (n : ℕ) (e : End) → Fine s → FineJob s.job → Ends M s n e → Fine (end_machine e)
     ends_fine s n e h f ends = steps_fine ends.count s n e h f ends.there

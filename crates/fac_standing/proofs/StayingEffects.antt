@@ -61,8 +61,8 @@ same_itself : {A : Type 0} (C : A → Type 0) (x : Walked A) → Found C x → S
 same_itself C x h = (refl, h)
 
 and_then_same : {A B : Type 0} (C : A → Type 0) (D : B → Type 0) (x y : Walked A) (go gone : A → ℕ → Walked B) → Same C x y → ((a : A) (n : ℕ) → C a → Same D (go a n) (gone a n)) → Same D (and_then x go) (and_then y gone)
-and_then_same C D (found a n) y go gone h k = subst (λ (z : Walked _). Same D (go a n) (and_then z gone)) h.0 (k a n h.1)
-and_then_same C D (refused r p) y go gone h k = subst (λ (z : Walked _). Same D (refused r p) (and_then z gone)) h.0 (refl, tt)
+and_then_same {A} {B} C D (found a n) y go gone h k = subst (λ (z : Walked A). Same D (go a n) (and_then z gone)) h.0 (k a n h.1)
+and_then_same {A} {B} C D (refused r p) y go gone h k = subst (λ (z : Walked A). Same D (refused r p) (and_then z gone)) h.0 (refl, tt)
 
 counted_same : {A : Type 0} (C : A → Type 0) (p : Place) (n : ℕ) (go gone : ℕ → Walked A) → ((m : ℕ) → Same C (go m) (gone m)) → Same C (counted p n go) (counted p n gone)
 counted_same C p zero go gone h = (refl, tt)
@@ -219,14 +219,14 @@ module _ (P : Program) where
 
   -- Substitution.
 
+  one_good : (b : Bool) (t u : Phrase) → Good t → Good u → Good (elim b [ true ↦ t | false ↦ u ])
+  one_good true t u h k = h
+  one_good false t u h k = k
+
   mutual
     put_good : (x : ℕ) (m : Mark) (t : Phrase) → GoodMark m → Good t → Good (put_local x (known m) t)
     put_good x m end h k = tt
-    put_good x m (then i p t) h k = (put_item_good x m i h k.0, by (binds_local x i))
-      where
-        by : (b : Bool) → Good (elim b [ true ↦ t | false ↦ put_local x (known m) t ])
-        by true = k.1
-        by false = put_good x m t h k.1
+    put_good x m (then i p t) h k = (put_item_good x m i h k.0, one_good (binds_local x i) t (put_local x (known m) t) k.1 (put_good x m t h k.1))
 
     put_item_good : (x : ℕ) (m : Mark) (i : Item) → GoodMark m → GoodItem i → GoodItem (put_local_item x (known m) i)
     put_item_good x m (lit v) h k = k
@@ -284,11 +284,11 @@ module _ (P : Program) where
 
   bound_good : (r : Row) (bs : Binding) → GoodBinding bs → GoodIf (bound_to r bs)
   bound_good r [] h = tt
-  bound_good r (b ∷ bs) h = by (row_eq r b.0)
+  bound_good r (b ∷ bs) h = by (row_eq r b.0) (bound_good r bs h.1)
     where
-      by : (x : Bool) → GoodIf (elim x [ true ↦ Some b.1 | false ↦ bound_to r bs ])
-      by true = h.0
-      by false = bound_good r bs h.1
+      by : (x : Bool) → GoodIf (bound_to r bs) → GoodIf (elim x [ true ↦ Some b.1 | false ↦ bound_to r bs ])
+      by true k = h.0
+      by false k = k
 
   start_good : (o : Option (List ℕ)) (bs : Binding) → GoodBinding bs → GoodIf (start_row o bs)
   start_good None bs h = tt
@@ -513,7 +513,7 @@ module _ (P : Program) where
 
   next_good : (o : Option Sort) (b : Option Row) (ms : List Mark) → IsMethod o → GoodMarks ms → GoodDoing (next_doing P None o b ms)
   next_good (Some (method c g t)) b ms is h = generic_good (slice_get P.words g) b ms h
-  next_good o b ms is h = absurd is
+  next_good _ b ms is h = absurd is
 
   -- a phrase as it runs has such items
   mutual
@@ -701,7 +701,7 @@ module _ (P Q : Program) (p : IsWhole P) (q : IsWhole Q) (F : IsLonger P Q) wher
   -- methods
   method_is : (o : Option Sort) → IsMethod o → (c g : ℕ) × (t : Phrase) × (o ≡ Some (method c g t))
   method_is (Some (method c g t)) is = (c, g, t, refl)
-  method_is o is = absurd is
+  method_is _ is = absurd is
 
   word_of : (m : ℕ) (o : Option WordDef) → slice_get P.words m ≡ o → IsMethod (sort_of P m) → (d : WordDef) × (slice_get P.words m ≡ Some d)
   word_of m None e is = absurd (subst IsMethod (ap (λ (o : Option WordDef). elim o [ Some d ↦ Some d.sort | None ↦ None ]) e) is)
