@@ -182,7 +182,7 @@ module _ (P : Program) (p : IsWhole P) (more : List ClassDef) where
 
 -- A longer program.
 module _ (P Q : Program) (p : IsWhole P) (q : IsWhole Q) (F : IsLonger P Q) where
-  b : IsSessionProgram P
+  abbrev b : IsSessionProgram P
   b = session_of_whole P p
 
   pub other_stays : (w : ℕ) (d : WordDef) → slice_get P.words w ≡ Some d → nat_eq w P.top ≡ false → slice_get Q.words w ≡ Some d
