@@ -1,0 +1,3 @@
+pub mod SearchOrder
+pub mod Signs
+pub mod Meanings
