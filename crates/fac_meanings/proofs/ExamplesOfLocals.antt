@@ -1,12 +1,14 @@
 -- Sources with locals and fries, and what they resolve to.
 use Rattle.std.specs.Prelude.{ℕ, pos, suc, List, [], ◌∷◌, Some, None, false, codes}
 use Rattle.std.proofs.Common.{◌≡◌, refl}
+use Rattle.std.specs.Str.{bytes_eq}
 use Rattle.fac_lang.specs.Phrases.{int, end, lit, lit_arr, quot, word, bind, local, fry, hole}
 use Rattle.fac_lang.specs.Primitives.{built_primitive_words}
 use Rattle.fac_lang.specs.declared.program.Lit.TheVariants.{Wref as l_word}
 use Rattle.fac_source.specs.declared.token.TokKind.TheVariants.{Plain as plain_text}
 use Rattle.fac_source.specs.declared.token.Token.{Token}
 use Rattle.fac_source.specs.declared.tree.Bracket.TheVariants.{Quotation, Array, Fry}
+use Rattle.fac_source.specs.declared.tree.Element.{Element}
 use Rattle.fac_source.specs.declared.tree.Element.TheVariants as element
 use Rattle.fac_source.specs.declared.tree.Term.TheVariants as term
 use Rattle.fac_source.specs.FormRows.{kind_begun}
@@ -17,7 +19,7 @@ use Rattle.fac_items.specs.Written.{Tok, Node, n_locals, n_fry, n_bind, n_hole, 
 use Rattle.fac_items.specs.FromElements.{nested}
 use Rattle.fac_endings.specs.Words.{no_effect}
 use Rattle.fac_names.specs.KnownWords.{known_words}
-use Rattle.fac_meanings.specs.Meanings.{Words, meanings, outermost}
+use Rattle.fac_meanings.specs.Meanings.{Words, meanings}
 use Rattle.fac_meanings.specs.Signs.{Sign, closes, filled, one, opens, value}
 use Rattle.fac_names.specs.WrittenInputs.{written_inputs}
 use Rattle.fac_meanings.proofs.WrittenSources.{at, tk, nodes, named, literal, run, resolves, known, items, made, top, array, quotation, arrays_of, yes, no}
@@ -100,14 +102,35 @@ fry_in_a_quotation : nested (element.OpensLocals (at 1) (spelled (codes "a") 2 �
     nodes (with_locals (tk (codes "a") 2 ∷ []) (fried (n_hole (at 5) ∷ named (codes "a") 6 ∷ []) 4 ∷ []) 1 ∷ [])
 fry_in_a_quotation = refl
 
--- where each name finds the word 7, and `call` is the word 9
+-- where each name finds the word 7, the name `cond` finds that word, and readings name the words from 9 on
 abbrev any_words : Words
-any_words = record { named = λ name. 7; calling = 9 }
+any_words = record { named = λ name. 7; is_cond = λ name. bytes_eq name (codes "cond"); calling = 9; choosing = 10; failing = 11; making = 12 }
 
 -- [| a | '[ _ a ] { a } @ ]
-fry_in_a_quotation_means : meanings any_words (outermost []) [] (element.OpensLocals (at 1) (spelled (codes "a") 2 ∷ []) (at 3) ∷ element.Opens Fry (at 4) ∷ element.Item (term.Hole (at 5)) ∷ element.Item (term.Name (spelled (codes "a") 6)) ∷ element.Closes Quotation (at 7) ∷ element.Opens Array (at 8) ∷ element.Item (term.Name (spelled (codes "a") 9)) ∷ element.Closes Array (at 10) ∷ element.Item (term.CalledHole (at 11)) ∷ element.Closes Quotation (at 12) ∷ []) ≡
+fry_in_a_quotation_means : meanings any_words [] 0 (nested (element.OpensLocals (at 1) (spelled (codes "a") 2 ∷ []) (at 3) ∷ element.Opens Fry (at 4) ∷ element.Item (term.Hole (at 5)) ∷ element.Item (term.Name (spelled (codes "a") 6)) ∷ element.Closes Quotation (at 7) ∷ element.Opens Array (at 8) ∷ element.Item (term.Name (spelled (codes "a") 9)) ∷ element.Closes Array (at 10) ∷ element.Item (term.CalledHole (at 11)) ∷ element.Closes Quotation (at 12) ∷ [])) ≡
     opens Quotation (Some (at 1)) ∷ one (bind 0) (at 2) ∷ opens Fry (Some (at 4)) ∷ one (hole 0) (at 5) ∷ one (local 0) (at 6) ∷ filled 1 ∷ closes Fry ∷ opens Array (Some (at 8)) ∷ value (l_word 7) ∷ closes Array ∷ one (hole 0) (at 11) ∷ one (word 9) (at 11) ∷ closes Quotation ∷ []
 fry_in_a_quotation_means = refl
+
+-- a, a local, in { { [ a ] [ b ] } { [ ] [ a ] } [ a ] } cond b
+abbrev cases_written : List Element
+cases_written =
+    element.Opens Array (at 1) ∷ element.Opens Array (at 2) ∷ element.Opens Quotation (at 3) ∷ element.Item (term.Name (spelled (codes "a") 4)) ∷ element.Closes Quotation (at 5) ∷ element.Opens Quotation (at 6) ∷ element.Item (term.Name (spelled (codes "b") 7)) ∷ element.Closes Quotation (at 8) ∷ element.Closes Array (at 9)
+    ∷ element.Opens Array (at 10) ∷ element.Opens Quotation (at 11) ∷ element.Closes Quotation (at 12) ∷ element.Opens Quotation (at 13) ∷ element.Item (term.Name (spelled (codes "a") 14)) ∷ element.Closes Quotation (at 15) ∷ element.Closes Array (at 16)
+    ∷ element.Opens Quotation (at 17) ∷ element.Item (term.Name (spelled (codes "a") 18)) ∷ element.Closes Quotation (at 19) ∷ element.Closes Array (at 20) ∷ element.Item (term.Name (spelled (codes "cond") 21)) ∷ element.Item (term.Name (spelled (codes "b") 22)) ∷ []
+
+cases_mean : meanings any_words (codes "a" ∷ []) 0 (nested cases_written) ≡
+    opens Quotation (Some (at 3)) ∷ one (local 0) (at 4) ∷ closes Quotation ∷ one (word 9) (at 21) ∷ opens Quotation (Some (at 6)) ∷ one (word 7) (at 7) ∷ closes Quotation
+    ∷ opens Quotation (Some (at 21)) ∷ opens Quotation (Some (at 11)) ∷ closes Quotation ∷ one (word 9) (at 21) ∷ opens Quotation (Some (at 13)) ∷ one (local 0) (at 14) ∷ closes Quotation
+    ∷ opens Quotation (Some (at 21)) ∷ one (local 0) (at 18) ∷ closes Quotation ∷ one (word 10) (at 21) ∷ closes Quotation ∷ one (word 10) (at 21) ∷ one (word 7) (at 22) ∷ []
+cases_mean = refl
+
+-- { } cond
+no_cases_mean : meanings any_words [] 0 (nested (element.Opens Array (at 1) ∷ element.Closes Array (at 2) ∷ element.Item (term.Name (spelled (codes "cond") 3)) ∷ [])) ≡ one (word 11) (at 3) ∷ []
+no_cases_mean = refl
+
+-- { } cond, where `cond` is a local
+local_reads_no_cases : meanings any_words (codes "cond" ∷ []) 0 (nested (element.Opens Array (at 1) ∷ element.Closes Array (at 2) ∷ element.Item (term.Name (spelled (codes "cond") 3)) ∷ [])) ≡ opens Array (Some (at 1)) ∷ closes Array ∷ one (local 0) (at 3) ∷ []
+local_reads_no_cases = refl
 
 -- ( ..r x: integer q: ( y -- z ) b -- c )
 inputs_where_they_stand : written_inputs (spelled (codes "(") 3 ∷ spelled (codes "..r") 4 ∷ spelled (codes "x:") 5 ∷ spelled (codes "integer") 6 ∷ spelled (codes "q:") 7 ∷ spelled (codes "(") 8 ∷ spelled (codes "y") 9 ∷ spelled (codes "--") 10 ∷ spelled (codes "z") 11 ∷ spelled (codes ")") 12 ∷ spelled (codes "b") 13 ∷ spelled (codes "--") 14 ∷ spelled (codes "c") 15 ∷ spelled (codes ")") 16 ∷ []) ≡

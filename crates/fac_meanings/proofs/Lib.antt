@@ -6,3 +6,4 @@ pub mod ExamplesOfCalls
 pub mod FoundNames
 pub mod SignLemmas
 pub mod MeaningLemmas
+pub mod StandingLemmas

@@ -1,287 +1,45 @@
 -- What items mean.
-use Rattle.std.proofs.Common.{◌≡◌, ◌+◌, ℕ, zero, suc, List, [], ◌∷◌, ◌++◌, map, length, slice_get, Bool, true, false, Option, Some, None, refl, ap, sym, ◌∙◌, subst, append_assoc, append-nil, arith}
-use Rattle.std.specs.Prelude.{if◌then◌else◌}
+use Rattle.std.proofs.Common.{◌≡◌, ◌+◌, ℕ, zero, suc, List, [], ◌∷◌, ◌++◌, length, slice_get, Bool, true, false, Option, Some, None, refl, ap, sym, ◌∙◌, subst, append_assoc, append-nil, arith}
+use Rattle.std.specs.Prelude.{drop, codes, if◌then◌else◌}
 use Rattle.fac_base.specs.Signatures.{Signature}
-use Rattle.fac_lang.specs.Phrases.{Phrase, int, yes, no, str, lit, wrd, word, bind, local, hole, call_effect, execute_effect, next_method}
 use Rattle.fac_base.specs.declared.place.Place.{Place}
+use Rattle.fac_lang.specs.Phrases.{Phrase, end, then as placed, int, yes, no, str, lit, wrd, word, bind, local, hole, call_effect, execute_effect, next_method}
+use Rattle.fac_lang.specs.RunningLaws.{append}
+use Rattle.fac_lang.specs.Whole.{plain_effect}
 use Rattle.fac_lang.specs.declared.program.Lit.{Lit}
 use Rattle.fac_lang.specs.declared.program.Lit.TheVariants as literal_is
 use Rattle.fac_lang.specs.declared.program.Sort.{Sort}
 use Rattle.fac_lang.specs.declared.program.Sort.TheVariants.{Body as body}
-use Rattle.fac_source.specs.declared.tree.Bracket.{Bracket}
 use Rattle.fac_source.specs.declared.tree.Bracket.TheVariants.{Quotation, Array, Fry}
-use Rattle.fac_source.specs.declared.tree.Callee.{Callee}
-use Rattle.fac_source.specs.declared.tree.Callee.TheVariants.{Callable, Word}
 use Rattle.fac_source.specs.declared.tree.Element.{Element}
-use Rattle.fac_source.specs.declared.tree.Element.TheVariants as element
 use Rattle.fac_source.specs.declared.tree.Form.{Form as Flat}
-use Rattle.fac_source.specs.declared.tree.Term.{Term}
-use Rattle.fac_source.specs.declared.tree.Term.TheVariants as term
 use Rattle.fac_source.specs.Toks.{is_among, texts_of}
 use Rattle.fac_parse.specs.Trees.{AreItems}
-use Rattle.fac_vocab.specs.Scopes.{Scope}
-use Rattle.fac_items.specs.Written.{Tok, Node, n_lit, n_array, n_quot, n_ref, n_name, n_locals, n_fry, n_call_effect, n_execute_effect, n_bind, n_hole, n_at, n_next, n_full, n_part, Nodes, nothing, more}
-use Rattle.fac_items.specs.FromElements.{AreClosing, Rests, bracketed, nested, node, opened, rests, tested_call, tok}
-use Rattle.fac_items.specs.Items.{elements_of, is_cond, literal, local_of, phrase_of, ref, search_faults, word_of}
+use Rattle.fac_vocab.specs.declared.entry.Entry.{Entry}
+use Rattle.fac_vocab.specs.Scopes.{Found, Scope, found}
+use Rattle.fac_items.specs.Written.{Tok, n_lit, n_array, n_quot, n_ref, n_name, n_locals, n_fry, n_call_effect, n_execute_effect, n_bind, n_hole, n_at, n_next, n_full, Nodes, nothing, more, Declared, given, makes}
+use Rattle.fac_items.specs.FromElements.{AreClosing, nested}
+use Rattle.fac_items.specs.Items.{Made, behind_phrase, elements_of, is_cond, literal, local_of, phrase_of, ref, search_faults, word_of}
 use Rattle.fac_items.specs.Made.{made}
-use Rattle.fac_items.specs.Readings.{are_pairs, bindings, cond_first, read_elements, read_items, with_inputs}
+use Rattle.fac_items.specs.Readings.{are_pairs, behind_first, bindings, cond_first, joined, read_elements, read_items, read_pairs, with_inputs}
+use Rattle.fac_items.proofs.PhraseLemmas.{append_end}
 use Rattle.fac_items.proofs.RawNodes.{AreRaw, AreRawElements, nested_raw}
-use Rattle.fac_items.proofs.ReadingLemmas.{bindings_read, cond_behind, with_pairs}
+use Rattle.fac_items.proofs.ReadingLemmas.{BeforeName, bindings_read, cond_behind, with_pairs}
 use Rattle.fac_endings.specs.Words.{no_effect}
 use Rattle.fac_endings.specs.declared.draft.Draft.{Draft}
 use Rattle.fac_endings.specs.declared.draft.Late.{Late}
 use Rattle.fac_endings.specs.declared.draft.Late.TheVariants.{Method as method_of}
 use Rattle.fac_names.specs.Forms.{Reading, added, changed, declared_effect, declared_late, own, refused, told, with_told}
-use Rattle.fac_known.specs.Laws.{Longer}
-use Rattle.fac_meanings.specs.SearchOrder.{latest_first}
-use Rattle.fac_meanings.specs.Meanings.{HasNoCases, HaveNoCases, DefinitionsAreMeant, FormsAreMeant, Level, Means, MethodsAreMeant, TopItemsAreMeant, Words, behind_term, bindings_signs, closing, end_by, end_signs, holes_behind, holes_of, inside, inside_locals, item_signs, meanings, named_item, outermost, term_signs, value_signs, word_found, words_behind, words_in}
-use Rattle.fac_meanings.specs.Signs.{Sign, array_signs, closes, elements_signs, filled, item_signs as written_item, one, opens, phrase_signs, place_in, tested_item, value}
+use Rattle.fac_names.specs.FromFlat.{first_node}
 use Rattle.fac_names.specs.TakenForms.{take_front}
-use Rattle.fac_names.proofs.BracketLemmas.{items_closing}
-use Rattle.fac_meanings.proofs.FoundNames.{names_are_found}
+use Rattle.fac_names.proofs.BracketLemmas.{items_closing, literal_closing, literal_sole}
+use Rattle.fac_known.specs.Laws.{Longer}
 use Rattle.fac_known.proofs.Growing.{and_then, elements_longer, phrase_longer, read_for, same}
+use Rattle.fac_meanings.specs.SearchOrder.{found_at, latest_first}
+use Rattle.fac_meanings.specs.Signs.{Sign, array_signs, closes, elements_signs, filled, item_signs, one, opens, phrase_signs, value, within}
+use Rattle.fac_meanings.specs.Meanings.{ConstantsAreMeant, DefinitionsAreMeant, FormsAreMeant, HasPhrase, MainsAreMeant, MakersAreMeant, MethodsAreMeant, TopItemsAreMeant, bindings_signs, cases, holes_behind, meanings, meant, named_item, values, word_found, words_behind, words_in, words_of}
+use Rattle.fac_meanings.proofs.FoundNames.{names_are_found}
 use Rattle.fac_meanings.proofs.SignLemmas.{array_at}
-
--- Nodes, with what stands behind each.
-
-abbrev mutual
-  nodes_end : Level → Nodes → Level
-  nodes_end l nothing = l
-  nodes_end l (more n ns) = nodes_end (behind_node n l) ns
-
-  behind_node : Node → Level → Level
-  behind_node (n_bind t twice p) l = record l { locals = t.text ∷ l.locals }
-  behind_node (n_hole p) l = record l { holes = suc l.holes }
-  behind_node (n_at p) l = record l { holes = suc l.holes }
-  behind_node (n_quot ms p) l = closing (nodes_end (inside Quotation l) ms) l
-  behind_node (n_fry ms p) l = closing (nodes_end (inside Fry l) ms) l
-  behind_node (n_array es p) l = closing (nodes_end (inside Array l) es) l
-  behind_node (n_locals ts ms p) l = closing (nodes_end (inside_locals ts l) ms) l
-  behind_node n l = l
-
-mutual
-  end_bracket : (l : Level) (ns : Nodes) → (nodes_end l ns).bracket ≡ l.bracket
-  end_bracket l nothing = refl
-  end_bracket l (more n ns) = end_bracket (behind_node n l) ns ∙ node_bracket n l
-
-  node_bracket : (n : Node) (l : Level) → (behind_node n l).bracket ≡ l.bracket
-  node_bracket (n_lit x p) l = refl
-  node_bracket (n_array es p) l = refl
-  node_bracket (n_quot ms p) l = refl
-  node_bracket (n_ref t p) l = refl
-  node_bracket (n_name t p) l = refl
-  node_bracket (n_locals ts ms p) l = refl
-  node_bracket (n_fry ms p) l = refl
-  node_bracket (n_call_effect h p) l = refl
-  node_bracket (n_execute_effect h p) l = refl
-  node_bracket (n_bind t twice p) l = refl
-  node_bracket (n_hole p) l = refl
-  node_bracket (n_at p) l = refl
-  node_bracket (n_next p) l = refl
-  node_bracket (n_full vocab name p) l = refl
-  node_bracket (n_part ms) l = refl
-
--- What they mean.
-
-abbrev item_node : Words → Level → Node → List Sign
-item_node ws l (n_lit x p) = one (lit x) p ∷ []
-item_node ws l (n_ref t p) = one (lit (wrd (ws.named t.text))) p ∷ []
-item_node ws l (n_name t p) = one (named_item ws l.locals t.text) p ∷ []
-item_node ws l (n_call_effect h p) = one (call_effect h) p ∷ []
-item_node ws l (n_execute_effect h p) = one (execute_effect h) p ∷ []
-item_node ws l (n_next p) = one next_method p ∷ []
-item_node ws l (n_bind t twice p) = one (bind (length l.locals)) p ∷ []
-item_node ws l (n_hole p) = one (hole l.holes) p ∷ []
-item_node ws l (n_at p) = one (hole l.holes) p ∷ one (word ws.calling) p ∷ []
-item_node ws l _ = []
-
-abbrev value_node : Words → Node → List Sign
-value_node ws (n_lit x p) = value (literal x) ∷ []
-value_node ws (n_ref t p) = value (literal_is.Wref (ws.named t.text)) ∷ []
-value_node ws (n_name t p) = value (literal_is.Wref (ws.named t.text)) ∷ []
-value_node ws _ = []
-
-abbrev leaf_signs : Words → Bracket → Level → Node → List Sign
-leaf_signs ws Quotation l n = item_node ws l n
-leaf_signs ws Fry l n = item_node ws l n
-leaf_signs ws Array l n = value_node ws n
-
-abbrev mutual
-  nodes_signs : Words → Level → Nodes → List Sign
-  nodes_signs ws l nothing = []
-  nodes_signs ws l (more n ns) = node_signs ws l n ++ nodes_signs ws (behind_node n l) ns
-
-  node_signs : Words → Level → Node → List Sign
-  node_signs ws l (n_quot ms p) = opens Quotation (place_in l.bracket p) ∷ (nodes_signs ws (inside Quotation l) ms ++ end_signs (nodes_end (inside Quotation l) ms))
-  node_signs ws l (n_fry ms p) = opens Fry (place_in l.bracket p) ∷ (nodes_signs ws (inside Fry l) ms ++ end_signs (nodes_end (inside Fry l) ms))
-  node_signs ws l (n_array es p) = opens Array (place_in l.bracket p) ∷ (nodes_signs ws (inside Array l) es ++ end_signs (nodes_end (inside Array l) es))
-  node_signs ws l (n_locals ts ms p) = opens Quotation (place_in l.bracket p) ∷ (bindings_signs (length l.locals) ts ++ (nodes_signs ws (inside_locals ts l) ms ++ end_signs (nodes_end (inside_locals ts l) ms)))
-  node_signs ws l n = leaf_signs ws l.bracket l n
-
--- The items of elements.
-
-item_term : (ws : Words) (l : Level) (t : Term) → item_node ws l (node t) ≡ item_signs ws l t
-item_term ws l (term.Name t) = refl
-item_term ws l (term.Wrapped sign name) = refl
-item_term ws l (term.EffectCall callee sign tokens height) = tested callee
-  where
-    tested : (c : Callee) → item_node ws l (tested_call c height sign) ≡ one (tested_item c height) sign ∷ []
-    tested Callable = refl
-    tested Word = refl
-item_term ws l (term.Literal t x) = refl
-item_term ws l (term.NextMethod place) = refl
-item_term ws l (term.Bind sign name) = refl
-item_term ws l (term.Hole place) = refl
-item_term ws l (term.CalledHole place) = refl
-
-value_term : (ws : Words) (t : Term) → value_node ws (node t) ≡ value_signs ws t
-value_term ws (term.Name t) = refl
-value_term ws (term.Wrapped sign name) = refl
-value_term ws (term.EffectCall callee sign tokens height) = tested callee
-  where
-    tested : (c : Callee) → value_node ws (tested_call c height sign) ≡ []
-    tested Callable = refl
-    tested Word = refl
-value_term ws (term.Literal t x) = refl
-value_term ws (term.NextMethod place) = refl
-value_term ws (term.Bind sign name) = refl
-value_term ws (term.Hole place) = refl
-value_term ws (term.CalledHole place) = refl
-
-leaf_term : (ws : Words) (b : Bracket) (l : Level) (t : Term) → leaf_signs ws b l (node t) ≡ term_signs ws b l t
-leaf_term ws Quotation l t = item_term ws l t
-leaf_term ws Fry l t = item_term ws l t
-leaf_term ws Array l t = value_term ws t
-
-node_leaf : (ws : Words) (l : Level) (t : Term) → node_signs ws l (node t) ≡ leaf_signs ws l.bracket l (node t)
-node_leaf ws l (term.Name t) = refl
-node_leaf ws l (term.Wrapped sign name) = refl
-node_leaf ws l (term.EffectCall callee sign tokens height) = tested callee
-  where
-    tested : (c : Callee) → node_signs ws l (tested_call c height sign) ≡ leaf_signs ws l.bracket l (tested_call c height sign)
-    tested Callable = refl
-    tested Word = refl
-node_leaf ws l (term.Literal t x) = refl
-node_leaf ws l (term.NextMethod place) = refl
-node_leaf ws l (term.Bind sign name) = refl
-node_leaf ws l (term.Hole place) = refl
-node_leaf ws l (term.CalledHole place) = refl
-
-behind_is : (t : Term) (l : Level) → behind_node (node t) l ≡ behind_term t l
-behind_is (term.Name t) l = refl
-behind_is (term.Wrapped sign name) l = refl
-behind_is (term.EffectCall callee sign tokens height) l = tested callee
-  where
-    tested : (c : Callee) → behind_node (tested_call c height sign) l ≡ l
-    tested Callable = refl
-    tested Word = refl
-behind_is (term.Literal t x) l = refl
-behind_is (term.NextMethod place) l = refl
-behind_is (term.Bind sign name) l = refl
-behind_is (term.Hole place) l = refl
-behind_is (term.CalledHole place) l = refl
-
--- Elements by their nodes.
-
--- what is around, each behind the end of the bracket before it
-abbrev around_signs : Words → Level → List Level → List Nodes → List Sign
-around_signs ws l [] nss = []
-around_signs ws l (o ∷ around) [] = []
-around_signs ws l (o ∷ around) (ns ∷ nss) = end_signs l ++ (nodes_signs ws (closing l o) ns ++ around_signs ws (nodes_end (closing l o) ns) around nss)
-
--- so many levels are around, and what follows means this
-record Spells (ws : Words) (l : Level) (around : List Level) (r : Rests) (signs : List Sign) : Type 0 where
-  around_so : length r.around ≡ length around
-  written : nodes_signs ws l r.here ++ around_signs ws (nodes_end l r.here) around r.around ≡ signs
-
-five_grouped : (vs bs cs ds es : List Sign) → ((vs ++ (bs ++ cs)) ++ ds) ++ es ≡ vs ++ (bs ++ (cs ++ (ds ++ es)))
-five_grouped vs bs cs ds es = simp append_assoc
-
-opened_spells : (ws : Words) (l : Level) (around : List Level) (n : Node) (inner : Level) (front : List Sign) (here : Nodes) (nss : List Nodes) (all : List Sign) →
-    node_signs ws l n ≡ front ++ (nodes_signs ws inner here ++ end_signs (nodes_end inner here)) → behind_node n l ≡ closing (nodes_end inner here) l → length nss ≡ suc (length around) →
-    nodes_signs ws inner here ++ around_signs ws (nodes_end inner here) (l ∷ around) nss ≡ all → Spells ws l around (opened n nss) (front ++ all)
-opened_spells ws l around n inner front here [] all is behind so rest = absurd (omega (arith, so))
-opened_spells ws l around n inner front here (ns ∷ nss) all is behind so rest =
-    let last = nodes_end inner here in
-    record {
-      around_so = omega (arith, so);
-      written =
-          ap (λ (m : Level). (node_signs ws l n ++ nodes_signs ws m ns) ++ around_signs ws (nodes_end m ns) around nss) behind
-          ∙ ap (λ (xs : List Sign). (xs ++ nodes_signs ws (closing last l) ns) ++ around_signs ws (nodes_end (closing last l) ns) around nss) is
-          ∙ five_grouped front (nodes_signs ws inner here) (end_signs last) (nodes_signs ws (closing last l) ns) (around_signs ws (nodes_end (closing last l) ns) around nss)
-          ∙ ap (λ (xs : List Sign). front ++ xs) rest;
-    }
-
-bracket_signs : (ws : Words) (l : Level) (b : Bracket) (ms : Nodes) (p : Place) → node_signs ws l (bracketed b ms p) ≡ (opens b (place_in l.bracket p) ∷ []) ++ (nodes_signs ws (inside b l) ms ++ end_signs (nodes_end (inside b l) ms))
-bracket_signs ws l Quotation ms p = refl
-bracket_signs ws l Array ms p = refl
-bracket_signs ws l Fry ms p = refl
-
-bracket_behind : (l : Level) (b : Bracket) (ms : Nodes) (p : Place) → behind_node (bracketed b ms p) l ≡ closing (nodes_end (inside b l) ms) l
-bracket_behind l Quotation ms p = refl
-bracket_behind l Array ms p = refl
-bracket_behind l Fry ms p = refl
-
-spelled : (ws : Words) (bs : List Bracket) (l : Level) (around : List Level) (es : List Element) → length bs ≡ length around → AreClosing bs es → Spells ws l around (rests es) (meanings ws l around es)
-spelled ws bs l [] [] so h = record { around_so = refl; written = refl }
-spelled ws bs l (o ∷ around) [] so h = (let none = ap length h in absurd (omega (arith, so, none)))
-spelled ws bs l around (element.Item t ∷ es) so h =
-    let rest = spelled ws bs (behind_term t l) around es so h.1 in
-    let here = (rests es).here in
-    let other = (rests es).around in
-    record {
-      around_so = rest.around_so;
-      written =
-          ap (λ (m : Level). (node_signs ws l (node t) ++ nodes_signs ws m here) ++ around_signs ws (nodes_end m here) around other) (behind_is t l)
-          ∙ append_assoc (node_signs ws l (node t)) (nodes_signs ws (behind_term t l) here) (around_signs ws (nodes_end (behind_term t l) here) around other)
-          ∙ ap (λ (xs : List Sign). xs ++ (nodes_signs ws (behind_term t l) here ++ around_signs ws (nodes_end (behind_term t l) here) around other)) (node_leaf ws l t ∙ leaf_term ws l.bracket l t)
-          ∙ ap (λ (xs : List Sign). term_signs ws l.bracket l t ++ xs) rest.written;
-    }
-spelled ws bs l around (element.Opens b place ∷ es) so h =
-    let rest = spelled ws (b ∷ bs) (inside b l) (l ∷ around) es (ap suc so) h.1 in
-    opened_spells ws l around (bracketed b (rests es).here place) (inside b l) (opens b (place_in l.bracket place) ∷ []) (rests es).here (rests es).around (meanings ws (inside b l) (l ∷ around) es)
-    (bracket_signs ws l b (rests es).here place) (bracket_behind l b (rests es).here place) rest.around_so rest.written
-spelled ws bs l around (element.OpensLocals place names bar ∷ es) so h =
-    let ts = map tok names in
-    let rest = spelled ws (Quotation ∷ bs) (inside_locals ts l) (l ∷ around) es (ap suc so) h.1 in
-    opened_spells ws l around (n_locals ts (rests es).here place) (inside_locals ts l) (opens Quotation (place_in l.bracket place) ∷ bindings_signs (length l.locals) ts) (rests es).here (rests es).around (meanings ws (inside_locals ts l) (l ∷ around) es)
-    refl refl rest.around_so rest.written
-spelled ws [] l around (element.Closes b place ∷ es) so h = absurd h.0
-spelled ws (c ∷ bs) l [] (element.Closes b place ∷ es) so h = absurd (omega (arith, so))
-spelled ws (c ∷ bs) l (o ∷ around) (element.Closes b place ∷ es) so h =
-    let rest = spelled ws bs (closing l o) around es (omega (arith, so)) h.1 in
-    record { around_so = ap suc rest.around_so; written = ap (λ (xs : List Sign). end_signs l ++ xs) rest.written }
-
--- Items that don't stand directly in an array.
-
-abbrev NotArray : Bracket → Type 0
-NotArray Array = ⊥
-NotArray _ = Unit {0}
-
-leaf_item : (ws : Words) (b : Bracket) (l : Level) (n : Node) → NotArray b → leaf_signs ws b l n ≡ item_node ws l n
-leaf_item ws Quotation l n h = refl
-leaf_item ws Fry l n h = refl
-leaf_item ws Array l n h = absurd h
-
-place_item : (b : Bracket) (p : Place) → NotArray b → Some p ≡ place_in b p
-place_item Quotation p h = refl
-place_item Fry p h = refl
-place_item Array p h = absurd h
-
-holes_item : (outer b : Bracket) (m n : ℕ) → NotArray outer → holes_behind outer b m n ≡ holes_of b m n
-holes_item Quotation b m n h = refl
-holes_item Fry b m n h = refl
-holes_item Array b m n h = absurd h
-
--- the holes behind a bracket of this kind
-closing_holes : (b : Bracket) (l : Level) (ns : Nodes) (m : Level) → NotArray l.bracket → m.bracket ≡ b → (closing (nodes_end m ns) l).holes ≡ holes_of b (nodes_end m ns).holes l.holes
-closing_holes b l ns m h is =
-    let last = nodes_end m ns in
-    holes_item l.bracket last.bracket last.holes l.holes h
-    ∙ ap (λ (x : Bracket). holes_of x last.holes l.holes) (end_bracket m ns ∙ is)
-
-end_is : (b : Bracket) (m : Level) (ns : Nodes) (holes : ℕ) → m.bracket ≡ b → holes ≡ (nodes_end m ns).holes → end_by b holes ≡ end_signs (nodes_end m ns)
-end_is b m ns holes is e = ap (λ (x : Bracket). end_by x holes) (sym (end_bracket m ns ∙ is)) ∙ ap (end_by (nodes_end m ns).bracket) e
 
 -- Bindings of inputs.
 
@@ -309,9 +67,9 @@ bindings_holes : (s : Scope) (locals : List (List ℕ)) (ts : List Tok) (earlier
 bindings_holes s locals [] earlier ns arrays holes = refl
 bindings_holes s locals (t ∷ ts) earlier ns arrays holes = bindings_holes s locals ts (t.text ∷ earlier) (more (n_bind t (is_among t.text earlier) t.place) ns) arrays holes
 
--- No array of cases.
+-- A `cond` behind an array.
 
-first_read : (c : List ℕ → Bool) (locals : List (List ℕ)) (fry : Bool) (ns : Nodes) → AreRaw fry ns → cond_first c locals (read_items c locals ns) ≡ cond_first c locals ns
+pub first_read : (c : List ℕ → Bool) (locals : List (List ℕ)) (fry : Bool) (ns : Nodes) → AreRaw fry ns → cond_first c locals (read_items c locals ns) ≡ cond_first c locals ns
 first_read c locals fry nothing h = refl
 first_read c locals fry (more (n_name t p) ns) h = refl
 first_read c locals fry (more (n_array es q) ns) h = cond_behind c locals fry (more (n_array es q) ns) h
@@ -328,247 +86,292 @@ first_read c locals fry (more (n_locals ts ms p) ns) h = refl
 first_read c locals fry (more (n_fry ms p) ns) h = refl
 first_read c locals fry (more n ns) h = absurd h.0
 
-none_read : (c : List ℕ → Bool) (locals : List (List ℕ)) (fry : Bool) (es ns : Nodes) → AreRaw fry ns → (if are_pairs es then cond_first c locals ns else None) ≡ None → (if are_pairs es then cond_first c locals (read_items c locals ns) else None) ≡ None
-none_read c locals fry es ns h none = ap (λ (o : Option Place). if are_pairs es then o else None) (first_read c locals fry ns h) ∙ none
+place_read : (c : List ℕ → Bool) (locals : List (List ℕ)) (fry : Bool) (es ns : Nodes) → AreRaw fry ns →
+    (if are_pairs es then cond_first c locals ns else None) ≡ (if are_pairs es then cond_first c locals (read_items c locals ns) else None)
+place_read c locals fry es ns h = ap (λ (o : Option Place). if are_pairs es then o else None) (sym (first_read c locals fry ns h))
 
-cases_behind : (c : List ℕ → Bool) (locals : List (List ℕ)) (ts : List Tok) (earlier : List (List ℕ)) (ns : Nodes) → HasNoCases c locals (bindings ts earlier ns) → HasNoCases c (texts_of ts ++ locals) ns
-cases_behind c locals [] earlier ns h = h
-cases_behind c locals (t ∷ ts) earlier ns h = (cases_behind c locals ts (t.text ∷ earlier) (more (n_bind t (is_among t.text earlier) t.place) ns) h).1
+by_place : (P : Option Place → Type 0) (o : Option Place) → (o ≡ None → P None) → ((p : Place) → o ≡ Some p → P (Some p)) → P o
+by_place P None f g = f refl
+by_place P (Some p) f g = g p refl
 
--- The holes of a phrase.
-phrase_holes : (s : Scope) (c : List ℕ → Bool) (l : Level) (ns : Nodes) (fry : Bool) (arrays : List (List Lit)) (holes : ℕ) → NotArray l.bracket → AreRaw fry ns → HasNoCases c l.locals ns → holes ≡ l.holes →
-    (phrase_of s l.locals (read_items c l.locals ns) arrays holes).holes ≡ (nodes_end l ns).holes
-phrase_holes s c l nothing fry arrays holes a h f e = e
-phrase_holes s c l (more (n_lit x p) ns) fry arrays holes a h f e = phrase_holes s c l ns fry arrays holes a h.1 f.1 e
-phrase_holes s c l (more (n_ref t p) ns) fry arrays holes a h f e = phrase_holes s c l ns fry arrays holes a h.1 f.1 e
-phrase_holes s c l (more (n_name t p) ns) fry arrays holes a h f e = phrase_holes s c l ns fry arrays holes a h.1 f.1 e
-phrase_holes s c l (more (n_call_effect x p) ns) fry arrays holes a h f e = phrase_holes s c l ns fry arrays holes a h.1 f.1 e
-phrase_holes s c l (more (n_execute_effect x p) ns) fry arrays holes a h f e = phrase_holes s c l ns fry arrays holes a h.1 f.1 e
-phrase_holes s c l (more (n_next p) ns) fry arrays holes a h f e = phrase_holes s c l ns fry arrays holes a h.1 f.1 e
-phrase_holes s c l (more (n_bind t twice p) ns) fry arrays holes a h f e = phrase_holes s c (record l { locals = t.text ∷ l.locals }) ns fry arrays holes a h.1 f.1 e
-phrase_holes s c l (more (n_hole p) ns) fry arrays holes a h f e = phrase_holes s c (record l { holes = suc l.holes }) ns fry arrays (suc holes) a h.1 f.1 (ap suc e)
-phrase_holes s c l (more (n_at p) ns) fry arrays holes a h f e = phrase_holes s c (record l { holes = suc l.holes }) ns fry arrays (suc holes) a h.1 f.1 (ap suc e)
-phrase_holes s c l (more (n_quot ms p) ns) fry arrays holes a h f e =
-    let m = phrase_of s l.locals (read_items c l.locals ms) arrays holes in
-    phrase_holes s c (behind_node (n_quot ms p) l) ns fry m.arrays m.holes a h.1 f.1
-    (phrase_holes s c (inside Quotation l) ms fry arrays holes tt h.0 f.0 e ∙ sym (closing_holes Quotation l ms (inside Quotation l) a refl))
-phrase_holes s c l (more (n_locals ts ms p) ns) fry arrays holes a h f e =
-    let inner = read_items c (texts_of ts ++ l.locals) ms in
-    let m = phrase_of s l.locals (bindings ts [] inner) arrays holes in
-    phrase_holes s c (behind_node (n_locals ts ms p) l) ns fry m.arrays m.holes a h.1 f.1
-    (bindings_holes s l.locals ts [] inner arrays holes ∙ phrase_holes s c (inside_locals ts l) ms fry arrays holes tt h.0 f.0 e ∙ sym (closing_holes Quotation l ms (inside_locals ts l) a refl))
-phrase_holes s c l (more (n_fry ms p) ns) fry arrays holes a h f e =
-    let m = phrase_of s l.locals (read_items c l.locals ms) arrays 0 in
-    phrase_holes s c (behind_node (n_fry ms p) l) ns fry m.arrays holes a h.1 f.1 (e ∙ sym (closing_holes Fry l ms (inside Fry l) a refl))
-phrase_holes s c l (more (n_array es q) ns) fry arrays holes a h f e =
-    let rest = read_items c l.locals ns in
-    let m = elements_of s (read_elements c es) arrays in
-    ap (λ (o : Option Place). (phrase_of s l.locals (with_pairs c l.locals es q rest o) arrays holes).holes) (none_read c l.locals fry es ns h.1 f.0.0)
-    ∙ phrase_holes s c (behind_node (n_array es q) l) ns fry (m.arrays ++ m.elements ∷ []) holes a h.1 f.1 (e ∙ sym (closing_holes Array l es (inside Array l) a refl))
-phrase_holes s c l (more n ns) fry arrays holes a h f e = absurd h.0
+are_cases : (b : Bool) (o : Option Place) (p : Place) → (if b then o else None) ≡ Some p → b ≡ true
+are_cases true o p h = refl
+are_cases false o p h = absurd (cc)
 
--- The phrase of nodes, and the elements, with any arrays behind theirs.
+no_place : (b : Bool) (p : Place) → (if b then None else None) ≡ Some p → ⊥
+no_place true p h = cc
+no_place false p h = cc
 
-leaf_before : (ws : Words) (l : Level) (n : Node) (xs ys : List Sign) → NotArray l.bracket → xs ≡ ys → item_node ws l n ++ xs ≡ leaf_signs ws l.bracket l n ++ ys
-leaf_before ws l n xs ys a e = ap (λ (zs : List Sign). item_node ws l n ++ zs) e ∙ ap (λ (zs : List Sign). zs ++ ys) (sym (leaf_item ws l.bracket l n a))
+cond_name : (c : List ℕ → Bool) (locals : List (List ℕ)) (es ns : Nodes) (p : Place) → (if are_pairs es then cond_first c locals ns else None) ≡ Some p → BeforeName ns
+cond_name c locals es nothing p h = absurd (no_place (are_pairs es) p h)
+cond_name c locals es (more (n_name t q) ns) p h = record { name = t; place = q; rest = ns; is = refl }
+cond_name c locals es (more n ns) p h = absurd (no_place (are_pairs es) p h)
 
-name_alone : (inner : ℕ → List Sign) (o : Option ℕ) (w : ℕ) (p : Place) → written_item inner (elim o [ Some x ↦ local x | None ↦ word w ]) p ≡ one (elim o [ Some x ↦ local x | None ↦ word w ]) p ∷ []
+name_alone : (inner : ℕ → List Sign) (o : Option ℕ) (w : ℕ) (p : Place) → item_signs inner (elim o [ Some x ↦ local x | None ↦ word w ]) p ≡ one (elim o [ Some x ↦ local x | None ↦ word w ]) p ∷ []
 name_alone inner (Some x) w p = refl
 name_alone inner None w p = refl
 
-bracket_before : (b : Bracket) (o q : Option Place) (os bs es fs xs ys : List Sign) → o ≡ q → os ≡ bs → es ≡ fs → xs ≡ ys → (opens b o ∷ os ++ es) ++ xs ≡ (opens b q ∷ (bs ++ fs)) ++ ys
-bracket_before b o q os bs es fs xs ys h i j k = cc
+-- items behind the name with which they begin
 
-locals_before : (o q : Option Place) (ks os bs es fs xs ys : List Sign) → o ≡ q → os ≡ ks ++ bs → es ≡ fs → xs ≡ ys → (opens Quotation o ∷ os ++ es) ++ xs ≡ (opens Quotation q ∷ (ks ++ (bs ++ fs))) ++ ys
-locals_before o q ks os bs es fs xs ys h i j k =
-    bracket_before Quotation o q os (ks ++ bs) es fs xs ys h i j k
-    ∙ ap (λ (zs : List Sign). (opens Quotation q ∷ zs) ++ ys) (append_assoc ks bs fs)
+skip_signs : (s : Scope) (inner : ℕ → List Sign) (locals : List (List ℕ)) (ns : Nodes) (arrays : List (List Lit)) (holes : ℕ) → BeforeName ns →
+    (let rest = read_items (is_cond s) locals ns in phrase_signs inner (phrase_of s locals (behind_first rest) arrays holes).phrase ≡ drop 1 (phrase_signs inner (phrase_of s locals rest arrays holes).phrase))
+skip_signs s inner locals ns arrays holes b =
+    let read : Nodes → Nodes = λ xs. read_items (is_cond s) locals xs in
+    subst (λ (xs : Nodes). phrase_signs inner (phrase_of s locals (behind_first (read xs)) arrays holes).phrase ≡ drop 1 (phrase_signs inner (phrase_of s locals (read xs) arrays holes).phrase)) (sym b.is)
+    (sym (ap (λ (xs : List Sign). drop 1 (xs ++ phrase_signs inner (phrase_of s locals (read b.rest) arrays holes).phrase)) (name_alone inner (local_of locals b.name.text) (word_of s b.name) b.place)))
 
-abbrev array_level : Level
-array_level = record { bracket = Array; locals = []; holes = 0 }
+skip_arrays : (s : Scope) (locals : List (List ℕ)) (ns : Nodes) (arrays : List (List Lit)) (holes : ℕ) → BeforeName ns →
+    (let rest = read_items (is_cond s) locals ns in (phrase_of s locals (behind_first rest) arrays holes).arrays ≡ (phrase_of s locals rest arrays holes).arrays)
+skip_arrays s locals ns arrays holes b =
+    let read : Nodes → Nodes = λ xs. read_items (is_cond s) locals xs in subst (λ (xs : Nodes). (phrase_of s locals (behind_first (read xs)) arrays holes).arrays ≡ (phrase_of s locals (read xs) arrays holes).arrays) (sym b.is) refl
 
--- an array that no `cond` reads
-array_case : (s : Scope) (c : List ℕ → Bool) (l : Level) (es : Nodes) (q : Place) (ns : Nodes) (arrays : List (List Lit)) (holes : ℕ) (all : List (List Lit)) (signs : List Sign) (o : Option Place) → o ≡ None →
-    (Longer (phrase_of s l.locals (more (n_array (read_elements c es) q) (read_items c l.locals ns)) arrays holes).arrays all → phrase_signs (array_signs all) (phrase_of s l.locals (more (n_array (read_elements c es) q) (read_items c l.locals ns)) arrays holes).phrase ≡ signs) →
-    Longer (phrase_of s l.locals (with_pairs c l.locals es q (read_items c l.locals ns) o) arrays holes).arrays all → phrase_signs (array_signs all) (phrase_of s l.locals (with_pairs c l.locals es q (read_items c l.locals ns) o) arrays holes).phrase ≡ signs
-array_case s c l es q ns arrays holes all signs (Some p) none f k = absurd (cc)
-array_case s c l es q ns arrays holes all signs None none f k = f k
+skip_holes : (s : Scope) (locals : List (List ℕ)) (ns : Nodes) (arrays : List (List Lit)) (holes : ℕ) → BeforeName ns →
+    (let rest = read_items (is_cond s) locals ns in (phrase_of s locals (behind_first rest) arrays holes).holes ≡ (phrase_of s locals rest arrays holes).holes)
+skip_holes s locals ns arrays holes b =
+    let read : Nodes → Nodes = λ xs. read_items (is_cond s) locals xs in subst (λ (xs : Nodes). (phrase_of s locals (behind_first (read xs)) arrays holes).holes ≡ (phrase_of s locals (read xs) arrays holes).holes) (sym b.is) refl
+
+-- cases before items
+cases_joined : (s : Scope) (c : List ℕ → Bool) (locals : List (List ℕ)) (p : Place) (es ns : Nodes) (arrays : List (List Lit)) (holes : ℕ) → are_pairs es ≡ true →
+    (let m = phrase_of s locals (read_pairs c locals p es) arrays holes in phrase_of s locals (joined (read_pairs c locals p es) ns) arrays holes ≡ behind_phrase m.phrase (phrase_of s locals ns m.arrays m.holes))
+cases_joined s c locals p nothing ns arrays holes h = refl
+cases_joined s c locals p (more (n_quot ms q) nothing) ns arrays holes h =
+    let m = phrase_of s locals (read_items c locals ms) arrays holes in ap (λ (t : Phrase). behind_phrase t (phrase_of s locals ns m.arrays m.holes)) (sym (append_end m.phrase))
+cases_joined s c locals p (more (n_array (more (n_quot ts o) (more (n_quot ms q) nothing)) r) es) ns arrays holes h = refl
+cases_joined s c locals p (more n es) ns arrays holes h = absurd (cc)
+
+-- The holes of a phrase.
+
+none_inside : (ns : Nodes) (holes : ℕ) → AreRaw false ns → holes_behind holes ns ≡ holes
+none_inside nothing holes h = refl
+none_inside (more (n_lit x p) ns) holes h = none_inside ns holes h.1
+none_inside (more (n_ref t p) ns) holes h = none_inside ns holes h.1
+none_inside (more (n_name t p) ns) holes h = none_inside ns holes h.1
+none_inside (more (n_call_effect e p) ns) holes h = none_inside ns holes h.1
+none_inside (more (n_execute_effect e p) ns) holes h = none_inside ns holes h.1
+none_inside (more (n_next p) ns) holes h = none_inside ns holes h.1
+none_inside (more (n_bind t twice p) ns) holes h = none_inside ns holes h.1
+none_inside (more (n_hole p) ns) holes h = absurd (cc)
+none_inside (more (n_at p) ns) holes h = absurd (cc)
+none_inside (more (n_quot ms p) ns) holes h = ap (λ (k : ℕ). holes_behind k ns) (none_inside ms holes h.0) ∙ none_inside ns holes h.1
+none_inside (more (n_locals ts ms p) ns) holes h = ap (λ (k : ℕ). holes_behind k ns) (none_inside ms holes h.0) ∙ none_inside ns holes h.1
+none_inside (more (n_fry ms p) ns) holes h = none_inside ns holes h.1
+none_inside (more (n_array es p) ns) holes h = none_inside ns holes h.1
+none_inside (more n ns) holes h = absurd h.0
 
 mutual
-  phrase_meant : (s : Scope) (c : List ℕ → Bool) (l : Level) (ns : Nodes) (fry : Bool) (arrays : List (List Lit)) (holes : ℕ) (all : List (List Lit)) → NotArray l.bracket → AreRaw fry ns → HasNoCases c l.locals ns → holes ≡ l.holes →
-      Longer (phrase_of s l.locals (read_items c l.locals ns) arrays holes).arrays all → phrase_signs (array_signs all) (phrase_of s l.locals (read_items c l.locals ns) arrays holes).phrase ≡ nodes_signs (words_in s) l ns
-  phrase_meant s c l nothing fry arrays holes all a h f e more_arrays = refl
-  phrase_meant s c l (more (n_lit x p) ns) fry arrays holes all a h f e k = leaf_before (words_in s) l (n_lit x p) _ (nodes_signs (words_in s) l ns) a (phrase_meant s c l ns fry arrays holes all a h.1 f.1 e k)
-  phrase_meant s c l (more (n_ref t p) ns) fry arrays holes all a h f e k = leaf_before (words_in s) l (n_ref t p) _ (nodes_signs (words_in s) l ns) a (phrase_meant s c l ns fry arrays holes all a h.1 f.1 e k)
-  phrase_meant s c l (more (n_name t p) ns) fry arrays holes all a h f e k =
-      ap (λ (xs : List Sign). xs ++ phrase_signs (array_signs all) (phrase_of s l.locals (read_items c l.locals ns) arrays holes).phrase) (name_alone (array_signs all) (local_of l.locals t.text) (word_of s t) p)
-      ∙ leaf_before (words_in s) l (n_name t p) _ (nodes_signs (words_in s) l ns) a (phrase_meant s c l ns fry arrays holes all a h.1 f.1 e k)
-  phrase_meant s c l (more (n_call_effect x p) ns) fry arrays holes all a h f e k = leaf_before (words_in s) l (n_call_effect x p) _ (nodes_signs (words_in s) l ns) a (phrase_meant s c l ns fry arrays holes all a h.1 f.1 e k)
-  phrase_meant s c l (more (n_execute_effect x p) ns) fry arrays holes all a h f e k = leaf_before (words_in s) l (n_execute_effect x p) _ (nodes_signs (words_in s) l ns) a (phrase_meant s c l ns fry arrays holes all a h.1 f.1 e k)
-  phrase_meant s c l (more (n_next p) ns) fry arrays holes all a h f e k = leaf_before (words_in s) l (n_next p) _ (nodes_signs (words_in s) l ns) a (phrase_meant s c l ns fry arrays holes all a h.1 f.1 e k)
-  phrase_meant s c l (more (n_bind t twice p) ns) fry arrays holes all a h f e k =
-      let m : Level = record l { locals = t.text ∷ l.locals } in
-      leaf_before (words_in s) l (n_bind t twice p) _ (nodes_signs (words_in s) m ns) a (phrase_meant s c m ns fry arrays holes all a h.1 f.1 e k)
-  phrase_meant s c l (more (n_hole p) ns) fry arrays holes all a h f e k =
-      let m : Level = record l { holes = suc l.holes } in
-      let rest = phrase_signs (array_signs all) (phrase_of s l.locals (read_items c l.locals ns) arrays (suc holes)).phrase in
-      ap (λ (n : ℕ). one (hole n) p ∷ rest) e
-      ∙ leaf_before (words_in s) l (n_hole p) rest (nodes_signs (words_in s) m ns) a (phrase_meant s c m ns fry arrays (suc holes) all a h.1 f.1 (ap suc e) k)
-  phrase_meant s c l (more (n_at p) ns) fry arrays holes all a h f e k =
-      let m : Level = record l { holes = suc l.holes } in
-      let rest = phrase_signs (array_signs all) (phrase_of s l.locals (read_items c l.locals ns) arrays (suc holes)).phrase in
-      ap (λ (n : ℕ). one (hole n) p ∷ (one (word (words_in s).calling) p ∷ rest)) e
-      ∙ leaf_before (words_in s) l (n_at p) rest (nodes_signs (words_in s) m ns) a (phrase_meant s c m ns fry arrays (suc holes) all a h.1 f.1 (ap suc e) k)
-  phrase_meant s c l (more (n_quot ms p) ns) fry arrays holes all a h f e k =
+  phrase_holes : (s : Scope) (locals : List (List ℕ)) (ns : Nodes) (fry : Bool) (arrays : List (List Lit)) (holes : ℕ) → AreRaw fry ns → (phrase_of s locals (read_items (is_cond s) locals ns) arrays holes).holes ≡ holes_behind holes ns
+  phrase_holes s locals nothing fry arrays holes h = refl
+  phrase_holes s locals (more (n_lit x p) ns) fry arrays holes h = phrase_holes s locals ns fry arrays holes h.1
+  phrase_holes s locals (more (n_ref t p) ns) fry arrays holes h = phrase_holes s locals ns fry arrays holes h.1
+  phrase_holes s locals (more (n_name t p) ns) fry arrays holes h = phrase_holes s locals ns fry arrays holes h.1
+  phrase_holes s locals (more (n_call_effect e p) ns) fry arrays holes h = phrase_holes s locals ns fry arrays holes h.1
+  phrase_holes s locals (more (n_execute_effect e p) ns) fry arrays holes h = phrase_holes s locals ns fry arrays holes h.1
+  phrase_holes s locals (more (n_next p) ns) fry arrays holes h = phrase_holes s locals ns fry arrays holes h.1
+  phrase_holes s locals (more (n_bind t twice p) ns) fry arrays holes h = phrase_holes s (t.text ∷ locals) ns fry arrays holes h.1
+  phrase_holes s locals (more (n_hole p) ns) fry arrays holes h = phrase_holes s locals ns fry arrays (suc holes) h.1
+  phrase_holes s locals (more (n_at p) ns) fry arrays holes h = phrase_holes s locals ns fry arrays (suc holes) h.1
+  phrase_holes s locals (more (n_quot ms p) ns) fry arrays holes h =
+      let m = phrase_of s locals (read_items (is_cond s) locals ms) arrays holes in phrase_holes s locals ns fry m.arrays m.holes h.1 ∙ ap (λ (k : ℕ). holes_behind k ns) (phrase_holes s locals ms fry arrays holes h.0)
+  phrase_holes s locals (more (n_locals ts ms p) ns) fry arrays holes h =
+      let inner = read_items (is_cond s) (texts_of ts ++ locals) ms in
+      let m = phrase_of s locals (bindings ts [] inner) arrays holes in
+      phrase_holes s locals ns fry m.arrays m.holes h.1 ∙ ap (λ (k : ℕ). holes_behind k ns) (bindings_holes s locals ts [] inner arrays holes ∙ phrase_holes s (texts_of ts ++ locals) ms fry arrays holes h.0)
+  phrase_holes s locals (more (n_fry ms p) ns) fry arrays holes h =
+      let m = phrase_of s locals (read_items (is_cond s) locals ms) arrays 0 in phrase_holes s locals ns fry m.arrays holes h.1
+  phrase_holes s locals (more (n_array es q) ns) fry arrays holes h =
+      let c = is_cond s in
+      let rest = read_items c locals ns in
+      let a = elements_of s (read_elements c es) arrays in
+      let P : Option Place → Type 0 = λ o. (phrase_of s locals (with_pairs c locals es q rest o) arrays holes).holes ≡ holes_behind holes ns in
+      subst P (place_read c locals fry es ns h.1) (by_place P (if are_pairs es then cond_first c locals ns else None)
+      (λ none. phrase_holes s locals ns fry (a.arrays ++ a.elements ∷ []) holes h.1)
+      (λ p is.
+      let pairs = are_cases (are_pairs es) (cond_first c locals ns) p is in
+      let m = phrase_of s locals (read_pairs c locals p es) arrays holes in
+      ap (λ (x : Made). x.holes) (cases_joined s c locals p es (behind_first rest) arrays holes pairs)
+      ∙ skip_holes s locals ns m.arrays m.holes (cond_name c locals es ns p is)
+      ∙ phrase_holes s locals ns fry m.arrays m.holes h.1
+      ∙ ap (λ (k : ℕ). holes_behind k ns) (cases_holes s locals p es arrays holes pairs h.0)))
+  phrase_holes s locals (more n ns) fry arrays holes h = absurd h.0
+
+  cases_holes : (s : Scope) (locals : List (List ℕ)) (p : Place) (es : Nodes) (arrays : List (List Lit)) (holes : ℕ) → are_pairs es ≡ true → AreRawElements es → (phrase_of s locals (read_pairs (is_cond s) locals p es) arrays holes).holes ≡ holes
+  cases_holes s locals p nothing arrays holes e h = refl
+  cases_holes s locals p (more (n_quot ms q) nothing) arrays holes e h = phrase_holes s locals ms false arrays holes h.0 ∙ none_inside ms holes h.0
+  cases_holes s locals p (more (n_array (more (n_quot ts o) (more (n_quot ms q) nothing)) r) es) arrays holes e h =
+      let first = phrase_of s locals (read_items (is_cond s) locals ts) arrays holes in
+      let second = phrase_of s locals (read_items (is_cond s) locals ms) first.arrays first.holes in
+      cases_holes s locals p es second.arrays second.holes e h.1
+      ∙ phrase_holes s locals ms false first.arrays first.holes h.0.1.0
+      ∙ none_inside ms first.holes h.0.1.0
+      ∙ phrase_holes s locals ts false arrays holes h.0.0
+      ∙ none_inside ts holes h.0.0
+  cases_holes s locals p (more n es) arrays holes e h = absurd (cc)
+
+-- Signs behind one another.
+
+signs_append : (inner : ℕ → List Sign) (t u : Phrase) → phrase_signs inner (append t u) ≡ phrase_signs inner t ++ phrase_signs inner u
+signs_append inner end u = refl
+signs_append inner (placed i p t) u = ap (λ (xs : List Sign). item_signs inner i p ++ xs) (signs_append inner t u) ∙ sym (append_assoc (item_signs inner i p) (phrase_signs inner t) (phrase_signs inner u))
+
+fry_before : (o : Option Place) (n k : ℕ) (xs ys us vs : List Sign) → n ≡ k → xs ≡ ys → us ≡ vs → (opens Fry o ∷ xs ++ filled n ∷ closes Fry ∷ []) ++ us ≡ within Fry o (ys ++ filled k ∷ []) ++ vs
+fry_before o n k xs ys us vs h i j =
+    ap (λ (m : ℕ). (opens Fry o ∷ xs ++ filled m ∷ closes Fry ∷ []) ++ us) h
+    ∙ ap (λ (zs : List Sign). (opens Fry o ∷ zs ++ filled k ∷ closes Fry ∷ []) ++ us) i
+    ∙ ap (λ (zs : List Sign). (opens Fry o ∷ ys ++ filled k ∷ closes Fry ∷ []) ++ zs) j
+    ∙ ap (λ (zs : List Sign). (opens Fry o ∷ zs) ++ vs) (sym (append_assoc ys (filled k ∷ []) (closes Fry ∷ [])))
+
+case_grouped : (c d : Sign) (xs ys zs : List Sign) → xs ++ (c ∷ (ys ++ (zs ++ (d ∷ [])))) ≡ ((xs ++ (c ∷ ys)) ++ zs) ++ (d ∷ [])
+case_grouped c d xs ys zs = simp append_assoc
+
+case_signs : (o q r : Option Place) (c d : Sign) (ts us vs xs ys zs : List Sign) → ts ≡ xs → us ≡ ys → vs ≡ zs →
+    within Quotation o ts ++ (c ∷ (within Quotation q us ++ (within Quotation r vs ++ (d ∷ [])))) ≡ ((within Quotation o xs ++ (c ∷ within Quotation q ys)) ++ within Quotation r zs) ++ (d ∷ [])
+case_signs o q r c d ts us vs xs ys zs h i j =
+    ap (λ (gs : List Sign). within Quotation o gs ++ (c ∷ (within Quotation q us ++ (within Quotation r vs ++ (d ∷ []))))) h
+    ∙ ap (λ (gs : List Sign). within Quotation o xs ++ (c ∷ (within Quotation q gs ++ (within Quotation r vs ++ (d ∷ []))))) i
+    ∙ ap (λ (gs : List Sign). within Quotation o xs ++ (c ∷ (within Quotation q ys ++ (within Quotation r gs ++ (d ∷ []))))) j
+    ∙ case_grouped c d (within Quotation o xs) (within Quotation q ys) (within Quotation r zs)
+
+-- The phrase of nodes, and the elements, with any arrays behind theirs.
+
+mutual
+  phrase_meant : (s : Scope) (locals : List (List ℕ)) (ns : Nodes) (fry : Bool) (arrays : List (List Lit)) (holes : ℕ) (all : List (List Lit)) → AreRaw fry ns →
+      Longer (phrase_of s locals (read_items (is_cond s) locals ns) arrays holes).arrays all → phrase_signs (array_signs all) (phrase_of s locals (read_items (is_cond s) locals ns) arrays holes).phrase ≡ meanings (words_in s) locals holes ns
+  phrase_meant s locals nothing fry arrays holes all h k = refl
+  phrase_meant s locals (more (n_lit x p) ns) fry arrays holes all h k = ap (λ (xs : List Sign). one (lit x) p ∷ xs) (phrase_meant s locals ns fry arrays holes all h.1 k)
+  phrase_meant s locals (more (n_ref t p) ns) fry arrays holes all h k = ap (λ (xs : List Sign). one (lit (wrd (word_of s t))) p ∷ xs) (phrase_meant s locals ns fry arrays holes all h.1 k)
+  phrase_meant s locals (more (n_name t p) ns) fry arrays holes all h k =
+      ap (λ (xs : List Sign). xs ++ phrase_signs (array_signs all) (phrase_of s locals (read_items (is_cond s) locals ns) arrays holes).phrase) (name_alone (array_signs all) (local_of locals t.text) (word_of s t) p)
+      ∙ ap (λ (xs : List Sign). one (named_item (words_in s) locals t.text) p ∷ xs) (phrase_meant s locals ns fry arrays holes all h.1 k)
+  phrase_meant s locals (more (n_call_effect e p) ns) fry arrays holes all h k = ap (λ (xs : List Sign). one (call_effect e) p ∷ xs) (phrase_meant s locals ns fry arrays holes all h.1 k)
+  phrase_meant s locals (more (n_execute_effect e p) ns) fry arrays holes all h k = ap (λ (xs : List Sign). one (execute_effect e) p ∷ xs) (phrase_meant s locals ns fry arrays holes all h.1 k)
+  phrase_meant s locals (more (n_next p) ns) fry arrays holes all h k = ap (λ (xs : List Sign). one next_method p ∷ xs) (phrase_meant s locals ns fry arrays holes all h.1 k)
+  phrase_meant s locals (more (n_bind t twice p) ns) fry arrays holes all h k = ap (λ (xs : List Sign). one (bind (length locals)) p ∷ xs) (phrase_meant s (t.text ∷ locals) ns fry arrays holes all h.1 k)
+  phrase_meant s locals (more (n_hole p) ns) fry arrays holes all h k = ap (λ (xs : List Sign). one (hole holes) p ∷ xs) (phrase_meant s locals ns fry arrays (suc holes) all h.1 k)
+  phrase_meant s locals (more (n_at p) ns) fry arrays holes all h k = ap (λ (xs : List Sign). one (hole holes) p ∷ (one (word (words_in s).calling) p ∷ xs)) (phrase_meant s locals ns fry arrays (suc holes) all h.1 k)
+  phrase_meant s locals (more (n_quot ms p) ns) fry arrays holes all h k =
       let ws = words_in s in
-      let rest = read_items c l.locals ns in
-      let m = phrase_of s l.locals (read_items c l.locals ms) arrays holes in
-      let closed = behind_node (n_quot ms p) l in
-      let counted = phrase_holes s c (inside Quotation l) ms fry arrays holes tt h.0 f.0 e in
-      bracket_before Quotation (Some p) (place_in l.bracket p) (phrase_signs (array_signs all) m.phrase) (nodes_signs ws (inside Quotation l) ms) (closes Quotation ∷ []) (end_signs (nodes_end (inside Quotation l) ms)) (phrase_signs (array_signs all) (phrase_of s l.locals rest m.arrays m.holes).phrase) (nodes_signs ws closed ns)
-      (place_item l.bracket p a)
-      (phrase_meant s c (inside Quotation l) ms fry arrays holes all tt h.0 f.0 e (and_then (phrase_longer s l.locals rest m.arrays m.holes) k))
-      (end_is Quotation (inside Quotation l) ms m.holes refl counted)
-      (phrase_meant s c closed ns fry m.arrays m.holes all a h.1 f.1 (counted ∙ sym (closing_holes Quotation l ms (inside Quotation l) a refl)) k)
-  phrase_meant s c l (more (n_fry ms p) ns) fry arrays holes all a h f e k =
+      let rest = read_items (is_cond s) locals ns in
+      let m = phrase_of s locals (read_items (is_cond s) locals ms) arrays holes in
+      ap (λ (xs : List Sign). within Quotation (Some p) xs ++ phrase_signs (array_signs all) (phrase_of s locals rest m.arrays m.holes).phrase) (phrase_meant s locals ms fry arrays holes all h.0 (and_then (phrase_longer s locals rest m.arrays m.holes) k))
+      ∙ ap (λ (xs : List Sign). within Quotation (Some p) (meanings ws locals holes ms) ++ xs) (phrase_meant s locals ns fry m.arrays m.holes all h.1 k ∙ ap (λ (n : ℕ). meanings ws locals n ns) (phrase_holes s locals ms fry arrays holes h.0))
+  phrase_meant s locals (more (n_locals ts ms p) ns) fry arrays holes all h k =
       let ws = words_in s in
-      let rest = read_items c l.locals ns in
-      let m = phrase_of s l.locals (read_items c l.locals ms) arrays 0 in
-      let closed = behind_node (n_fry ms p) l in
-      let counted = phrase_holes s c (inside Fry l) ms true arrays 0 tt h.0 f.0 refl in
-      bracket_before Fry (Some p) (place_in l.bracket p) (phrase_signs (array_signs all) m.phrase) (nodes_signs ws (inside Fry l) ms) (filled m.holes ∷ closes Fry ∷ []) (end_signs (nodes_end (inside Fry l) ms)) (phrase_signs (array_signs all) (phrase_of s l.locals rest m.arrays holes).phrase) (nodes_signs ws closed ns)
-      (place_item l.bracket p a)
-      (phrase_meant s c (inside Fry l) ms true arrays 0 all tt h.0 f.0 refl (and_then (phrase_longer s l.locals rest m.arrays holes) k))
-      (end_is Fry (inside Fry l) ms m.holes refl counted)
-      (phrase_meant s c closed ns fry m.arrays holes all a h.1 f.1 (e ∙ sym (closing_holes Fry l ms (inside Fry l) a refl)) k)
-  phrase_meant s c l (more (n_locals ts ms p) ns) fry arrays holes all a h f e k =
+      let rest = read_items (is_cond s) locals ns in
+      let inner = read_items (is_cond s) (texts_of ts ++ locals) ms in
+      let m = phrase_of s locals (bindings ts [] inner) arrays holes in
+      let now = meanings ws (texts_of ts ++ locals) holes ms in
+      ap (λ (xs : List Sign). within Quotation (Some p) xs ++ phrase_signs (array_signs all) (phrase_of s locals rest m.arrays m.holes).phrase)
+      (bindings_meant s (array_signs all) locals ts [] inner arrays holes
+      ∙ ap (λ (xs : List Sign). bindings_signs (length locals) ts ++ xs) (phrase_meant s (texts_of ts ++ locals) ms fry arrays holes all h.0 (subst (λ (xs : List (List Lit)). Longer xs all) (bindings_arrays s locals ts [] inner arrays holes) (and_then (phrase_longer s locals rest m.arrays m.holes) k))))
+      ∙ ap (λ (xs : List Sign). within Quotation (Some p) (bindings_signs (length locals) ts ++ now) ++ xs)
+      (phrase_meant s locals ns fry m.arrays m.holes all h.1 k ∙ ap (λ (n : ℕ). meanings ws locals n ns) (bindings_holes s locals ts [] inner arrays holes ∙ phrase_holes s (texts_of ts ++ locals) ms fry arrays holes h.0))
+  phrase_meant s locals (more (n_fry ms p) ns) fry arrays holes all h k =
       let ws = words_in s in
-      let rest = read_items c l.locals ns in
-      let inner = read_items c (texts_of ts ++ l.locals) ms in
-      let body = phrase_of s (texts_of ts ++ l.locals) inner arrays holes in
-      let m = phrase_of s l.locals (bindings ts [] inner) arrays holes in
-      let closed = behind_node (n_locals ts ms p) l in
-      let counted = bindings_holes s l.locals ts [] inner arrays holes ∙ phrase_holes s c (inside_locals ts l) ms fry arrays holes tt h.0 f.0 e in
-      locals_before (Some p) (place_in l.bracket p) (bindings_signs (length l.locals) ts) (phrase_signs (array_signs all) m.phrase) (nodes_signs ws (inside_locals ts l) ms) (closes Quotation ∷ []) (end_signs (nodes_end (inside_locals ts l) ms)) (phrase_signs (array_signs all) (phrase_of s l.locals rest m.arrays m.holes).phrase) (nodes_signs ws closed ns)
-      (place_item l.bracket p a)
-      (bindings_meant s (array_signs all) l.locals ts [] inner arrays holes
-      ∙ ap (λ (xs : List Sign). bindings_signs (length l.locals) ts ++ xs) (phrase_meant s c (inside_locals ts l) ms fry arrays holes all tt h.0 f.0 e (subst (λ (xs : List (List Lit)). Longer xs all) (bindings_arrays s l.locals ts [] inner arrays holes) (and_then (phrase_longer s l.locals rest m.arrays m.holes) k))))
-      (end_is Quotation (inside_locals ts l) ms m.holes refl counted)
-      (phrase_meant s c closed ns fry m.arrays m.holes all a h.1 f.1 (counted ∙ sym (closing_holes Quotation l ms (inside_locals ts l) a refl)) k)
-  phrase_meant s c l (more (n_array es q) ns) fry arrays holes all a h f e k =
+      let rest = read_items (is_cond s) locals ns in
+      let m = phrase_of s locals (read_items (is_cond s) locals ms) arrays 0 in
+      fry_before (Some p) m.holes (holes_behind 0 ms) (phrase_signs (array_signs all) m.phrase) (meanings ws locals 0 ms) (phrase_signs (array_signs all) (phrase_of s locals rest m.arrays holes).phrase) (meanings ws locals holes ns)
+      (phrase_holes s locals ms true arrays 0 h.0)
+      (phrase_meant s locals ms true arrays 0 all h.0 (and_then (phrase_longer s locals rest m.arrays holes) k))
+      (phrase_meant s locals ns fry m.arrays holes all h.1 k)
+  phrase_meant s locals (more (n_array es q) ns) fry arrays holes all h k =
+      let c = is_cond s in
       let ws = words_in s in
-      let rest = read_items c l.locals ns in
-      let m = elements_of s (read_elements c es) arrays in
-      let more_arrays = m.arrays ++ m.elements ∷ [] in
-      let closed = behind_node (n_array es q) l in
-      array_case s c l es q ns arrays holes all (nodes_signs ws l (more (n_array es q) ns)) (if are_pairs es then cond_first c l.locals rest else None) (none_read c l.locals fry es ns h.1 f.0.0)
-      (λ more_all.
-      bracket_before Array (Some q) (place_in l.bracket q) (array_signs all (length m.arrays)) (nodes_signs ws array_level es) (closes Array ∷ []) (end_signs (nodes_end array_level es)) (phrase_signs (array_signs all) (phrase_of s l.locals rest more_arrays holes).phrase) (nodes_signs ws closed ns)
-      (place_item l.bracket q a)
-      (array_at m.arrays m.elements all (and_then (phrase_longer s l.locals rest more_arrays holes) more_all) ∙ elements_meant s c es arrays m.arrays h.0 f.0.1 (same m.arrays))
-      (end_is Array array_level es (nodes_end array_level es).holes refl refl)
-      (phrase_meant s c closed ns fry more_arrays holes all a h.1 f.1 (e ∙ sym (closing_holes Array l es array_level a refl)) more_all))
+      let rest = read_items c locals ns in
+      let behind = meanings ws locals holes ns in
+      let now : Option Place → List Sign = λ o. elim o [ Some p ↦ cases ws locals holes p es ++ drop 1 behind | None ↦ within Array (Some q) (values ws es) ++ behind ] in
+      let P : Option Place → Option Place → Type 0 = λ o x. Longer (phrase_of s locals (with_pairs c locals es q rest o) arrays holes).arrays all → phrase_signs (array_signs all) (phrase_of s locals (with_pairs c locals es q rest o) arrays holes).phrase ≡ now x in
+      let at = if are_pairs es then cond_first c locals ns else None in
+      subst (λ (o : Option Place). P o at) (place_read c locals fry es ns h.1) (by_place (λ (o : Option Place). P o o) at
+      (λ none. λ long.
+      let a = elements_of s (read_elements c es) arrays in
+      let arrays_then = a.arrays ++ a.elements ∷ [] in
+      ap (λ (xs : List Sign). within Array (Some q) xs ++ phrase_signs (array_signs all) (phrase_of s locals rest arrays_then holes).phrase) (array_at a.arrays a.elements all (and_then (phrase_longer s locals rest arrays_then holes) long) ∙ elements_meant s es arrays a.arrays h.0 (same a.arrays))
+      ∙ ap (λ (xs : List Sign). within Array (Some q) (values ws es) ++ xs) (phrase_meant s locals ns fry arrays_then holes all h.1 long))
+      (λ p is. λ long.
+      let pairs = are_cases (are_pairs es) (cond_first c locals ns) p is in
+      let name = cond_name c locals es ns p is in
+      let m = phrase_of s locals (read_pairs c locals p es) arrays holes in
+      let joint = cases_joined s c locals p es (behind_first rest) arrays holes pairs in
+      let last = phrase_of s locals (behind_first rest) m.arrays m.holes in
+      let long_rest = subst (λ (xs : List (List Lit)). Longer xs all) (ap (λ (x : Made). x.arrays) joint ∙ skip_arrays s locals ns m.arrays m.holes name) long in
+      ap (λ (x : Made). phrase_signs (array_signs all) x.phrase) joint
+      ∙ signs_append (array_signs all) m.phrase last.phrase
+      ∙ ap (λ (xs : List Sign). xs ++ phrase_signs (array_signs all) last.phrase) (cases_meant s locals p es arrays holes all pairs h.0 (and_then (phrase_longer s locals rest m.arrays m.holes) long_rest))
+      ∙ ap (λ (xs : List Sign). cases ws locals holes p es ++ xs)
+      (skip_signs s (array_signs all) locals ns m.arrays m.holes name
+      ∙ ap (λ (xs : List Sign). drop 1 xs) (phrase_meant s locals ns fry m.arrays m.holes all h.1 long_rest ∙ ap (λ (n : ℕ). meanings ws locals n ns) (cases_holes s locals p es arrays holes pairs h.0)))))
       k
-  phrase_meant s c l (more n ns) fry arrays holes all a h f e k = absurd h.0
+  phrase_meant s locals (more n ns) fry arrays holes all h k = absurd h.0
 
-  elements_meant : (s : Scope) (c : List ℕ → Bool) (ns : Nodes) (arrays : List (List Lit)) (all : List (List Lit)) → AreRawElements ns → HaveNoCases c ns → Longer (elements_of s (read_elements c ns) arrays).arrays all →
-      elements_signs (array_signs all) (elements_of s (read_elements c ns) arrays).elements ≡ nodes_signs (words_in s) array_level ns
-  elements_meant s c nothing arrays all h f k = refl
-  elements_meant s c (more (n_lit (int z) p) ns) arrays all h f k = ap (λ (xs : List Sign). value (literal (int z)) ∷ xs) (elements_meant s c ns arrays all h.1 f.1 k)
-  elements_meant s c (more (n_lit yes p) ns) arrays all h f k = ap (λ (xs : List Sign). value (literal yes) ∷ xs) (elements_meant s c ns arrays all h.1 f.1 k)
-  elements_meant s c (more (n_lit no p) ns) arrays all h f k = ap (λ (xs : List Sign). value (literal no) ∷ xs) (elements_meant s c ns arrays all h.1 f.1 k)
-  elements_meant s c (more (n_lit (str cs) p) ns) arrays all h f k = ap (λ (xs : List Sign). value (literal (str cs)) ∷ xs) (elements_meant s c ns arrays all h.1 f.1 k)
-  elements_meant s c (more (n_lit x p) ns) arrays all h f k = absurd h.0
-  elements_meant s c (more (n_ref t p) ns) arrays all h f k = ap (λ (xs : List Sign). value (literal_is.Wref (word_of s t)) ∷ xs) (elements_meant s c ns arrays all h.1 f.1 k)
-  elements_meant s c (more (n_name t p) ns) arrays all h f k = ap (λ (xs : List Sign). value (literal_is.Wref (word_of s t)) ∷ xs) (elements_meant s c ns arrays all h.1 f.1 k)
-  elements_meant s c (more (n_quot ms p) ns) arrays all h f k =
+  cases_meant : (s : Scope) (locals : List (List ℕ)) (p : Place) (es : Nodes) (arrays : List (List Lit)) (holes : ℕ) (all : List (List Lit)) → are_pairs es ≡ true → AreRawElements es →
+      Longer (phrase_of s locals (read_pairs (is_cond s) locals p es) arrays holes).arrays all → phrase_signs (array_signs all) (phrase_of s locals (read_pairs (is_cond s) locals p es) arrays holes).phrase ≡ cases (words_in s) locals holes p es
+  cases_meant s locals p nothing arrays holes all e h k = refl
+  cases_meant s locals p (more (n_quot ms q) nothing) arrays holes all e h k =
+      ap (phrase_signs (array_signs all)) (append_end (phrase_of s locals (read_items (is_cond s) locals ms) arrays holes).phrase) ∙ phrase_meant s locals ms false arrays holes all h.0 k
+  cases_meant s locals p (more (n_array (more (n_quot ts o) (more (n_quot ms q) nothing)) r) es) arrays holes all e h k =
       let ws = words_in s in
-      let inner = inside Quotation array_level in
-      let m = phrase_of s [] (read_items c [] ms) arrays 0 in
-      let r = elements_of s (read_elements c ns) m.arrays in
-      bracket_before Quotation None None (phrase_signs (array_signs all) m.phrase) (nodes_signs ws inner ms) (closes Quotation ∷ []) (end_signs (nodes_end inner ms)) (elements_signs (array_signs all) r.elements) (nodes_signs ws array_level ns)
-      refl
-      (phrase_meant s c inner ms false arrays 0 all tt h.0 f.0 refl (and_then (elements_longer s (read_elements c ns) m.arrays) k))
-      (end_is Quotation inner ms (nodes_end inner ms).holes refl refl)
-      (elements_meant s c ns m.arrays all h.1 f.1 k)
-  elements_meant s c (more (n_array es q) ns) arrays all h f k =
+      let later = read_pairs (is_cond s) locals p es in
+      let first = phrase_of s locals (read_items (is_cond s) locals ts) arrays holes in
+      let second = phrase_of s locals (read_items (is_cond s) locals ms) first.arrays first.holes in
+      let third = phrase_of s locals later second.arrays second.holes in
+      let long = and_then (phrase_longer s locals later second.arrays second.holes) k in
+      let first_holes = phrase_holes s locals ts false arrays holes h.0.0 ∙ none_inside ts holes h.0.0 in
+      let second_holes = phrase_holes s locals ms false first.arrays first.holes h.0.1.0 ∙ none_inside ms first.holes h.0.1.0 ∙ first_holes in
+      case_signs (Some o) (Some q) (Some p) (one (word ws.calling) p) (one (word ws.choosing) p)
+      (phrase_signs (array_signs all) first.phrase) (phrase_signs (array_signs all) second.phrase) (phrase_signs (array_signs all) third.phrase)
+      (meanings ws locals holes ts) (meanings ws locals holes ms) (cases ws locals holes p es)
+      (phrase_meant s locals ts false arrays holes all h.0.0 (and_then (phrase_longer s locals (read_items (is_cond s) locals ms) first.arrays first.holes) long))
+      (phrase_meant s locals ms false first.arrays first.holes all h.0.1.0 long ∙ ap (λ (n : ℕ). meanings ws locals n ms) first_holes)
+      (cases_meant s locals p es second.arrays second.holes all e h.1 k ∙ ap (λ (n : ℕ). cases ws locals n p es) second_holes)
+  cases_meant s locals p (more n es) arrays holes all e h k = absurd (cc)
+
+  elements_meant : (s : Scope) (ns : Nodes) (arrays : List (List Lit)) (all : List (List Lit)) → AreRawElements ns → Longer (elements_of s (read_elements (is_cond s) ns) arrays).arrays all →
+      elements_signs (array_signs all) (elements_of s (read_elements (is_cond s) ns) arrays).elements ≡ values (words_in s) ns
+  elements_meant s nothing arrays all h k = refl
+  elements_meant s (more (n_lit (int z) p) ns) arrays all h k = ap (λ (xs : List Sign). value (literal (int z)) ∷ xs) (elements_meant s ns arrays all h.1 k)
+  elements_meant s (more (n_lit yes p) ns) arrays all h k = ap (λ (xs : List Sign). value (literal yes) ∷ xs) (elements_meant s ns arrays all h.1 k)
+  elements_meant s (more (n_lit no p) ns) arrays all h k = ap (λ (xs : List Sign). value (literal no) ∷ xs) (elements_meant s ns arrays all h.1 k)
+  elements_meant s (more (n_lit (str cs) p) ns) arrays all h k = ap (λ (xs : List Sign). value (literal (str cs)) ∷ xs) (elements_meant s ns arrays all h.1 k)
+  elements_meant s (more (n_lit x p) ns) arrays all h k = absurd h.0
+  elements_meant s (more (n_ref t p) ns) arrays all h k = ap (λ (xs : List Sign). value (literal_is.Wref (word_of s t)) ∷ xs) (elements_meant s ns arrays all h.1 k)
+  elements_meant s (more (n_name t p) ns) arrays all h k = ap (λ (xs : List Sign). value (literal_is.Wref (word_of s t)) ∷ xs) (elements_meant s ns arrays all h.1 k)
+  elements_meant s (more (n_quot ms p) ns) arrays all h k =
       let ws = words_in s in
-      let m = elements_of s (read_elements c es) arrays in
-      let more_arrays = m.arrays ++ m.elements ∷ [] in
-      let r = elements_of s (read_elements c ns) more_arrays in
-      bracket_before Array None None (array_signs all (length m.arrays)) (nodes_signs ws array_level es) (closes Array ∷ []) (end_signs (nodes_end array_level es)) (elements_signs (array_signs all) r.elements) (nodes_signs ws array_level ns)
-      refl
-      (array_at m.arrays m.elements all (and_then (elements_longer s (read_elements c ns) more_arrays) k) ∙ elements_meant s c es arrays m.arrays h.0 f.0 (same m.arrays))
-      (end_is Array array_level es (nodes_end array_level es).holes refl refl)
-      (elements_meant s c ns more_arrays all h.1 f.1 k)
-  elements_meant s c (more n ns) arrays all h f k = absurd h.0
-
--- What words there are.
-
-item_same : (ws vs : Words) (l : Level) (t : Term) → ((name : List ℕ) → ws.named name ≡ vs.named name) → ws.calling ≡ vs.calling → item_signs ws l t ≡ item_signs vs l t
-item_same ws vs l (term.Name t) h k = ap (λ (w : ℕ). one (elim (local_of l.locals (tok t).text) [ Some x ↦ local x | None ↦ word w ]) t.place ∷ []) (h (tok t).text)
-item_same ws vs l (term.Wrapped sign name) h k = ap (λ (w : ℕ). one (lit (wrd w)) sign ∷ []) (h (tok name).text)
-item_same ws vs l (term.EffectCall callee sign tokens height) h k = refl
-item_same ws vs l (term.Literal t x) h k = refl
-item_same ws vs l (term.NextMethod place) h k = refl
-item_same ws vs l (term.Bind sign name) h k = refl
-item_same ws vs l (term.Hole place) h k = refl
-item_same ws vs l (term.CalledHole place) h k = ap (λ (w : ℕ). one (hole l.holes) place ∷ one (word w) place ∷ []) k
-
-value_same : (ws vs : Words) (t : Term) → ((name : List ℕ) → ws.named name ≡ vs.named name) → value_signs ws t ≡ value_signs vs t
-value_same ws vs (term.Name t) h = ap (λ (w : ℕ). value (literal_is.Wref w) ∷ []) (h (tok t).text)
-value_same ws vs (term.Wrapped sign name) h = ap (λ (w : ℕ). value (literal_is.Wref w) ∷ []) (h (tok name).text)
-value_same ws vs (term.EffectCall callee sign tokens height) h = refl
-value_same ws vs (term.Literal t x) h = refl
-value_same ws vs (term.NextMethod place) h = refl
-value_same ws vs (term.Bind sign name) h = refl
-value_same ws vs (term.Hole place) h = refl
-value_same ws vs (term.CalledHole place) h = refl
-
-term_same : (ws vs : Words) (b : Bracket) (l : Level) (t : Term) → ((name : List ℕ) → ws.named name ≡ vs.named name) → ws.calling ≡ vs.calling → term_signs ws b l t ≡ term_signs vs b l t
-term_same ws vs Quotation l t h k = item_same ws vs l t h k
-term_same ws vs Fry l t h k = item_same ws vs l t h k
-term_same ws vs Array l t h k = value_same ws vs t h
-
-meanings_same : (ws vs : Words) (l : Level) (around : List Level) (es : List Element) → ((name : List ℕ) → ws.named name ≡ vs.named name) → ws.calling ≡ vs.calling → meanings ws l around es ≡ meanings vs l around es
-meanings_same ws vs l around [] h k = refl
-meanings_same ws vs l around (element.Item t ∷ es) h k =
-    ap (λ (xs : List Sign). xs ++ meanings ws (behind_term t l) around es) (term_same ws vs l.bracket l t h k)
-    ∙ ap (λ (xs : List Sign). term_signs vs l.bracket l t ++ xs) (meanings_same ws vs (behind_term t l) around es h k)
-meanings_same ws vs l around (element.Opens b place ∷ es) h k = ap (λ (xs : List Sign). opens b (place_in l.bracket place) ∷ xs) (meanings_same ws vs (inside b l) (l ∷ around) es h k)
-meanings_same ws vs l around (element.OpensLocals place names bar ∷ es) h k =
-    ap (λ (xs : List Sign). opens Quotation (place_in l.bracket place) ∷ bindings_signs (length l.locals) (map tok names) ++ xs) (meanings_same ws vs (inside_locals (map tok names) l) (l ∷ around) es h k)
-meanings_same ws vs l [] (element.Closes b place ∷ es) h k = refl
-meanings_same ws vs l (o ∷ around) (element.Closes b place ∷ es) h k = ap (λ (xs : List Sign). end_signs l ++ xs) (meanings_same ws vs (closing l o) around es h k)
+      let rest = read_elements (is_cond s) ns in
+      let m = phrase_of s [] (read_items (is_cond s) [] ms) arrays 0 in
+      ap (λ (xs : List Sign). within Quotation None xs ++ elements_signs (array_signs all) (elements_of s rest m.arrays).elements) (phrase_meant s [] ms false arrays 0 all h.0 (and_then (elements_longer s rest m.arrays) k))
+      ∙ ap (λ (xs : List Sign). within Quotation None (meanings ws [] 0 ms) ++ xs) (elements_meant s ns m.arrays all h.1 k)
+  elements_meant s (more (n_array es q) ns) arrays all h k =
+      let ws = words_in s in
+      let rest = read_elements (is_cond s) ns in
+      let a = elements_of s (read_elements (is_cond s) es) arrays in
+      let arrays_then = a.arrays ++ a.elements ∷ [] in
+      ap (λ (xs : List Sign). within Array None xs ++ elements_signs (array_signs all) (elements_of s rest arrays_then).elements) (array_at a.arrays a.elements all (and_then (elements_longer s rest arrays_then) k) ∙ elements_meant s es arrays a.arrays h.0 (same a.arrays))
+      ∙ ap (λ (xs : List Sign). within Array None (values ws es) ++ xs) (elements_meant s ns arrays_then all h.1 k)
+  elements_meant s (more n ns) arrays all h k = absurd h.0
 
 -- All of it.
 
-abbrev whole_level : List (List ℕ) → Level
-whole_level locals = record { bracket = Quotation; locals = locals; holes = 0 }
-
 -- the phrase of items behind their readings
-meant_in : (s : Scope) (locals : Option ℕ) (inputs : List Tok) (items : List Element) (arrays : List (List Lit)) → AreItems locals items → HasNoCases (is_cond s) [] (with_inputs inputs (nested items)) →
-    (let m = made s (with_inputs inputs (nested items)) arrays in Means m.arrays m.phrase (words_in s) inputs items)
-meant_in s locals inputs items arrays fits free =
-    let ws = words_in s in
+meant_in : (s : Scope) (inputs : List Tok) (items : List Element) (arrays : List (List Lit)) → AreClosing [] items →
+    (let m = made s (with_inputs inputs (nested items)) arrays in phrase_signs (array_signs m.arrays) m.phrase ≡ meant (words_in s) inputs items)
+meant_in s inputs items arrays closing =
     let c = is_cond s in
     let ns = nested items in
-    let closing_items = items_closing locals items fits in
     let inner = read_items c (texts_of inputs ++ []) ns in
     let m = phrase_of s [] (bindings inputs [] inner) arrays 0 in
-    let behind_inputs = bindings_arrays s [] inputs [] inner arrays 0 in
-    let spell = spelled ws [] (outermost inputs) [] items refl closing_items in
     ap (λ (xs : Nodes). phrase_signs (array_signs (phrase_of s [] xs arrays 0).arrays) (phrase_of s [] xs arrays 0).phrase) (bindings_read c [] inputs [] ns)
     ∙ bindings_meant s (array_signs m.arrays) [] inputs [] inner arrays 0
     ∙ ap (λ (xs : List Sign). bindings_signs 0 inputs ++ xs) (
-    phrase_meant s c (whole_level (texts_of inputs ++ [])) ns false arrays 0 m.arrays tt (nested_raw items closing_items) (cases_behind c [] inputs [] ns free) refl (subst (λ (xs : List (List Lit)). Longer xs m.arrays) behind_inputs (same m.arrays))
-    ∙ ap (λ (xs : List (List ℕ)). nodes_signs ws (whole_level xs) ns) (append-nil (texts_of inputs))
-    ∙ sym (append-nil (nodes_signs ws (outermost inputs) ns))
-    ∙ spell.written)
+    phrase_meant s (texts_of inputs ++ []) ns false arrays 0 m.arrays (nested_raw items closing) (subst (λ (xs : List (List Lit)). Longer xs m.arrays) (bindings_arrays s [] inputs [] inner arrays 0) (same m.arrays))
+    ∙ ap (λ (xs : List (List ℕ)). meanings (words_in s) xs 0 ns) (append-nil (texts_of inputs)))
 
--- with other words that are the same
-means_by : (ws vs : Words) (arrays : List (List Lit)) (t : Phrase) (inputs : List Tok) (items : List Element) → ((name : List ℕ) → ws.named name ≡ vs.named name) → ws.calling ≡ vs.calling → Means arrays t ws inputs items → Means arrays t vs inputs items
-means_by ws vs arrays t inputs items h k mean = mean ∙ ap (λ (xs : List Sign). bindings_signs 0 inputs ++ xs) (meanings_same ws vs (outermost inputs) [] items h k)
+-- searches that find the same
+same_finds : (f g : List ℕ → Found) → ((name : List ℕ) → f name ≡ g name) → f ≡ g
+same_finds f g h = λ i name. h name i
+
+meant_behind : (s : Scope) (before : List ℕ → Found) (inputs : List Tok) (items : List Element) → ((name : List ℕ) → found s name ≡ before name) → meant (words_in s) inputs items ≡ meant (words_of s.table before) inputs items
+meant_behind s before inputs items h = ap (λ (finds : List ℕ → Found). meant (words_of s.table finds) inputs items) (same_finds (λ name. found s name) before h)
 
 changed_at : {A : Type 0} (f : A → A) (n : ℕ) (xs : List A) (y : A) → slice_get (changed f n xs) n ≡ Some y → (x : A) × (y ≡ f x)
 changed_at f zero [] y h = absurd (cc)
@@ -580,36 +383,69 @@ changed_at f (suc n) (x ∷ xs) y h = changed_at f n xs y h
 told_phrase : (sort : Sort) (effect : Signature) (inline recursive : Bool) (late : Late) (w : ℕ) (r : Reading) (d : Draft) → slice_get (told sort effect inline recursive late (record { word = w; reading = r })).words w ≡ Some d → d.word.sort ≡ sort
 told_phrase sort effect inline recursive late w r d at = let one = changed_at (with_told sort effect inline recursive late) w r.words d at in ap (λ (x : Draft). x.word.sort) one.1
 
+-- a definition with these nodes, whose phrase is written so in the scope in which its name is known
+definition_meant : (r : Reading) (n : Tok) (e : Declared) (ns : Nodes) (inline recursive : Bool) (signs : List Sign) →
+    (let o = own n r in let m = made o.reading.scope ns o.reading.arrays in phrase_signs (array_signs m.arrays) m.phrase ≡ signs) →
+    (let o = own n r in let q = read_for ns o.reading in let m = made o.reading.scope ns o.reading.arrays in HasPhrase (told (body m.phrase) (declared_effect e) inline recursive (declared_late o.reading.scope e) (record { word = o.word; reading = q })) o.word signs)
+definition_meant r n e ns inline recursive signs is d at =
+    let o = own n r in
+    let m = made o.reading.scope ns o.reading.arrays in
+    (m.phrase, told_phrase (body m.phrase) (declared_effect e) inline recursive (declared_late o.reading.scope e) o.word (read_for ns o.reading) d at, is)
+
 definitions_are_meant : (r : Reading) (forms : List Flat) (locals : Option ℕ) (inputs : List Tok) (items : List Element) → (take_front r forms).first ≡ None → AreItems locals items → DefinitionsAreMeant (take_front r forms) (latest_first [] forms) inputs items
-definitions_are_meant r forms locals inputs items none fits n e inline recursive free d at =
+definitions_are_meant r forms locals inputs items none fits n e inline recursive =
     let o = own n (take_front r forms) in
     let s = o.reading.scope in
-    let m = made s (with_inputs inputs (nested items)) o.reading.arrays in (
-      m.phrase,
-      told_phrase (body m.phrase) (declared_effect e) inline recursive (declared_late s e) o.word (read_for (with_inputs inputs (nested items)) o.reading) d at,
-      means_by (words_in s) (words_behind s.table (latest_first [] forms)) m.arrays m.phrase inputs items (λ name. ap word_found ((names_are_found r forms name none).1 n)) refl (meant_in s locals inputs items o.reading.arrays fits free),
-    )
+    definition_meant (take_front r forms) n e (with_inputs inputs (nested items)) inline recursive (meant (words_behind s.table (latest_first [] forms)) inputs items) (
+    meant_in s inputs items o.reading.arrays (items_closing locals items fits)
+    ∙ meant_behind s (λ name. found_at s.table name (latest_first [] forms)) inputs items (λ name. (names_are_found r forms name none).1 n))
+
+constants_are_meant : (r : Reading) (forms : List Flat) → (take_front r forms).first ≡ None → ConstantsAreMeant (take_front r forms) (latest_first [] forms)
+constants_are_meant r forms none n items fits =
+    let o = own n (take_front r forms) in
+    let s = o.reading.scope in
+    definition_meant (take_front r forms) n (given (plain_effect [] (codes "value" ∷ []))) (more (first_node (nested items)) nothing) false false (meant (words_behind s.table (latest_first [] forms)) [] items) (
+    sym (ap (λ (ns : Nodes). let m = made s ns o.reading.arrays in phrase_signs (array_signs m.arrays) m.phrase) (literal_sole items fits))
+    ∙ meant_in s [] items o.reading.arrays (literal_closing items fits)
+    ∙ meant_behind s (λ name. found_at s.table name (latest_first [] forms)) [] items (λ name. (names_are_found r forms name none).1 n))
+
+makers_are_meant : (r : Reading) (forms : List Flat) → (take_front r forms).first ≡ None → MakersAreMeant (take_front r forms) (latest_first [] forms)
+makers_are_meant r forms none n c =
+    let o = own n (take_front r forms) in
+    let ws = words_behind o.reading.scope.table (latest_first [] forms) in
+    definition_meant (take_front r forms) n (makes c) (more (n_name c n.place) (more (n_full (codes "kernel") (codes "boa") n.place) nothing)) false false (one (word (ws.named c.text)) n.place ∷ one (word ws.making) n.place ∷ [])
+    (ap (λ (w : ℕ). one (word w) n.place ∷ one (word ws.making) n.place ∷ []) (ap word_found ((names_are_found r forms c.text none).1 n)))
 
 methods_are_meant : (r : Reading) (forms : List Flat) (locals : Option ℕ) (items : List Element) → (take_front r forms).first ≡ None → AreItems locals items → MethodsAreMeant (take_front r forms) (latest_first [] forms) items
-methods_are_meant r forms locals items none fits c g free d at =
+methods_are_meant r forms locals items none fits c g d at =
     let q = take_front r forms in
     let s = q.scope in
     let a = (added [] g (refused (search_faults s (c ∷ g ∷ [])) q)).reading in
     let m = made s (nested items) q.arrays in (
       m.phrase,
       told_phrase (body m.phrase) no_effect false false (method_of (ref s c) (ref s g)) (length q.words) (read_for (nested items) a) d at,
-      means_by (words_in s) (words_behind s.table (latest_first [] forms)) m.arrays m.phrase [] items (λ name. ap word_found (names_are_found r forms name none).0) refl (meant_in s locals [] items q.arrays fits free),
+      meant_in s [] items q.arrays (items_closing locals items fits) ∙ meant_behind s (λ name. found_at s.table name (latest_first [] forms)) [] items (λ name. (names_are_found r forms name none).0),
     )
 
 top_items_are_meant : (r : Reading) (forms : List Flat) (locals : Option ℕ) (items : List Element) → (take_front r forms).first ≡ None → AreItems locals items → TopItemsAreMeant (take_front r forms) (latest_first [] forms) items
-top_items_are_meant r forms locals items none fits free =
+top_items_are_meant r forms locals items none fits =
     let q = take_front r forms in
     let s = q.scope in
     let m = made s (nested items) q.arrays in (
       m.phrase,
       refl,
-      means_by (words_in s) (words_behind s.table (latest_first [] forms)) m.arrays m.phrase [] items (λ name. ap word_found (names_are_found r forms name none).0) refl (meant_in s locals [] items q.arrays fits free),
+      meant_in s [] items q.arrays (items_closing locals items fits) ∙ meant_behind s (λ name. found_at s.table name (latest_first [] forms)) [] items (λ name. (names_are_found r forms name none).0),
     )
 
+mains_are_meant : (r : Reading) (forms : List Flat) → (take_front r forms).first ≡ None → MainsAreMeant (take_front r forms) (latest_first [] forms)
+mains_are_meant r forms none n = ap (λ (w : ℕ). placed (word w) n.place end) (ap word_found (names_are_found r forms n.text none).0)
+
 pub forms_are_meant : FormsAreMeant
-forms_are_meant r forms locals inputs items none fits = (definitions_are_meant r forms locals inputs items none fits, methods_are_meant r forms locals items none fits, top_items_are_meant r forms locals items none fits)
+forms_are_meant r forms locals inputs items none fits = (
+  definitions_are_meant r forms locals inputs items none fits,
+  constants_are_meant r forms none,
+  makers_are_meant r forms none,
+  methods_are_meant r forms locals items none fits,
+  top_items_are_meant r forms locals items none fits,
+  mains_are_meant r forms none,
+)
