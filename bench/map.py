@@ -25,7 +25,7 @@ ROOMS = [
     ("Checking", "fac_abs fac_rows fac_graph fac_locals fac_classes fac_generic fac_check fac_longer"),
     (
         "Image and machine",
-        "fac_texts fac_code fac_bytes fac_machine fac_store fac_show fac_sequences fac_prim fac_vm fac_carry fac_emit fac_expand",
+        "fac_texts fac_code fac_bytes fac_machine fac_store fac_show fac_sequences fac_prim fac_vm fac_carry fac_emit fac_expand fac_standing",
     ),
     ("Tool", "fac_notes fac_session fac_gen fac_command fac_tool fac_program factorc"),
     (

@@ -1,0 +1,6 @@
+pub mod StandingSteps
+pub mod SparedCode
+pub mod StandingRuns
+pub mod StandingViews
+pub mod StandingArrays
+pub mod StayingEffects
