@@ -1,11 +1,12 @@
 -- The explanation of a refusal: its note behind the place, the line with its marks, and a sentence.
-use Rattle.std.specs.Prelude.{◌≡◌, ℕ, List, [], ◌++◌, None, Some, codes, decimal}
+use Rattle.std.specs.Prelude.{◌≡◌, ℕ, List, ◌++◌, None, Some, codes, decimal}
 use Rattle.std.specs.declared.option.Option.{Option}
 use Rattle.fac_token.specs.declared.spotting.Spot.{Spot}
 use Rattle.fac_notes.specs.Notes.{file_name, line_of}
 use Rattle.fac_notes.specs.Visible.{visible}
 use Rattle.fac_notes.specs.declared.report.Report.{Report}
 use Rattle.fac_tool.specs.Answers.{numbered_names}
+use Rattle.fac_explain.specs.Homes.{IsWithHomes, hint}
 use Rattle.fac_explain.specs.Places.{text_in, file_of, IsPlace}
 use Rattle.fac_explain.specs.Pictures.{picture, spelling_at}
 use Rattle.fac_explain.specs.Sentences.{sentence}
@@ -20,16 +21,16 @@ abbrev pub token_text : List ℕ → Option Spot → List ℕ
 token_text text None = []
 token_text text (Some spot) = visible (spelling_at text spot)
 
--- the explanation of a refusal at a place of a text, where the files have these names by their numbers
-abbrev pub explanation : List (List ℕ) → List ℕ → Report → Option Spot → List ℕ
-explanation names text why place =
+-- the explanation of a refusal at a place of a text, where the files have these names by their numbers, and a name that isn't found stands in these vocabularies
+abbrev pub explanation : List (List ℕ) → List ℕ → Report → Option Spot → List (List ℕ) → List ℕ
+explanation names text why place homes =
     (place_text (file_name names (file_of why)) place ++ line_of names why) ++
-    (picture why text place ++ sentence why (token_text text place) ++ codes "\n")
+    (picture why text place ++ (sentence why (token_text text place) ++ hint homes) ++ codes "\n")
 
 -- the explanation of a refusal, by the names and the texts of the files that were checked
 abbrev pub IsExplanation : List (List ℕ) → List (List ℕ) → Report → List ℕ → Type 0
 IsExplanation names texts why out =
-    (place : Option Spot) × IsPlace (text_in texts (file_of why)) why place × (out ≡ explanation (numbered_names names) (text_in texts (file_of why)) why place)
+    (place : Option Spot) × IsPlace (text_in texts (file_of why)) why place × ((homes : List (List ℕ)) × IsWithHomes why homes × (out ≡ explanation (numbered_names names) (text_in texts (file_of why)) why place homes))
 
 abbrev pub nothing : List ℕ
 nothing = codes "nothing to explain\n"

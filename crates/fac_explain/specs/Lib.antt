@@ -1,8 +1,9 @@
 pub mod Places
 pub mod Pictures
 pub mod Sentences
-pub mod Explanations
 pub mod CheckAnswers
+pub mod Homes
+pub mod Explanations
 pub mod Explains
 pub mod Programs
 pub mod inner

@@ -1,11 +1,13 @@
 //! The refusal of texts: what `check` answers on them.
-ghost use Rattle.std.specs.Prelude.{◌≡◌, ◌∷◌, map, codes, string_bytes, IfOk, Some, None};
+ghost use Rattle.std.specs.Prelude.{◌≡◌, ◌≤◌, ◌∷◌, length, map, codes, string_bytes, IfOk};
+ghost use Rattle.std.specs.List.{concat};
+ghost use Rattle.fac_tool.specs.Answer.{limit};
 ghost use Rattle.fac_io.specs.Names.{bytes_of};
 ghost use Rattle.fac_explain.specs.CheckAnswers.{IsCheckedAs};
 ghost use Rattle.fac_explain.specs.inner.GivenTexts.{AreNumbered};
-ghost use Rattle.fac_explain.specs.inner.Steps.{ChecksGiven};
+ghost use Rattle.fac_explain.specs.inner.Steps.{ChecksGiven, IsSettled};
 
-use crate::given::Given;
+use crate::given::{Given, numbered};
 use crate::silent::{Nothing, Nowhere};
 use fac_base::{Bytes, List, Memory, Text};
 use fac_lines::Channels;
@@ -59,4 +61,14 @@ pub fn check_given(alloc: Global, given: &List<(Text, Bytes)>) -> Result<Option<
     let words = words_of(alloc, given.as_slice())?;
     let ended = check_words(alloc, words.as_slice(), given.as_slice());
     refusal_of(ended)
+}
+
+/// The refusal of texts. None where they are accepted.
+pub fn check_texts(alloc: Global, texts: List<Bytes>) -> Result<Option<Report>, Memory>
+    requires { length (concat texts) ≤ limit }
+    ensures { IfOk result (IsCheckedAs texts) }
+{
+    let _count = texts.len();
+    let given = numbered(alloc, texts)?;
+    check_given(alloc, &given)
 }

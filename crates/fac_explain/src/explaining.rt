@@ -4,6 +4,7 @@ ghost use Rattle.fac_notes.specs.Notes.{file_name as name_of_file, line_of};
 ghost use Rattle.fac_tool.specs.Answers.{numbered_names};
 ghost use Rattle.fac_explain.specs.Explanations.{explanation, IsExplanation, IsTold, place_text, token_text};
 
+use crate::homes::{homes_of_refusal, push_hint};
 use crate::pictures::{push_picture, spelling};
 use crate::places::{file_of, place_of, text_of};
 use crate::pushing::{push_number, push_visible, say};
@@ -87,15 +88,16 @@ fn told_token(alloc: Global, text: &[u8], place: &Option<Spot>) -> Result<Bytes,
     }
 }
 
-// The explanation of a refusal at a place of a text, where the files have these names by their numbers.
+// The explanation of a refusal at a place of a text, where the files have these names by their numbers, and a name that isn't found these homes.
 fn explained_at(
     alloc: Global,
     names: &List<Text>,
     text: &[u8],
     report: &Report,
     place: &Option<Spot>,
+    homes: &[Text],
 ) -> Result<Bytes, Memory>
-    ensures { IfOk result (λ out. out ≡ explanation names.now text.now report.now place.now) }
+    ensures { IfOk result (λ out. out ≡ explanation names.now text.now report.now place.now homes.now) }
 {
     let token = told_token(alloc, text, place)?;
     let mut out = Bytes::new(alloc);
@@ -103,6 +105,7 @@ fn explained_at(
     push_note(alloc, &mut out, report, names)?;
     push_picture(alloc, &mut out, report, text, place)?;
     push_sentence(alloc, &mut out, report, token.as_slice())?;
+    push_hint(&mut out, homes)?;
     say(&mut out, "\n")?;
     Ok(out)
 }
@@ -118,8 +121,9 @@ fn explained(
 {
     let text = text_of(given, file_of(report));
     let place = place_of(alloc, text, report)?;
+    let homes = homes_of_refusal(alloc, report)?;
     let names = file_names(alloc, files)?;
-    explained_at(alloc, &names, text, report, &place)
+    explained_at(alloc, &names, text, report, &place, homes.as_slice())
 }
 
 /// What is written where files have this refusal, or none.

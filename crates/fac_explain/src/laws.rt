@@ -18,4 +18,5 @@ pub fn one_explanation()
 {
     one_answer();
     one_list_of_spots();
+    one_refusal();
 }

@@ -9,6 +9,7 @@ mod ended;
 mod explain;
 mod explaining;
 mod given;
+mod homes;
 mod laws;
 mod loading;
 mod pictures;

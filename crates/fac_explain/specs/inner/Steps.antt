@@ -1,5 +1,5 @@
 -- Inner contracts: the steps of the call.
-use Rattle.std.specs.Prelude.{◌≡◌, ◌≤◌, ◌<◌, ◌⊎◌, ◌+◌, ℕ, List, [], ◌∷◌, ◌++◌, length, None, Some, Result, Ok, Err, ⊤, IfSome, IsSomeAnd}
+use Rattle.std.specs.Prelude.{◌≡◌, ◌≤◌, ◌<◌, ◌⊎◌, ◌+◌, ℕ, Bool, true, false, List, [], ◌∷◌, ◌++◌, length, None, Some, Result, Ok, Err, ⊤, IfSome, IsSomeAnd}
 use Rattle.std.specs.declared.option.Option.{Option}
 use Rattle.fac_io.specs.Names.{Held}
 use Rattle.fac_io.specs.Faults.{Rose}
@@ -60,3 +60,8 @@ pub record WritesFront (text : List ℕ) (out : SinkSeen) (ended : Ended) : Type
 
 abbrev pub Writes : List ℕ → Option Report → SinkSeen → Ended → Type 0
 Writes text refusal out ended = WritesWhole text refusal out ended ⊎ WritesFront text out ended
+
+-- whether `check` accepts texts
+abbrev pub AcceptsTexts : List (List ℕ) → Bool → Type 0
+AcceptsTexts texts true = IsCheckedAs texts None
+AcceptsTexts texts false = (why : Report) × IsCheckedAs texts (Some why)
