@@ -49,7 +49,7 @@ same_resolved : (count : ℕ) (r : Result Program NameFault) (input : List ℕ) 
 same_resolved count (Err fault) input = refl
 same_resolved count (Ok P) input = same_verdict count P (verdict P 0) input
 
-same_refusal : (sources : Sources) (input : List ℕ) → (answer_on checking.answer sources input).refusal ≡ (answer_on checking.answer sources []).refusal
+pub same_refusal : (sources : Sources) (input : List ℕ) → (answer_on checking.answer sources input).refusal ≡ (answer_on checking.answer sources []).refusal
 same_refusal (no_tokens_in file at why) input = refl
 same_refusal (no_tree_in file at why) input = refl
 same_refusal (trees files) input = same_resolved (own_definitions files) (resolved files) input
@@ -81,7 +81,7 @@ begin_so (x ∷ front) text behind (first ∷ texts) e =
     let other : length (x ++ concat front) ≡ length x + length (concat front) = length-append x (concat front) in
     let one : length first ≡ length x = ap length same in omega (arith, more, long, other, one)
 
-same_texts : (texts others : List (List ℕ)) → map Some texts ≡ map Some others → texts ≡ others
+pub same_texts : (texts others : List (List ℕ)) → map Some texts ≡ map Some others → texts ≡ others
 same_texts [] [] e = refl
 same_texts [] (x ∷ others) e = absurd (cc)
 same_texts (x ∷ texts) [] e = absurd (cc)

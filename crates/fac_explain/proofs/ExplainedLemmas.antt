@@ -14,6 +14,8 @@ use Rattle.fac_source.specs.declared.refusal.NameKind.TheVariants as kind
 use Rattle.fac_notes.specs.declared.report.Report.{Report}
 use Rattle.fac_notes.specs.declared.report.Report.TheVariants as report
 use Rattle.fac_notes.specs.Notes.{line_of, file_name}
+use Rattle.fac_notes.specs.Sources.{Source}
+use Rattle.fac_prelude.specs.PreludeText.{prelude_text}
 use Rattle.fac_tool.specs.Answers.{numbered_names}
 use Rattle.fac_tool.specs.Sources.{OneSource}
 use Rattle.fac_tool.specs.SeenObjects.{SinkSeen}
@@ -124,5 +126,5 @@ one_told one list single names texts (Some why) out other is has =
 
 pub one_refused : OneSource → OneRefusal
 one_refused one texts refusal other is has =
-    let same = one 0 _ is.sources has.sources is.are_read has.are_read in
-    is.is ∙ ap (λ (sources : List _). (check_answer sources).refusal) same ∙ sym has.is
+    let same = one 0 (prelude_text ∷ texts) is.sources has.sources is.are_read has.are_read in
+    is.is ∙ ap (λ (sources : List Source). (check_answer sources).refusal) same ∙ sym has.is

@@ -41,10 +41,15 @@ fn check_words(alloc: Global, words: &[String], given: &[(Text, Bytes)]) -> Ende
 fn refusal_of(ended: Ended) -> Result<Option<Report>, Memory>
     ensures { IfOk result (λ refusal. (refusal ≡ ended.refusal) × IsSettled ended) }
 {
-    match ended.refusal {
+    let Ended {
+        status,
+        refusal,
+        ..
+    } = ended;
+    match refusal {
         Some(report) => Ok(Some(report)),
         None => {
-            if ended.status == SUCCESS {
+            if status == SUCCESS {
                 Ok(None)
             } else {
                 Err(Memory)

@@ -21,5 +21,5 @@ mod silent;
 mod telling;
 
 pub use explain::explain_top;
-pub use laws::{one_explanation, one_refusal};
+pub use laws::{explanation_is_of_check, one_explanation, one_refusal};
 pub use program::program_on_streams;
