@@ -4,7 +4,7 @@ use Rattle.fac_base.specs.declared.limits.TheConstants.{TICKS}
 use Rattle.fac_lang.specs.LongerPrograms.{IsLonger}
 use Rattle.fac_source.specs.declared.tree.Form.{Form}
 use Rattle.fac_parse.specs.Trees.{IsWellFormed}
-use Rattle.fac_names.specs.KnownPrograms.{IsKnown}
+use Rattle.fac_known.specs.KnownPrograms.{IsKnown}
 use Rattle.fac_notes.specs.Sources.{Source, tree}
 use Rattle.fac_session.specs.Sessions.{Session, session_of}
 use Rattle.fac_session.specs.SessionLines.{Said, more, defined, ran, refused, failed, spent, Behind, behind_waiting, with_waiting, line}

@@ -1,0 +1,5 @@
+pub mod Growing
+pub mod Staying
+pub mod LongerPrograms
+pub mod GoingOn
+pub mod KnownBehind

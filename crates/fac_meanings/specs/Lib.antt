@@ -1,0 +1,4 @@
+pub mod SearchOrder
+pub mod Signs
+pub mod Meanings
+pub mod Standing
