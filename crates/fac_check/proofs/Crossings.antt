@@ -53,7 +53,7 @@ closed_sync : IsSync Closed.the_row
 closed_sync = search (sendable, lists.the_sync, program_field, template_sync) depth 20
 
 row_sync : IsSync RowEffect.the_row
-row_sync = search (sendable, effect_sync, effect_field) depth 20
+row_sync = search (sendable, effect_sync) depth 20
 
 rows_sync : IsSync RowWords.the_row
 rows_sync = search (sendable, lists.the_sync, boxes.the_sync, row_sync) depth 20

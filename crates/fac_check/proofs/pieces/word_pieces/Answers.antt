@@ -1,4 +1,4 @@
-use Rattle.std.proofs.Common.{◌≡◌, ◌<◌, ◌+◌, ◌∙◌, List, length, refl, sym, subst, ap, arith}
+use Rattle.std.proofs.Common.{◌<◌, ◌+◌, ◌∙◌, List, length, refl, sym, subst, ap, arith}
 use Rattle.std.proofs.lemmas.List.{length_push}
 use Rattle.fac_abs.specs.InTurn.{FitsInTurn}
 use Rattle.fac_abs.proofs.InTurnLemmas.{fits_push}
@@ -13,11 +13,10 @@ loop-number-preserved c =
     let before = c.loop-number.pieces.items in
     let so = c.loop-number.invariant in
     let below : c.loop-number.number < length closed.program.words = omega (arith, c.loop-number-test.true, c.len-number-end.ensures) in
-    let ready = record { stands = c.requires.stands; entries = c.requires.rows; flags = c.requires.undeclared; word = below } in
     record {
       each =
           subst (λ (ps : List WordPiece). FitsInTurn (IsWordPiece closed) 0 ps) (sym c.in_ok-push.ensures.items)
-          (fits_push (IsWordPiece closed) before 0 c.loop-number.number _ so.each (omega (arith, so.count)) (record { same = refl; number_is = refl; ready = ready }));
+          (fits_push (IsWordPiece closed) before 0 c.loop-number.number _ so.each (omega (arith, so.count)) (record { same = refl; number_is = refl; ready = record { stands = c.requires.stands; entries = c.requires.rows; flags = c.requires.undeclared; word = below } }));
       count = ap length c.in_ok-push.ensures.items ∙ length_push before _ ∙ ap (λ n. n + 1) so.count;
     }
 
