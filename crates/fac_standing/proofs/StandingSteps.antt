@@ -417,4 +417,4 @@ module _ (R : Program) (M : Image) where
     steps_fine (suc k) s n e h f is = stepped_fine (steps M k) (steps_fine k) (step M s n) e (next_fine_job s n s.job h f) is
 
     pub ends_fine : (s : Machine) (n : ℕ) (e : End) → Fine s → FineJob s.job → Ends M s n e → Fine (end_machine e)
-    ends_fine s n e h f ends = steps_fine ends.count s n e h f ends.there
+    ends_fine s n e h f way = steps_fine way.count s n e h f way.there

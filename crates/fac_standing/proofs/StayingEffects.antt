@@ -38,7 +38,7 @@ use Rattle.fac_abs.specs.declared.rule.Rule.{Rule}
 use Rattle.fac_abs.specs.declared.rule.Rule.TheVariants.{Underflow, NotKnown, Branches, Rows}
 use Rattle.fac_rows.specs.RowBinding.{Binding, Tied, tied, untied, bound_to, row_binding, tied_if, tie_bound, tie_free, tie_row, tie, stack_or_dead, start_row, leaving_on, row_bound, row_result, inputs_known}
 use Rattle.fac_check.specs.CallableEffects.{forgotten, forgotten_item, no_word, least_height, most_inputs, callable_height}
-use Rattle.fac_check.specs.Flow.{Walked, found, refused, and_then, living, Doing, breaks, gives, names_local, expands, walks, forks, again, uses, Walk, counted, inside, called, join, marks_back, tied_on, started, phrase_rule, unless_broken, walk_phrase, walk_mark, walk_from, walk_inputs, walk_use, first_rule, use_rule, walk_on, walk, needing, by_height, callable_or, mark_at, marks_moved, mark_made, procedure_doing, prim_doing, array_doing, known_word, row_doing, makes_by, core_doing, row_or_phrase, inline_doing, body_doing, sort_doing, word_doing, generic_doing, next_doing, lit_doing, doing, most_nested, most_walked, most_steps, walked}
+use Rattle.fac_check.specs.Flow.{Walked, found, refused, and_then, living, Doing, breaks, gives, names_local, expands, walks, forks, again, uses, Walk, counted, inside, called, join, marks_on, marks_back, tied_on, started, phrase_rule, unless_broken, walk_phrase, walk_mark, walk_from, walk_inputs, walk_use, first_rule, use_rule, walk_on, walk, needing, by_height, callable_or, mark_at, marks_moved, mark_made, procedure_doing, prim_doing, array_doing, known_word, row_doing, makes_by, core_doing, row_or_phrase, inline_doing, body_doing, sort_doing, word_doing, generic_doing, next_doing, lit_doing, doing, most_nested, most_walked, most_steps, walked}
 use Rattle.fac_store.specs.MachineValues.{MCallable, m_lit, m_cur, m_com}
 use Rattle.fac_carry.specs.MachineView.{template_phrases, callable_view, kept_view}
 use Rattle.fac_emit.proofs.NamedArrays.{NamesArrays, NamesArray, SortNames, word_names_arrays, literal_names_arrays}
@@ -68,9 +68,9 @@ counted_same : {A : Type 0} (C : A → Type 0) (p : Place) (n : ℕ) (go gone : 
 counted_same C p zero go gone h = (refl, tt)
 counted_same C p (suc n) go gone h = h n
 
-unless_same : {C : AbstractStack → Type 0} (r : Option Rule) (p : Place) (x y : Walked AbstractStack) → Same C x y → Same C (unless_broken r p x) (unless_broken r p y)
-unless_same None p x y h = h
-unless_same (Some r) p x y h = (refl, tt)
+unless_same : (C : AbstractStack → Type 0) (r : Option Rule) (p : Place) (x y : Walked AbstractStack) → Same C x y → Same C (unless_broken r p x) (unless_broken r p y)
+unless_same C None p x y h = h
+unless_same C (Some r) p x y h = (refl, tt)
 
 inside_same : {A : Type 0} (C : A → Type 0) (m : Mark) (p : Place) (d : ℕ) (go gone : ℕ → Walked A) → ((k : ℕ) → Same C (go k) (gone k)) → Same C (inside m p d go) (inside m p d gone)
 inside_same C any p d go gone h = (refl, tt)
@@ -184,14 +184,25 @@ module _ (P : Program) where
       by true = h.0
       by false = tt
 
-  join_good : (A B : AbstractStack) (p : Place) (n : ℕ) → GoodStack A → GoodStack B → Found GoodStack (join A B p n)
-  join_good dead B p n h k = k
-  join_good (on b ms) dead p n h k = h
-  join_good (on b ms) (on c ns) p n h k = by (base_eq b c && nat_eq (length ms) (length ns))
+  abbrev GoodIf : Option AbstractStack → Type 0
+  GoodIf None = Unit {0}
+  GoodIf (Some A) = GoodStack A
+
+  joined_good : (A B : AbstractStack) → GoodStack A → GoodStack B → GoodIf (joined A B)
+  joined_good dead B h k = k
+  joined_good (on b ms) dead h k = h
+  joined_good (on b ms) (on c ns) h k = by (base_eq b c && nat_eq (length ms) (length ns))
     where
-      by : (x : Bool) → Found GoodStack (elim (elim x [ true ↦ Some (on b (join_marks ms ns)) | false ↦ None ]) [ Some C ↦ found C n | None ↦ refused (Branches (length ms) (length ns)) p ])
+      by : (x : Bool) → GoodIf (elim x [ true ↦ Some (on b (join_marks ms ns)) | false ↦ None ])
       by true = join_marks_good ms ns h
       by false = tt
+
+  found_good : (o : Option AbstractStack) (r : Rule) (p : Place) (n : ℕ) → GoodIf o → Found GoodStack (elim o [ Some C ↦ found C n | None ↦ refused r p ])
+  found_good None r p n h = tt
+  found_good (Some C) r p n h = h
+
+  join_good : (A B : AbstractStack) (p : Place) (n : ℕ) → GoodStack A → GoodStack B → Found GoodStack (join A B p n)
+  join_good A B p n h k = found_good (joined A B) (Branches (length (marks_on A)) (length (marks_on B))) p n (joined_good A B h k)
 
   back_good : (back : List Mark) (A : AbstractStack) → GoodMarks back → GoodStack A → GoodStack (marks_back back A)
   back_good back dead h k = tt
@@ -277,10 +288,6 @@ module _ (P : Program) where
     holes_item_good ms (known n) h k = k
 
   -- Rows.
-
-  abbrev GoodIf : Option AbstractStack → Type 0
-  GoodIf None = Unit {0}
-  GoodIf (Some A) = GoodStack A
 
   bound_good : (r : Row) (bs : Binding) → GoodBinding bs → GoodIf (bound_to r bs)
   bound_good r [] h = tt
@@ -399,12 +406,12 @@ module _ (P : Program) where
     on_same (gives A) p d next t n h g = counted_same GoodStack p n _ _ (λ k. rest_same A k d next t h g)
     on_same (names_local x m b ms) p d next t n h g = counted_same GoodStack p n _ _ (λ k. stays next d (put_local x (known m) t) b ms k (put_good x m t h.0 g) h.1)
     on_same (expands w u b ms) p d next t n h g =
-        unless_same (phrase_rule d) p _ _ (counted_same GoodStack p n _ _ (λ k. and_then_same GoodStack GoodStack _ _ _ _ (phrase_same (first_of_word w) u p d b ms k h.0 h.1) (λ A k' g'. rest_same A k' d next t g' g)))
+        unless_same GoodStack (phrase_rule d) p _ _ (counted_same GoodStack p n _ _ (λ k. and_then_same GoodStack GoodStack _ _ _ _ (phrase_same (first_of_word w) u p d b ms k h.0 h.1) (λ A k' g'. rest_same A k' d next t g' g)))
     on_same (walks m b ms back) p d next t n h g =
-        unless_same (first_rule None m d b ms) p _ _
+        unless_same GoodStack (first_rule None m d b ms) p _ _
         (counted_same GoodStack p n _ _ (λ k. and_then_same GoodStack GoodStack _ _ _ _ (mark_same m p d b ms k h.0 h.1) (λ A k' g'. rest_same (marks_back back A) k' d next t (back_good back A h.2 g') g)))
     on_same (forks l r b ms) p d next t n h g =
-        unless_same (first_rule None l d b ms) p _ _
+        unless_same GoodStack (first_rule None l d b ms) p _ _
         (counted_same GoodStack p n _ _
         (λ k. and_then_same GoodStack GoodStack _ _ _ _ (mark_same l p d b ms k h.0 h.2)
         (λ A k' g1. and_then_same GoodStack GoodStack _ _ _ _ (mark_same r p d b ms k' h.1 h.2)
@@ -412,7 +419,7 @@ module _ (P : Program) where
     on_same (again w b ms) p d next t n h g =
         counted_same GoodStack p n _ _ (λ k. and_then_same GoodStack GoodStack _ _ _ _ (stays next d (then (word w) p end) b ms k (h.0, tt) h.1) (λ A k' g'. rest_same A k' d next t g' g))
     on_same (uses e is b ms) p d next t n h g =
-        unless_same (use_rule None (row_binding (outer_in e) (on b ms)) (effect_inputs e) is d) p _ _
+        unless_same GoodStack (use_rule None (row_binding (outer_in e) (on b ms)) (effect_inputs e) is d) p _ _
         (counted_same GoodStack p n _ _ (λ k. and_then_same GoodStack GoodStack _ _ _ _ (use_same e is p d b ms k h.0 h.1) (λ A k' g'. rest_same A k' d next t g' g)))
 
   -- What items do.
