@@ -78,7 +78,7 @@ front_built : (forms : List Flat) (r : Reading) → AreForms forms → BuiltUp r
 front_built forms r h b = flats_built forms (scoped begun r) h (begun_built r b)
 
 -- what is read behind whole files, and behind the first forms of the next one
-fronts_built : (files later : List (List Flat)) (forms rest : List Flat) (r : Reading) → AreWellFormed (files ++ (forms ++ rest) ∷ later) → BuiltUp r → BuiltUp (take_front (fold take_front r files) forms)
+pub fronts_built : (files later : List (List Flat)) (forms rest : List Flat) (r : Reading) → AreWellFormed (files ++ (forms ++ rest) ∷ later) → BuiltUp r → BuiltUp (take_front (fold take_front r files) forms)
 fronts_built [] later forms rest r h b = front_built forms r (forms_before forms rest h.0) b
 fronts_built (file ∷ files) later forms rest r h b = fronts_built files later forms rest (take_front r file) h.1 (front_built file r (each_form file h.0) b)
 

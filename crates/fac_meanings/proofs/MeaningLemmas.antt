@@ -37,7 +37,7 @@ use Rattle.fac_known.specs.Laws.{Longer}
 use Rattle.fac_known.proofs.Growing.{and_then, elements_longer, phrase_longer, read_for, same}
 use Rattle.fac_meanings.specs.SearchOrder.{found_at, latest_first}
 use Rattle.fac_meanings.specs.Signs.{Sign, array_signs, closes, elements_signs, filled, item_signs, one, opens, phrase_signs, value, within}
-use Rattle.fac_meanings.specs.Meanings.{ConstantsAreMeant, DefinitionsAreMeant, FormsAreMeant, HasPhrase, IsWritten, MainsAreMeant, MakersAreMeant, MethodsAreMeant, TopItemsAreMeant, bindings_signs, cases, holes_behind, meanings, meant, named_item, values, word_found, words_behind, words_in, words_of}
+use Rattle.fac_meanings.specs.Meanings.{ConstantsAreMeant, DefinitionsAreMeant, FormsAreMeant, HasPhrase, IsWritten, MainsAreMeant, MakersAreMeant, MethodsAreMeant, TopItemsAreMeant, bindings_signs, cases, holes_behind, maker_signs, meanings, meant, named_item, values, word_found, words_behind, words_in, words_of}
 use Rattle.fac_meanings.proofs.FoundNames.{names_are_found}
 use Rattle.fac_meanings.proofs.SignLemmas.{array_at}
 
@@ -394,15 +394,15 @@ definition_meant r n e ns inline recursive signs is d at =
     let m = made o.reading.scope ns o.reading.arrays in
     (m.phrase, told_phrase (body m.phrase) (declared_effect e) inline recursive (declared_late o.reading.scope e) o.word (read_for ns o.reading) d at, is)
 
-definitions_are_meant : (r : Reading) (forms : List Flat) (locals : Option ℕ) (inputs : List Tok) (items : List Element) → (take_front r forms).first ≡ None → AreItems locals items → DefinitionsAreMeant (take_front r forms) (latest_first [] forms) inputs items
-definitions_are_meant r forms locals inputs items none fits n e inline recursive =
+pub definitions_are_meant : (r : Reading) (forms : List Flat) (inputs : List Tok) (items : List Element) → (take_front r forms).first ≡ None → AreClosing [] items → DefinitionsAreMeant (take_front r forms) (latest_first [] forms) inputs items
+definitions_are_meant r forms inputs items none closing n e inline recursive =
     let o = own n (take_front r forms) in
     let s = o.reading.scope in
     let m = made s (with_inputs inputs (nested items)) o.reading.arrays in
     definition_meant (take_front r forms) n e (with_inputs inputs (nested items)) inline recursive (meant (words_behind s.table (latest_first [] forms)) inputs items) (
-    written_behind s (λ name. found_at s.table name (latest_first [] forms)) inputs items m.arrays m.phrase (λ name. (names_are_found r forms name none).1 n) (meant_in s inputs items o.reading.arrays (items_closing locals items fits)))
+    written_behind s (λ name. found_at s.table name (latest_first [] forms)) inputs items m.arrays m.phrase (λ name. (names_are_found r forms name none).1 n) (meant_in s inputs items o.reading.arrays closing))
 
-constants_are_meant : (r : Reading) (forms : List Flat) → (take_front r forms).first ≡ None → ConstantsAreMeant (take_front r forms) (latest_first [] forms)
+pub constants_are_meant : (r : Reading) (forms : List Flat) → (take_front r forms).first ≡ None → ConstantsAreMeant (take_front r forms) (latest_first [] forms)
 constants_are_meant r forms none n items fits =
     let o = own n (take_front r forms) in
     let s = o.reading.scope in
@@ -412,43 +412,44 @@ constants_are_meant r forms none n items fits =
     subst (λ (ns : Nodes). let x = made s ns o.reading.arrays in IsWritten x.arrays x.phrase signs) (literal_sole items fits)
     (written_behind s (λ name. found_at s.table name (latest_first [] forms)) [] items m.arrays m.phrase (λ name. (names_are_found r forms name none).1 n) (meant_in s [] items o.reading.arrays (literal_closing items fits))))
 
-makers_are_meant : (r : Reading) (forms : List Flat) → (take_front r forms).first ≡ None → MakersAreMeant (take_front r forms) (latest_first [] forms)
+pub makers_are_meant : (r : Reading) (forms : List Flat) → (take_front r forms).first ≡ None → MakersAreMeant (take_front r forms) (latest_first [] forms)
 makers_are_meant r forms none n c =
     let o = own n (take_front r forms) in
     let ws = words_behind o.reading.scope.table (latest_first [] forms) in
-    definition_meant (take_front r forms) n (makes c) (more (n_name c n.place) (more (n_full (codes "kernel") (codes "boa") n.place) nothing)) false false (one (word (ws.named c.text)) n.place ∷ one (word ws.making) n.place ∷ [])
+    definition_meant (take_front r forms) n (makes c) (more (n_name c n.place) (more (n_full (codes "kernel") (codes "boa") n.place) nothing)) false false (maker_signs ws n c)
     (λ later. ap (λ (w : ℕ). one (word w) n.place ∷ one (word ws.making) n.place ∷ []) (ap word_found ((names_are_found r forms c.text none).1 n)))
 
-methods_are_meant : (r : Reading) (forms : List Flat) (locals : Option ℕ) (items : List Element) → (take_front r forms).first ≡ None → AreItems locals items → MethodsAreMeant (take_front r forms) (latest_first [] forms) items
-methods_are_meant r forms locals items none fits c g d at =
+pub methods_are_meant : (r : Reading) (forms : List Flat) (items : List Element) → (take_front r forms).first ≡ None → AreClosing [] items → MethodsAreMeant (take_front r forms) (latest_first [] forms) items
+methods_are_meant r forms items none closing c g d at =
     let q = take_front r forms in
     let s = q.scope in
     let a = (added [] g (refused (search_faults s (c ∷ g ∷ [])) q)).reading in
     let m = made s (nested items) q.arrays in (
       m.phrase,
       told_phrase (body m.phrase) no_effect false false (method_of (ref s c) (ref s g)) (length q.words) (read_for (nested items) a) d at,
-      written_behind s (λ name. found_at s.table name (latest_first [] forms)) [] items m.arrays m.phrase (λ name. (names_are_found r forms name none).0) (meant_in s [] items q.arrays (items_closing locals items fits)),
+      written_behind s (λ name. found_at s.table name (latest_first [] forms)) [] items m.arrays m.phrase (λ name. (names_are_found r forms name none).0) (meant_in s [] items q.arrays closing),
     )
 
-top_items_are_meant : (r : Reading) (forms : List Flat) (locals : Option ℕ) (items : List Element) → (take_front r forms).first ≡ None → AreItems locals items → TopItemsAreMeant (take_front r forms) (latest_first [] forms) items
-top_items_are_meant r forms locals items none fits =
+top_items_are_meant : (r : Reading) (forms : List Flat) (items : List Element) → (take_front r forms).first ≡ None → AreClosing [] items → TopItemsAreMeant (take_front r forms) (latest_first [] forms) items
+top_items_are_meant r forms items none closing =
     let q = take_front r forms in
     let s = q.scope in
     let m = made s (nested items) q.arrays in (
       m.phrase,
       refl,
-      written_behind s (λ name. found_at s.table name (latest_first [] forms)) [] items m.arrays m.phrase (λ name. (names_are_found r forms name none).0) (meant_in s [] items q.arrays (items_closing locals items fits)),
+      written_behind s (λ name. found_at s.table name (latest_first [] forms)) [] items m.arrays m.phrase (λ name. (names_are_found r forms name none).0) (meant_in s [] items q.arrays closing),
     )
 
 mains_are_meant : (r : Reading) (forms : List Flat) → (take_front r forms).first ≡ None → MainsAreMeant (take_front r forms) (latest_first [] forms)
 mains_are_meant r forms none n = ap (λ (w : ℕ). placed (word w) n.place end) (ap word_found (names_are_found r forms n.text none).0)
 
 pub forms_are_meant : FormsAreMeant
-forms_are_meant r forms locals inputs items none fits = (
-  definitions_are_meant r forms locals inputs items none fits,
-  constants_are_meant r forms none,
-  makers_are_meant r forms none,
-  methods_are_meant r forms locals items none fits,
-  top_items_are_meant r forms locals items none fits,
-  mains_are_meant r forms none,
-)
+forms_are_meant r forms locals inputs items none fits =
+    let closing = items_closing locals items fits in (
+      definitions_are_meant r forms inputs items none closing,
+      constants_are_meant r forms none,
+      makers_are_meant r forms none,
+      methods_are_meant r forms items none closing,
+      top_items_are_meant r forms items none closing,
+      mains_are_meant r forms none,
+    )

@@ -150,6 +150,10 @@ HasPhrase r w signs = (d : Draft) → slice_get r.words w ≡ Some d → (phrase
 abbrev pub NextMeans : Reading → List Form → Tok → Form → (Words → List Sign) → Type 0
 NextMeans r before n form signs = let o = own n r in HasPhrase (take (read_form form) r) o.word (signs (words_behind o.reading.scope.table before))
 
+-- a maker of tuples, which names its class and `boa`
+abbrev pub maker_signs : Words → Tok → Tok → List Sign
+maker_signs ws n c = one (word (ws.named c.text)) n.place ∷ one (word ws.making) n.place ∷ []
+
 -- a definition, whose inputs are locals where it is one of `::`, and else none
 abbrev pub DefinitionsAreMeant : Reading → List Form → List Tok → List Element → Type 0
 DefinitionsAreMeant r before inputs items =
@@ -159,9 +163,9 @@ DefinitionsAreMeant r before inputs items =
 abbrev pub ConstantsAreMeant : Reading → List Form → Type 0
 ConstantsAreMeant r before = (n : Tok) (items : List Element) → IsLiteral items → NextMeans r before n (f_constant n (first_node (nested items))) (λ ws. meant ws [] items)
 
--- a maker of tuples, which names its class and `boa`
+-- a maker of tuples
 abbrev pub MakersAreMeant : Reading → List Form → Type 0
-MakersAreMeant r before = (n c : Tok) → NextMeans r before n (f_maker n c) (λ ws. one (word (ws.named c.text)) n.place ∷ one (word ws.making) n.place ∷ [])
+MakersAreMeant r before = (n c : Tok) → NextMeans r before n (f_maker n c) (λ ws. maker_signs ws n c)
 
 -- a method, whose word is the next one
 abbrev pub MethodsAreMeant : Reading → List Form → List Element → Type 0
