@@ -1,6 +1,6 @@
 -- What the forms of accepted programs mean.
 use Rattle.std.proofs.Common.{◌≡◌, ℕ, List, [], ◌∷◌, ◌++◌, fold, length, slice_get, Option, Some, None, Result, Ok, Bool, false, refl, ap, sym, ◌∙◌, subst, append_assoc}
-use Rattle.std.specs.Option.{get_or}
+use Rattle.std.specs.Prelude.{get_or}
 use Rattle.std.proofs.lemmas.List.Sums.{fold-append}
 use Rattle.std.proofs.lemmas.Option.{slice_get-get_or}
 use Rattle.fac_lang.specs.Phrases.{Phrase}
