@@ -1,10 +1,12 @@
 -- What is read behind some forms of files is of the program that the files come to.
-use Rattle.std.proofs.Common.{◌≡◌, ◌+◌, ℕ, zero, suc, List, [], ◌∷◌, ◌++◌, map, fold, slice_get, Option, Some, None, Result, Ok, Err, Bool, true, false, refl, ap, sym, ◌∙◌, subst, arith}
+use Rattle.std.proofs.Common.{◌≡◌, ◌+◌, ℕ, zero, suc, List, [], ◌∷◌, ◌++◌, map, fold, length, slice_get, Option, Some, None, Result, Ok, Err, Bool, true, false, refl, ap, sym, ◌∙◌, subst, arith}
 use Rattle.std.specs.Option.{option_map}
+use Rattle.std.proofs.lemmas.List.{length-map}
 use Rattle.std.proofs.lemmas.List.Sums.{fold-append}
 use Rattle.std.proofs.lemmas.Option.{slice_get-map}
 use Rattle.fac_base.specs.Signatures.{Signature}
 use Rattle.fac_lang.specs.Phrases.{Phrase}
+use Rattle.fac_lang.specs.RunningLaws.{append}
 use Rattle.fac_lang.specs.declared.program.ClassDef.{ClassDef}
 use Rattle.fac_lang.specs.declared.program.Program.{Program}
 use Rattle.fac_lang.specs.declared.program.Sort.{Sort}
@@ -18,6 +20,7 @@ use Rattle.fac_parse.specs.Trees.{AreForms, AreWellFormed, IsWellFormed}
 use Rattle.fac_vocab.specs.Scopes.{begun}
 use Rattle.fac_vocab.specs.declared.entry.Entry.{Entry}
 use Rattle.fac_items.specs.Readings.{read_form}
+use Rattle.fac_items.proofs.PhraseLemmas.{append_three}
 use Rattle.fac_endings.specs.ClassTable.{class_at, classes_of, word_at}
 use Rattle.fac_endings.specs.Endings.{first_fault as first_of}
 use Rattle.fac_endings.specs.FinishedWords.{as_method, effect_of_word, finished, finished_by, with_maker}
@@ -125,6 +128,16 @@ word_at_end q w d t at h =
       finished_phrase q.words cs d.word d.late t h,
     )
 
+last_there : (xs : List WordDef) (x : WordDef) → slice_get (xs ++ x ∷ []) (length xs) ≡ Some x
+last_there [] x = refl
+last_there (y ∷ xs) x = last_there xs x
+
+last_word : (q : Reading) → slice_get (program_of false q).words (program_of false q).top ≡ Some (top_word (top_phrase false q))
+last_word q =
+    let ws = map (finished q.words (classes_of q.words q.old_classes q.classes)) q.words in
+    let last = top_word (top_phrase false q) in
+    ap (λ (n : ℕ). slice_get (ws ++ last ∷ []) n) (sym (length-map q.words (finished q.words (classes_of q.words q.old_classes q.classes)))) ∙ last_there ws last
+
 program_kept : (r q : Reading) (o : Option NameFault) (P : Program) → BuiltUp r → ((w : ℕ) (d : Draft) → At w d r → At w d q) → Grows r q → first_fault q ≡ o → program_alone (answer false q o) ≡ Ok P → IsReadOf r P
 program_kept r q (Some f) P b go grows is h = absurd (err_ok f P h)
   where
@@ -138,6 +151,7 @@ program_kept r q None P b go grows is h =
           let spared = told_spared (all_spare w r.scope.table) (λ out. no_body d.word.sort t has (spared_at 0 w r.words r.scope.table d b.counted.spared at (ap (λ (n : ℕ). all_spare n r.scope.table) (let e : w + 0 ≡ w = omega arith in e) ∙ out)).0) in
           word_at_end q w d t (go w d (record { is = at; spared = spared })).is has;
       arrays = grows.arrays;
+      top = (top_phrase false q, last_word q, record { rest = append grows.top.rest q.main; is = ap (λ (t : Phrase). append t q.main) grows.top.is ∙ append_three r.top grows.top.rest q.main });
     })
 
 pub programs_keep : ProgramsKeepPhrases

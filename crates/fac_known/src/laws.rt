@@ -7,7 +7,7 @@ pub fn forms_keep_numbers()
 {}
 
 /// Where files resolve to a program, none of their forms is refused, and each phrase that a word has behind some of the forms is what the word runs in the
-/// program, whose arrays begin with those behind these forms.
+/// program, whose arrays and top-level items begin with those behind these forms.
 pub fn programs_keep_phrases()
     ensures { ProgramsKeepPhrases }
 {}

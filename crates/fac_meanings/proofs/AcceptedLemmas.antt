@@ -4,6 +4,7 @@ use Rattle.std.specs.Prelude.{get_or}
 use Rattle.std.proofs.lemmas.List.Sums.{fold-append}
 use Rattle.std.proofs.lemmas.Option.{slice_get-get_or}
 use Rattle.fac_lang.specs.Phrases.{Phrase}
+use Rattle.fac_lang.specs.RunningLaws.{append}
 use Rattle.fac_lang.specs.declared.program.Lit.{Lit}
 use Rattle.fac_lang.specs.declared.program.Program.{Program}
 use Rattle.fac_lang.specs.declared.program.Sort.TheVariants.{Body as body}
@@ -15,8 +16,9 @@ use Rattle.fac_items.specs.FromElements.{nested}
 use Rattle.fac_items.specs.Items.{ref, search_faults}
 use Rattle.fac_items.specs.Made.{made}
 use Rattle.fac_items.specs.Readings.{read_form, with_inputs}
+use Rattle.fac_items.proofs.PhraseLemmas.{append_three}
 use Rattle.fac_items.specs.Written.{Tok, Nodes, Declared, Form, f_constant, f_define, f_maker, f_method}
-use Rattle.fac_endings.specs.Words.{no_effect}
+use Rattle.fac_endings.specs.Words.{no_effect, top_word}
 use Rattle.fac_endings.specs.declared.draft.Draft.{Draft}
 use Rattle.fac_endings.specs.declared.draft.Late.TheVariants.{Method as method_of}
 use Rattle.fac_names.specs.Forms.{Reading, added, declared_effect, declared_late, draft_of, own, refused, scoped, take, with_told}
@@ -30,11 +32,11 @@ use Rattle.fac_names.proofs.KnownBuilt.{first_built}
 use Rattle.fac_known.specs.Laws.{IsReadOf}
 use Rattle.fac_known.proofs.Growing.{read_for}
 use Rattle.fac_known.proofs.KeptPhrases.{fronts_built, programs_keep}
-use Rattle.fac_meanings.specs.Accepted.{ConstantRuns, DefinitionRuns, MakerRuns, MethodRuns, ProgramsRunTheirForms, RunsPhrase}
+use Rattle.fac_meanings.specs.Accepted.{ConstantRuns, DefinitionRuns, ItemsRun, MakerRuns, MethodRuns, ProgramsRunTheirForms, RunsPhrase}
 use Rattle.fac_meanings.specs.Meanings.{HasPhrase}
 use Rattle.fac_meanings.specs.SearchOrder.{latest_first}
 use Rattle.fac_meanings.specs.Signs.{Sign, array_signs, phrase_signs}
-use Rattle.fac_meanings.proofs.MeaningLemmas.{constants_are_meant, definitions_are_meant, makers_are_meant, methods_are_meant}
+use Rattle.fac_meanings.proofs.MeaningLemmas.{constants_are_meant, definitions_are_meant, makers_are_meant, methods_are_meant, top_items_are_meant}
 
 -- a phrase behind a form is that of the program
 runs : (q : Reading) (P : Program) (w : ℕ) (d : Draft) (signs : List Sign) → IsReadOf q P → slice_get q.words w ≡ Some d → HasPhrase q w signs → RunsPhrase P w signs
@@ -96,6 +98,19 @@ method_runs P r forms form none k c g locals items fits is =
     let there = method_there c g (nested items) x in
     runs (take (f_method c g (nested items)) x) P (length x.words) there.0 _ (subst (λ (f : Form). IsReadOf (take (read_form f) x) P) is k) there.1 (methods_are_meant r forms items none (items_closing locals items fits) c g)
 
+items_run : (P : Program) (r : Reading) (forms : List Flat) (form : Flat) → (take_front r forms).first ≡ None → IsReadOf (take_flat (take_front r forms) form) P → ItemsRun P (take_front r forms) (latest_first [] forms) form
+items_run P r forms form none k locals items fits is =
+    let x = take_front r forms in
+    let here = subst (λ (f : Form). IsReadOf (take (read_form f) x) P) is k in
+    let has = top_items_are_meant r forms items none (items_closing locals items fits) in
+    let last = here.top in
+    record {
+      phrase = has.0;
+      behind = last.2.rest;
+      at = last.1 ∙ ap (λ (t : Phrase). Some (top_word t)) (last.2.is ∙ ap (λ (t : Phrase). append t last.2.rest) has.1 ∙ append_three x.top has.0 last.2.rest);
+      written = ap (λ (arrays : List (List Lit)). phrase_signs (array_signs arrays) has.0) here.arrays.is ∙ has.2 here.arrays.rest;
+    }
+
 pub programs_run : ProgramsRunTheirForms
 unfolding taken
 programs_run P files later forms rest form fits h =
@@ -111,4 +126,5 @@ programs_run P files later forms rest form fits h =
       constant_runs P start forms form before.first b here,
       maker_runs P start forms form before.first b here,
       method_runs P start forms form before.first here,
+      items_run P start forms form before.first here,
     )

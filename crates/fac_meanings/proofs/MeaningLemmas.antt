@@ -430,7 +430,7 @@ methods_are_meant r forms items none closing c g d at =
       written_behind s (λ name. found_at s.table name (latest_first [] forms)) [] items m.arrays m.phrase (λ name. (names_are_found r forms name none).0) (meant_in s [] items q.arrays closing),
     )
 
-top_items_are_meant : (r : Reading) (forms : List Flat) (items : List Element) → (take_front r forms).first ≡ None → AreClosing [] items → TopItemsAreMeant (take_front r forms) (latest_first [] forms) items
+pub top_items_are_meant : (r : Reading) (forms : List Flat) (items : List Element) → (take_front r forms).first ≡ None → AreClosing [] items → TopItemsAreMeant (take_front r forms) (latest_first [] forms) items
 top_items_are_meant r forms items none closing =
     let q = take_front r forms in
     let s = q.scope in

@@ -1,6 +1,7 @@
 -- What the forms of an accepted program mean.
 use Rattle.std.specs.Prelude.{◌≡◌, ℕ, List, [], ◌∷◌, ◌++◌, length, slice_get, Option, Some, Ok, Bool}
 use Rattle.fac_lang.specs.Phrases.{Phrase}
+use Rattle.fac_lang.specs.RunningLaws.{append}
 use Rattle.fac_lang.specs.declared.program.Program.{Program}
 use Rattle.fac_lang.specs.declared.program.WordDef.{WordDef}
 use Rattle.fac_source.specs.declared.tree.Element.{Element}
@@ -8,7 +9,8 @@ use Rattle.fac_source.specs.declared.tree.Form.{Form as Flat}
 use Rattle.fac_parse.specs.Trees.{AreItems, AreWellFormed, IsLiteral}
 use Rattle.fac_items.specs.FromElements.{nested}
 use Rattle.fac_items.specs.Readings.{read_form, with_inputs}
-use Rattle.fac_items.specs.Written.{Tok, Declared, Form, f_constant, f_define, f_maker, f_method}
+use Rattle.fac_items.specs.Written.{Tok, Declared, Form, f_constant, f_define, f_items, f_maker, f_method}
+use Rattle.fac_endings.specs.Words.{top_word}
 use Rattle.fac_names.specs.Forms.{Reading, own}
 use Rattle.fac_names.specs.FromFlat.{first_node, form_of}
 use Rattle.fac_names.specs.Resolution.{resolved}
@@ -24,6 +26,13 @@ pub record RunsPhrase (P : Program) (w : ℕ) (signs : List Sign) : Type 0 where
   pub at : slice_get P.words w ≡ Some def
   pub phrase : Phrase
   pub runs : phrase_in def.sort ≡ Some phrase
+  pub written : phrase_signs (array_signs P.arrays) phrase ≡ signs
+
+-- the items at the top level behind what is read so far are written so
+pub record RunsAtTop (P : Program) (r : Reading) (signs : List Sign) : Type 0 where
+  pub phrase : Phrase
+  pub behind : Phrase
+  pub at : slice_get P.words P.top ≡ Some (top_word (append r.top (append phrase behind)))
   pub written : phrase_signs (array_signs P.arrays) phrase ≡ signs
 
 -- the word of this name, which the next form defines; these are the forms before it, the latest first
@@ -47,11 +56,15 @@ abbrev pub MethodRuns : Program → Reading → List Form → Flat → Type 0
 MethodRuns P r before form =
     (c g : Tok) (locals : Option ℕ) (items : List Element) → AreItems locals items → form_of form ≡ f_method c g (nested items) → RunsPhrase P (length r.words) (meant (words_behind r.scope.table before) [] items)
 
--- Where files resolve to a program, the word of each of their forms runs in it what the form's items mean behind the forms before.
+-- and where it is items at the top level
+abbrev pub ItemsRun : Program → Reading → List Form → Flat → Type 0
+ItemsRun P r before form = (locals : Option ℕ) (items : List Element) → AreItems locals items → form_of form ≡ f_items (nested items) → RunsAtTop P r (meant (words_behind r.scope.table before) [] items)
+
+-- Where files resolve to a program, it runs of each of their forms what the form's items mean behind the forms before.
 abbrev pub ProgramsRunTheirForms : Type 0
 ProgramsRunTheirForms =
     (P : Program) (files later : List (List Flat)) (forms rest : List Flat) (form : Flat) →
     (let all = files ++ (forms ++ form ∷ rest) ∷ later in
     let r = take_front (taken files) forms in
     let before = latest_first [] forms in
-    AreWellFormed all → resolved all ≡ Ok P → DefinitionRuns P r before form × ConstantRuns P r before form × MakerRuns P r before form × MethodRuns P r before form)
+    AreWellFormed all → resolved all ≡ Ok P → DefinitionRuns P r before form × ConstantRuns P r before form × MakerRuns P r before form × MethodRuns P r before form × ItemsRun P r before form)

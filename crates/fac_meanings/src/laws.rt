@@ -36,7 +36,7 @@ pub fn forms_mean_what_is_bound_or_found()
 {}
 
 /// Where files resolve to a program, the word of each of their definitions, constants, makers of tuples and methods runs in it the phrase that the form's
-/// items mean behind the forms before.
+/// items mean behind the forms before, and so does the top-level phrase for items at the top level.
 pub fn programs_run_their_forms()
     ensures { ProgramsRunTheirForms }
 {}
