@@ -12,7 +12,6 @@ use Rattle.fac_lang.specs.declared.program.Program.{Program}
 use Rattle.fac_lang.specs.declared.program.Sort.{Sort}
 use Rattle.fac_lang.specs.declared.program.Sort.TheVariants.{Body as body, Itself as itself}
 use Rattle.fac_lang.specs.declared.program.WordDef.{WordDef}
-use Rattle.fac_source.specs.Refusals.{sooner}
 use Rattle.fac_source.specs.declared.refusal.NameFault.{NameFault}
 use Rattle.fac_source.specs.declared.tok.Ref.{Ref}
 use Rattle.fac_source.specs.declared.tree.Form.{Form as Flat}
@@ -22,7 +21,6 @@ use Rattle.fac_vocab.specs.declared.entry.Entry.{Entry}
 use Rattle.fac_items.specs.Readings.{read_form}
 use Rattle.fac_items.proofs.PhraseLemmas.{append_three}
 use Rattle.fac_endings.specs.ClassTable.{class_at, classes_of, word_at}
-use Rattle.fac_endings.specs.Endings.{first_fault as first_of}
 use Rattle.fac_endings.specs.FinishedWords.{as_method, effect_of_word, finished, finished_by, with_maker}
 use Rattle.fac_endings.specs.LastRefusals.{last_faults}
 use Rattle.fac_endings.specs.Words.{top_word}
@@ -30,10 +28,10 @@ use Rattle.fac_endings.specs.declared.draft.Draft.{Draft}
 use Rattle.fac_endings.specs.declared.draft.Late.{Late}
 use Rattle.fac_endings.specs.declared.draft.Late.TheVariants.{Settled as settled, Deferred as deferred, Maker as maker, Method as method_of}
 use Rattle.fac_source.specs.Toks.{number}
-use Rattle.fac_names.specs.Forms.{Reading, scoped, take, take_file}
+use Rattle.fac_names.specs.Forms.{Reading, scoped}
 use Rattle.fac_names.specs.FromFlat.{form_of}
 use Rattle.fac_names.specs.Resolution.{first_reading, program_alone, resolved}
-use Rattle.fac_names.specs.Resolved.{Known, answer, first_fault, program_of, top_phrase}
+use Rattle.fac_names.specs.Resolved.{answer, first_fault, program_of, top_phrase}
 use Rattle.fac_names.specs.TakenForms.{take_flat, take_front, taken}
 use Rattle.fac_names.proofs.ArrayReadings.{IsUntold, Spared}
 use Rattle.fac_names.proofs.BuiltForms.{BuiltUp, begun_built, take_built}
@@ -42,7 +40,7 @@ use Rattle.fac_names.proofs.EntryLemmas.{all_spare}
 use Rattle.fac_names.proofs.FileLemmas.{files_taken}
 use Rattle.fac_names.proofs.KnownBuilt.{first_built}
 use Rattle.fac_names.proofs.PlainForms.{form_plain}
-use Rattle.fac_known.specs.Laws.{Grows, IsReadOf, Longer, ProgramsKeepPhrases, phrase_in}
+use Rattle.fac_known.specs.Laws.{Grows, IsReadOf, ProgramsKeepPhrases, phrase_in}
 use Rattle.fac_known.proofs.Growing.{forms_grow, grows_fold, grows_then, scoped_grows}
 use Rattle.fac_known.proofs.Staying.{At, form_at, there_still}
 

@@ -1,5 +1,5 @@
 -- Laws of names.
-use Rattle.std.specs.Prelude.{◌≡◌, ℕ, List, [], ◌∷◌, ◌++◌, map, fold, slice_get, Option, Some, None, Ok, Bool, false}
+use Rattle.std.specs.Prelude.{◌≡◌, ℕ, List, ◌∷◌, ◌++◌, map, fold, slice_get, Option, Some, None, Ok, Bool, false}
 use Rattle.fac_base.specs.declared.name.Name.{Name as FullName}
 use Rattle.fac_lang.specs.LongerPrograms.{IsLonger}
 use Rattle.fac_lang.specs.Phrases.{Phrase}

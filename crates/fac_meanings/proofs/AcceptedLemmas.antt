@@ -1,5 +1,5 @@
 -- What the forms of accepted programs mean.
-use Rattle.std.proofs.Common.{◌≡◌, ℕ, List, [], ◌∷◌, ◌++◌, fold, length, slice_get, Option, Some, None, Result, Ok, Bool, false, refl, ap, sym, ◌∙◌, subst, append_assoc}
+use Rattle.std.proofs.Common.{◌≡◌, ℕ, List, [], ◌∷◌, ◌++◌, length, slice_get, Some, None, Bool, false, refl, ap, sym, ◌∙◌, subst, append_assoc}
 use Rattle.std.specs.Prelude.{get_or}
 use Rattle.std.proofs.lemmas.List.Sums.{fold-append}
 use Rattle.std.proofs.lemmas.Option.{slice_get-get_or}
@@ -8,12 +8,11 @@ use Rattle.fac_lang.specs.RunningLaws.{append}
 use Rattle.fac_lang.specs.declared.program.Lit.{Lit}
 use Rattle.fac_lang.specs.declared.program.Program.{Program}
 use Rattle.fac_lang.specs.declared.program.Sort.TheVariants.{Body as body}
-use Rattle.fac_source.specs.declared.refusal.NameFault.{NameFault}
 use Rattle.fac_source.specs.declared.tree.Form.{Form as Flat}
 use Rattle.fac_parse.specs.Trees.{AreWellFormed}
 use Rattle.fac_vocab.specs.Scopes.{begun}
 use Rattle.fac_items.specs.FromElements.{nested}
-use Rattle.fac_items.specs.Items.{ref, search_faults}
+use Rattle.fac_items.specs.Items.{ref}
 use Rattle.fac_items.specs.Made.{made}
 use Rattle.fac_items.specs.Readings.{read_form, with_inputs}
 use Rattle.fac_items.proofs.PhraseLemmas.{append_three}
@@ -21,8 +20,8 @@ use Rattle.fac_items.specs.Written.{Tok, Nodes, Declared, Form, f_constant, f_de
 use Rattle.fac_endings.specs.Words.{no_effect, top_word}
 use Rattle.fac_endings.specs.declared.draft.Draft.{Draft}
 use Rattle.fac_endings.specs.declared.draft.Late.TheVariants.{Method as method_of}
-use Rattle.fac_names.specs.Forms.{Reading, added, declared_effect, declared_late, draft_of, own, refused, scoped, take, with_told}
-use Rattle.fac_names.specs.FromFlat.{first_node, form_of}
+use Rattle.fac_names.specs.Forms.{Reading, declared_effect, declared_late, draft_of, own, scoped, take, with_told}
+use Rattle.fac_names.specs.FromFlat.{first_node}
 use Rattle.fac_names.specs.Resolution.{first_reading, resolved}
 use Rattle.fac_names.specs.TakenForms.{take_flat, take_front, taken}
 use Rattle.fac_names.proofs.BracketLemmas.{items_closing}
@@ -30,7 +29,6 @@ use Rattle.fac_names.proofs.BuiltForms.{BuiltUp, classes_in}
 use Rattle.fac_names.proofs.DefinedNames.{changed_here, own_built}
 use Rattle.fac_names.proofs.KnownBuilt.{first_built}
 use Rattle.fac_known.specs.Laws.{IsReadOf}
-use Rattle.fac_known.proofs.Growing.{read_for}
 use Rattle.fac_known.proofs.KeptPhrases.{fronts_built, programs_keep}
 use Rattle.fac_meanings.specs.Accepted.{ConstantRuns, DefinitionRuns, ItemsRun, MakerRuns, MethodRuns, ProgramsRunTheirForms, RunsPhrase}
 use Rattle.fac_meanings.specs.Meanings.{HasPhrase}

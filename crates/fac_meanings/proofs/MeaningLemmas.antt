@@ -14,8 +14,6 @@ use Rattle.fac_source.specs.declared.tree.Bracket.TheVariants.{Quotation, Array,
 use Rattle.fac_source.specs.declared.tree.Element.{Element}
 use Rattle.fac_source.specs.declared.tree.Form.{Form as Flat}
 use Rattle.fac_source.specs.Toks.{is_among, texts_of}
-use Rattle.fac_parse.specs.Trees.{AreItems}
-use Rattle.fac_vocab.specs.declared.entry.Entry.{Entry}
 use Rattle.fac_vocab.specs.Scopes.{Found, Scope, found}
 use Rattle.fac_items.specs.Written.{Tok, n_lit, n_array, n_quot, n_ref, n_name, n_locals, n_fry, n_call_effect, n_execute_effect, n_bind, n_hole, n_at, n_next, n_full, Nodes, nothing, more, Declared, given, makes}
 use Rattle.fac_items.specs.FromElements.{AreClosing, nested}

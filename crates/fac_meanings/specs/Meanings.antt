@@ -23,7 +23,7 @@ use Rattle.fac_names.specs.Forms.{Reading, own, take}
 use Rattle.fac_names.specs.FromFlat.{first_node}
 use Rattle.fac_names.specs.TakenForms.{take_front}
 use Rattle.fac_meanings.specs.SearchOrder.{found_at, latest_first}
-use Rattle.fac_meanings.specs.Signs.{Sign, array_signs, closes, filled, one, opens, phrase_signs, value, within}
+use Rattle.fac_meanings.specs.Signs.{Sign, array_signs, filled, one, phrase_signs, value, within}
 
 -- What words there are: that of each name, whether a name's word is `cond`, and those that readings name.
 pub record Words : Type 0 where
