@@ -1,5 +1,5 @@
 -- What there is before the first form of a text that goes on behind what is known: it is made of what sources have.
-use Rattle.std.proofs.Common.{◌≡◌, ◌<◌, ◌≤◌, ◌+◌, ℕ, zero, suc, List, [], ◌∷◌, ◌++◌, map, length, slice_get, Option, Some, None, Bool, true, false, refl, ap, sym, ◌∙◌, subst, arith, append-nil, length-append}
+use Rattle.std.proofs.Common.{◌≡◌, ◌<◌, ◌≤◌, ◌+◌, ℕ, zero, suc, List, [], ◌∷◌, ◌++◌, map, length, slice_get, Option, Some, None, Bool, true, false, refl, ap, sym, ◌∙◌, subst, arith, append-nil}
 use Rattle.std.specs.Prelude.{◌&&◌, ◌||◌, nat_eq, nat_le, nat_lt, not, codes}
 use Rattle.std.specs.List.{list_all, list_any}
 use Rattle.std.specs.Option.{option_map}
@@ -12,13 +12,13 @@ use Rattle.fac_lang.proofs.SourcePrograms.{AreArraysOf, AreElementsOf, AreWordsO
 use Rattle.fac_lang.specs.LongerPrograms.{as_earlier as past_sort, with_earlier}
 use Rattle.fac_lang.specs.Meaning.{is_past, sort_of}
 use Rattle.fac_lang.specs.Phrases.{Phrase, end, then, Item, lit, int, yes, no, str, wrd, lit_arr, quot, word, bind, local, fry, hole, call_effect, execute_effect, next_method}
-use Rattle.fac_lang.specs.Whole.{IsWhole, all_arrays_named, all_phrases, arrays_in, arrays_named, arrays_named_by, each_below, each_inner, each_item, effect_eq, effect_of, has_generic_effect, has_its_holes, holes_within, is_body, is_effect, is_generic, is_nameable, is_word, item_fits, joined, literal_fits, locals_bound, name_count, no_two, quotations, same_method, same_word, sort_fits, tests_small, times_in, word_phrases}
+use Rattle.fac_lang.specs.Whole.{IsWhole, all_arrays_named, all_phrases, arrays_in, arrays_named, arrays_named_by, each_below, each_inner, each_item, effect_eq, effect_of, has_generic_effect, has_its_holes, holes_within, is_effect, is_generic, is_nameable, is_word, item_fits, joined, literal_fits, locals_bound, name_count, no_two, quotations, same_method, same_word, sort_fits, tests_small, times_in, word_phrases}
 use Rattle.fac_lang.specs.declared.program.ClassDef.{ClassDef}
 use Rattle.fac_lang.specs.declared.program.Lit.{Lit}
 use Rattle.fac_lang.specs.declared.program.Lit.TheVariants.{Int as l_int, True as l_yes, False as l_no, Str as l_str, Arr as l_arr, Wref as l_word, Quot as l_quot, Made as l_made}
 use Rattle.fac_lang.specs.declared.program.Program.{Program}
 use Rattle.fac_lang.specs.declared.program.Sort.{Sort}
-use Rattle.fac_lang.specs.declared.program.Sort.TheVariants.{Prim as prim, Core as core, Body as body, Past as past, Itself as itself, Class as class, Isa as isa, Getter as getter, Setter as setter, Putter as putter, Generic as generic, Method as method}
+use Rattle.fac_lang.specs.declared.program.Sort.TheVariants.{Prim as prim, Body as body, Past as past, Itself as itself, Class as class, Isa as isa, Method as method}
 use Rattle.fac_lang.specs.declared.program.WordDef.{WordDef}
 use Rattle.fac_vocab.specs.declared.brought.Brought.{Brought}
 use Rattle.fac_vocab.specs.declared.brought.Brought.TheVariants.{Named as named, Prefixed as prefixed}
@@ -28,24 +28,23 @@ use Rattle.fac_items.specs.Items.{entry_name}
 use Rattle.fac_items.proofs.ArrayNumbers.{all_below, below, not_below, times_both}
 use Rattle.fac_items.proofs.LocalNumbers.{is_closed}
 use Rattle.fac_endings.specs.declared.draft.Draft.{Draft}
-use Rattle.fac_endings.specs.declared.draft.Late.{Late}
 use Rattle.fac_endings.specs.declared.draft.Late.TheVariants.{Settled as settled}
 use Rattle.fac_endings.proofs.Apart.{and_true, false_both, or_false, true_both}
 use Rattle.fac_endings.proofs.EarlierClasses.{whole_settled}
 use Rattle.fac_endings.proofs.EndedClasses.{class_in, draft_fits, late_in}
 use Rattle.fac_names.specs.Forms.{accessor_text, changed}
-use Rattle.fac_known.specs.KnownPrograms.{IsKnown, IsEntryOf, HasItsWord, may_be_found}
+use Rattle.fac_known.specs.KnownPrograms.{IsKnown, HasItsWord, may_be_found}
 use Rattle.fac_names.specs.Resolution.{settled_draft}
 use Rattle.fac_names.specs.Resolved.{Known, as_earlier, beginning, drafts_of}
 use Rattle.fac_names.proofs.ArrayReadings.{Spared, named_in, names_by}
 use Rattle.fac_names.proofs.BuiltForms.{BuiltUp, up}
 use Rattle.fac_names.proofs.BuiltReadings.{DraftsBuilt, draft_ok, length_changed, ok_changed}
 use Rattle.fac_names.proofs.BuiltScopes.{BroughtIn, EntriesIn}
-use Rattle.fac_names.proofs.ClosedForms.{Closed, drafts_closed, phrase_closed, sort_closed, with_changed, with_phrase}
+use Rattle.fac_names.proofs.ClosedForms.{Closed, drafts_closed, phrase_closed, sort_closed, with_changed}
 use Rattle.fac_names.proofs.Distinct.{alike_sorts}
 use Rattle.fac_names.proofs.EntryLemmas.{Ascending, all_spare, none_of}
 use Rattle.fac_names.proofs.Fronts.{Covers, Fronted, found_by, is_found, is_generic_of, method_stands, spares_past}
-use Rattle.fac_names.proofs.HeldNames.{AccessorAt, AccessorsHeld, AreNamed, ClassHeld, OldHeld, name_at, names_changed}
+use Rattle.fac_names.proofs.HeldNames.{AccessorsHeld, AreNamed, ClassHeld, OldHeld, name_at, names_changed}
 use Rattle.fac_names.proofs.KnownBuilt.{settled_built, settled_words}
 use Rattle.fac_names.proofs.PrimitiveNumbers.{has_no_repeats, is_member, numbers_before, numbers_in, primitive_numbers}
 use Rattle.fac_names.proofs.StandingHoles.{are_sound, is_sound, stands}

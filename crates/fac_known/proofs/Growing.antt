@@ -4,6 +4,8 @@ use Rattle.std.proofs.Common.{refl, ap, sym, ◌∙◌}
 use Rattle.std.proofs.lemmas.List.{append_assoc, append-nil, map-append}
 use Rattle.std.proofs.lemmas.List.Sums.{fold-append}
 use Rattle.fac_base.specs.Signatures.{Signature}
+use Rattle.fac_lang.specs.Phrases.{Phrase, end}
+use Rattle.fac_lang.specs.RunningLaws.{append}
 use Rattle.fac_lang.specs.declared.program.Lit.{Lit}
 use Rattle.fac_lang.specs.declared.program.Sort.{Sort}
 use Rattle.fac_lang.specs.declared.program.Sort.TheVariants.{Itself as itself, Class as class, Isa as isa, Getter as getter, Setter as setter, Putter as putter, Generic as generic}
@@ -14,6 +16,7 @@ use Rattle.fac_source.specs.declared.refusal.NameFault.{NameFault}
 use Rattle.fac_source.specs.declared.refusal.NameKind.TheVariants.{Unknown, Twice, NoVocab, TooMany}
 use Rattle.fac_items.specs.Written.{Tok, Node, n_lit, n_array, n_quot, n_ref, n_name, n_locals, n_fry, n_call_effect, n_execute_effect, n_bind, n_hole, n_at, n_next, n_full, n_part, Nodes, nothing, f_in, f_use, f_using, f_from, f_qualified, f_private, f_public, f_defer, f_symbol, f_main, f_constant, f_define, f_locals, f_tuple, f_union, f_single, f_maker, f_generic, f_method, f_items, more}
 use Rattle.fac_items.specs.Readings.{bound, read_items}
+use Rattle.fac_items.proofs.PhraseLemmas.{append_end, append_three}
 use Rattle.fac_vocab.specs.declared.entry.Entry.{Entry}
 use Rattle.fac_vocab.specs.declared.brought.Brought.TheVariants.{Named as named, Prefixed as prefixed}
 use Rattle.fac_vocab.specs.Scopes.{Scope, with_entry, now_defined, holders, home, exists, using_vocab, bringing, entered, word_held}
@@ -25,7 +28,7 @@ use Rattle.fac_endings.specs.declared.draft.Named.TheVariants.{Tuple as a_tuple,
 use Rattle.fac_names.specs.Forms.{at_place, counted, most_classes, option_list, Reading, Numbered, changed, added, defining, defined, deferring, with_told, told, own, plainly, refused, scoped, use_one, bringing_one, bring_one, class_words, class_form, making, accessor, with_slot}
 use Rattle.fac_endings.specs.declared.draft.Draft.{Draft}
 use Rattle.fac_endings.specs.declared.draft.Named.{Named}
-use Rattle.fac_known.specs.Laws.{names_of, Longer, Sooner, Grows, FormsGrow}
+use Rattle.fac_known.specs.Laws.{Begins, names_of, Longer, Sooner, Grows, FormsGrow}
 
 -- Lists.
 
@@ -95,13 +98,21 @@ mutual
   elements_longer s (more (n_full vocab name p) ns) arrays = elements_longer s ns arrays
   elements_longer s (more (n_part ms) ns) arrays = elements_longer s ns arrays
 
+-- Phrases.
+
+whole : (t : Phrase) → Begins t t
+whole t = record { rest = end; is = sym (append_end t) }
+
+begins_then : {t u v : Phrase} → Begins t u → Begins u v → Begins t v
+begins_then {t} {u} {v} p q = record { rest = append p.rest q.rest; is = q.is ∙ ap (λ x. append x q.rest) p.is ∙ append_three t p.rest q.rest }
+
 -- States.
 
 pub grows_same : (r : Reading) → Grows r r
-grows_same r = record { old = refl; words = same (names_of r.words); classes = same r.classes; arrays = same r.arrays; first = unrefused r.first }
+grows_same r = record { old = refl; words = same (names_of r.words); classes = same r.classes; arrays = same r.arrays; top = whole r.top; first = unrefused r.first }
 
 pub grows_then : {r q s : Reading} → Grows r q → Grows q s → Grows r s
-grows_then g h = record { old = h.old ∙ g.old; words = and_then g.words h.words; classes = and_then g.classes h.classes; arrays = and_then g.arrays h.arrays; first = first_then g.first h.first }
+grows_then g h = record { old = h.old ∙ g.old; words = and_then g.words h.words; classes = and_then g.classes h.classes; arrays = and_then g.arrays h.arrays; top = begins_then g.top h.top; first = first_then g.first h.first }
 
 pub grows_if : {r q s : Reading} (b : Bool) → Grows r q → Grows r s → Grows r (if b then q else s)
 grows_if true g h = g
@@ -112,10 +123,10 @@ grows_fold f h [] r = grows_same r
 grows_fold f h (x ∷ xs) r = grows_then (h r x) (grows_fold f h xs (f r x))
 
 refused_grows : (fs : List NameFault) (r : Reading) → Grows r (refused fs r)
-refused_grows fs r = record { old = refl; words = same (names_of r.words); classes = same r.classes; arrays = same r.arrays; first = refusals r.first fs }
+refused_grows fs r = record { old = refl; words = same (names_of r.words); classes = same r.classes; arrays = same r.arrays; top = whole r.top; first = refusals r.first fs }
 
 pub scoped_grows : (f : Scope → Scope) (r : Reading) → Grows r (scoped f r)
-scoped_grows f r = record { old = refl; words = same (names_of r.words); classes = same r.classes; arrays = same r.arrays; first = unrefused r.first }
+scoped_grows f r = record { old = refl; words = same (names_of r.words); classes = same r.classes; arrays = same r.arrays; top = whole r.top; first = unrefused r.first }
 
 changed_names : (f : Draft → Draft) → ((d : Draft) → (f d).word.name ≡ d.word.name) → (n : ℕ) (ds : List Draft) → names_of (changed f n ds) ≡ names_of ds
 changed_names f h n [] = refl
@@ -123,7 +134,7 @@ changed_names f h zero (d ∷ ds) = ap (λ x. x ∷ names_of ds) (h d)
 changed_names f h (suc n) (d ∷ ds) = ap (λ xs. d.word.name ∷ xs) (changed_names f h n ds)
 
 added_grows : (vocab : List ℕ) (t : Tok) (r : Reading) → Grows r (added vocab t r).reading
-added_grows vocab t r = record { old = refl; words = record { rest = record { vocab = vocab; name = t.text } ∷ []; is = map-append (λ d. d.word.name) r.words _ }; classes = same r.classes; arrays = same r.arrays; first = unrefused r.first }
+added_grows vocab t r = record { old = refl; words = record { rest = record { vocab = vocab; name = t.text } ∷ []; is = map-append (λ d. d.word.name) r.words _ }; classes = same r.classes; arrays = same r.arrays; top = whole r.top; first = unrefused r.first }
 
 numbered_if : {r : Reading} (n m : Numbered) (b : Bool) → Grows r n.reading → Grows r m.reading → Grows r (if b then n else m).reading
 numbered_if n m true g h = g
@@ -133,7 +144,7 @@ defining_grows : (vocab : List ℕ) (t : Tok) (r : Reading) (es : List Entry) �
 defining_grows vocab t r [] = grows_then (added_grows vocab t r) (scoped_grows (with_entry vocab t.text (length r.words) true) (added vocab t r).reading)
 defining_grows vocab t r (e ∷ es) =
     numbered_if (added vocab t (refused (fault Twice t ∷ []) r)) (record { word = e.word; reading = record r { scope = record r.scope { table = now_defined e.vocab e.name r.scope.table }; words = changed (at_place t.place) e.word r.words } }) (list_any (λ f. f.is_defined) (e ∷ es)) (grows_then (refused_grows (fault Twice t ∷ []) r) (added_grows vocab t (refused (fault Twice t ∷ []) r)))
-    (record { old = refl; words = equal (changed_names (at_place t.place) (λ d. refl) e.word r.words); classes = same r.classes; arrays = same r.arrays; first = unrefused r.first })
+    (record { old = refl; words = equal (changed_names (at_place t.place) (λ d. refl) e.word r.words); classes = same r.classes; arrays = same r.arrays; top = whole r.top; first = unrefused r.first })
 
 defined_grows : (vocab : List ℕ) (t : Tok) (r : Reading) → Grows r (defined vocab t r).reading
 defined_grows vocab t r = defining_grows vocab t r (holders r.scope.table vocab t.text)
@@ -144,7 +155,7 @@ deferring_grows t r (e ∷ es) = refused_grows (fault Twice t ∷ []) r
 
 told_grows : (sort : Sort) (effect : Signature) (inline recursive : Bool) (late : Late) (n : Numbered) → Grows n.reading (told sort effect inline recursive late n)
 told_grows sort effect inline recursive late n =
-    record { old = refl; words = equal (changed_names (with_told sort effect inline recursive late) (λ d. refl) n.word n.reading.words); classes = same n.reading.classes; arrays = same n.reading.arrays; first = unrefused n.reading.first }
+    record { old = refl; words = equal (changed_names (with_told sort effect inline recursive late) (λ d. refl) n.word n.reading.words); classes = same n.reading.classes; arrays = same n.reading.arrays; top = whole n.reading.top; first = unrefused n.reading.first }
 
 own_grows : (t : Tok) (r : Reading) → Grows r (own t r).reading
 own_grows t r = defined_grows (home r.scope) t r
@@ -161,7 +172,7 @@ read_for ns r =
 read_for_grows : (ns : Nodes) (r : Reading) → Grows r (read_for ns r)
 read_for_grows ns r =
     let ms = read_items (is_cond r.scope) [] ns in
-    record { old = refl; words = same (names_of r.words); classes = same r.classes; arrays = phrase_longer r.scope [] ms r.arrays 0; first = refusals r.first (items_faults r.scope [] ms) }
+    record { old = refl; words = same (names_of r.words); classes = same r.classes; arrays = phrase_longer r.scope [] ms r.arrays 0; top = whole r.top; first = refusals r.first (items_faults r.scope [] ms) }
 
 use_one_grows : (r : Reading) (t : Tok) → Grows r (use_one r t)
 use_one_grows r t = grows_if (exists r.scope t.text) (scoped_grows (using_vocab t.text) r) (refused_grows (fault NoVocab t ∷ []) r)
@@ -193,7 +204,7 @@ class_form_grows : (t : Tok) (searched : List Tok) (names : Scope → Named) (r 
 class_form_grows t searched names r =
     grows_then (class_words_grows t r) (
     let n = class_words t r in
-    record { old = refl; words = same (names_of n.reading.words); classes = by n.reading.classes (record { tok = t; word = n.word; names = names n.reading.scope } ∷ []); arrays = same n.reading.arrays; first = refusals n.reading.first (search_faults n.reading.scope searched) })
+    record { old = refl; words = same (names_of n.reading.words); classes = by n.reading.classes (record { tok = t; word = n.word; names = names n.reading.scope } ∷ []); arrays = same n.reading.arrays; top = whole n.reading.top; first = refusals n.reading.first (search_faults n.reading.scope searched) })
 
 -- Forms.
 
@@ -208,7 +219,7 @@ forms_grow f_private r = scoped_grows (λ s. record s { in_private = true }) r
 forms_grow f_public r = scoped_grows (λ s. record s { in_private = false }) r
 forms_grow (f_defer n) r = deferring_grows n r (holders r.scope.table (home r.scope) n.text)
 forms_grow (f_symbol n) r = grows_then (own_grows n r) (plainly_grows itself [] (codes "value" ∷ []) (own n r))
-forms_grow (f_main n) r = record { old = refl; words = same (names_of r.words); classes = same r.classes; arrays = same r.arrays; first = refusals r.first (search_fault r.scope n) }
+forms_grow (f_main n) r = record { old = refl; words = same (names_of r.words); classes = same r.classes; arrays = same r.arrays; top = whole r.top; first = refusals r.first (search_fault r.scope n) }
 forms_grow (f_define n e ns inline recursive) r =
     grows_then (own_grows n r) (grows_then (read_for_grows ns (own n r).reading) (told_grows _ _ inline recursive _ (record { word = (own n r).word; reading = read_for ns (own n r).reading })))
 forms_grow (f_tuple n parent slots) r = grows_then (class_form_grows n (option_list parent) (λ s. a_tuple (option_map (ref s) parent) slots) r) (grows_fold with_slot with_slot_grows slots _)
@@ -220,7 +231,7 @@ forms_grow (f_method c g ns) r =
     let d = added [] g (refused (search_faults r.scope (c ∷ g ∷ [])) r) in
     grows_then (added_grows [] g (refused (search_faults r.scope (c ∷ g ∷ [])) r)) (
     grows_then (read_for_grows ns d.reading) (told_grows _ _ false false _ (record { word = d.word; reading = read_for ns d.reading }))))
-forms_grow (f_items ns) r = grows_then (read_for_grows ns r) (record { old = refl; words = same (names_of r.words); classes = same r.classes; arrays = same (read_for ns r).arrays; first = unrefused (read_for ns r).first })
+forms_grow (f_items ns) r = grows_then (read_for_grows ns r) (record { old = refl; words = same (names_of r.words); classes = same r.classes; arrays = same (read_for ns r).arrays; top = record { rest = (phrase_of r.scope [] (read_items (is_cond r.scope) [] ns) r.arrays 0).phrase; is = refl }; first = unrefused (read_for ns r).first })
 forms_grow (f_constant n l) r = grows_same r
 forms_grow (f_locals n inputs e ns inline recursive) r = grows_same r
 forms_grow (f_maker n c) r = grows_same r

@@ -1,11 +1,10 @@
 -- What is known behind a text belongs together: its scope and its program.
-use Rattle.std.proofs.Common.{◌≡◌, ◌<◌, ◌≤◌, ◌+◌, ℕ, zero, suc, List, [], ◌∷◌, ◌++◌, map, length, slice_get, fold, Option, Some, None, Result, Ok, Err, Bool, true, false, refl, ap, sym, ◌∙◌, subst, arith, length-append}
-use Rattle.std.specs.Prelude.{◌&&◌, ◌||◌, nat_eq, nat_lt, not, codes}
+use Rattle.std.proofs.Common.{◌≡◌, ◌<◌, ◌≤◌, ◌+◌, ℕ, zero, suc, List, [], ◌∷◌, map, length, slice_get, fold, Option, Some, None, Result, Ok, Err, Bool, true, false, refl, ap, sym, ◌∙◌, subst, arith}
+use Rattle.std.specs.Prelude.{◌||◌, nat_eq, nat_lt, not, codes}
 use Rattle.std.specs.List.{list_all}
 use Rattle.std.specs.Option.{option_map}
 use Rattle.std.proofs.lemmas.Bool.Decides.{Decides-ltb}
 use Rattle.std.proofs.lemmas.List.{length_push, length-map}
-use Rattle.fac_base.specs.Signatures.{Signature}
 use Rattle.fac_base.specs.declared.name.Name.{Name as FullName}
 use Rattle.fac_lang.proofs.SourcePrograms.{may_name}
 use Rattle.fac_lang.specs.Whole.{is_nameable, is_word}
@@ -13,13 +12,10 @@ use Rattle.fac_lang.specs.declared.program.ClassDef.{ClassDef}
 use Rattle.fac_lang.specs.declared.program.Program.{Program}
 use Rattle.fac_lang.specs.declared.program.WordDef.{WordDef}
 use Rattle.fac_source.specs.declared.refusal.NameFault.{NameFault}
-use Rattle.fac_source.specs.declared.tree.Form.{Form as Flat}
-use Rattle.fac_source.specs.declared.tok.Ref.{Ref}
-use Rattle.fac_parse.specs.Trees.{AreWellFormed, IsWellFormed}
 use Rattle.fac_vocab.specs.declared.brought.Brought.{Brought}
 use Rattle.fac_vocab.specs.declared.brought.Brought.TheVariants.{Named as named, Prefixed as prefixed}
 use Rattle.fac_vocab.specs.declared.entry.Entry.{Entry}
-use Rattle.fac_vocab.specs.Scopes.{Scope, begun, using_all, word_held}
+use Rattle.fac_vocab.specs.Scopes.{word_held}
 use Rattle.fac_items.specs.Items.{entry_name}
 use Rattle.fac_endings.specs.FinishedWords.{finished}
 use Rattle.fac_endings.specs.Words.{top_word}
@@ -33,15 +29,15 @@ use Rattle.fac_names.specs.FromFlat.{form_of}
 use Rattle.fac_known.specs.KnownPrograms.{IsKnown, IsEntryOf, HasItsWord, may_be_found}
 use Rattle.fac_known.specs.Laws.{FilesAreKnown, KnownGoesOn, SessionsBeginKnown}
 use Rattle.fac_names.specs.Resolution.{first_reading}
-use Rattle.fac_names.specs.Resolved.{Known, answer, beginning, first_fault, going_on, program_of, read_files, top_phrase}
+use Rattle.fac_names.specs.Resolved.{Known, answer, beginning, first_fault, program_of, top_phrase}
 use Rattle.fac_names.specs.inner.Taking.{take_all}
-use Rattle.fac_names.proofs.ArrayReadings.{IsUntold, Spared}
+use Rattle.fac_names.proofs.ArrayReadings.{Spared}
 use Rattle.fac_names.proofs.BuiltForms.{BuiltUp, classes_in}
 use Rattle.fac_names.proofs.BuiltPrograms.{IsEnded, all_classes, ended, files_built, files_closed, forms_built, forms_closed, found_named, sound, words_in}
 use Rattle.fac_names.proofs.BuiltReadings.{first_found}
-use Rattle.fac_names.proofs.BuiltScopes.{BroughtIn, EntriesBelow, EntriesIn, entries_below}
+use Rattle.fac_names.proofs.BuiltScopes.{BroughtIn, EntriesIn}
 use Rattle.fac_names.proofs.ClosedForms.{Closed}
-use Rattle.fac_names.proofs.Distinct.{AccessorWords, ClassAt, accessor_at, class_at}
+use Rattle.fac_names.proofs.Distinct.{ClassAt, accessor_at, class_at}
 use Rattle.fac_names.proofs.EntryLemmas.{Ascending, all_spare, spares}
 use Rattle.fac_names.proofs.Fronts.{found_low, is_found}
 use Rattle.fac_known.proofs.GoingOn.{begins_built, begins_closed}

@@ -3,3 +3,4 @@ pub mod Staying
 pub mod LongerPrograms
 pub mod GoingOn
 pub mod KnownBehind
+pub mod KeptPhrases

@@ -1,5 +1,5 @@
 -- What was known comes first in what files come to behind it.
-use Rattle.std.proofs.Common.{◌≡◌, ◌∙◌, ap, subst, refl, sym, ℕ, zero, suc, List, [], ◌∷◌, ◌++◌, map, fold, slice_get, Option, Some, None, Result, Ok, Err, Bool}
+use Rattle.std.proofs.Common.{◌≡◌, ◌∙◌, ap, subst, refl, ℕ, suc, List, [], ◌∷◌, ◌++◌, map, fold, slice_get, Option, Some, None, Result, Ok, Err, Bool}
 use Rattle.fac_lang.specs.LongerPrograms.{IsLonger, with_earlier}
 use Rattle.fac_lang.specs.declared.program.ClassDef.{ClassDef}
 use Rattle.fac_lang.specs.declared.program.WordDef.{WordDef}
@@ -10,7 +10,7 @@ use Rattle.fac_items.specs.Written.{Form}
 use Rattle.fac_items.specs.Readings.{read_forms}
 use Rattle.fac_endings.specs.ClassTable.{class_of}
 use Rattle.fac_endings.specs.declared.draft.Draft.{Draft}
-use Rattle.fac_names.specs.Forms.{Reading, scoped, take, take_file}
+use Rattle.fac_names.specs.Forms.{Reading, take, take_file}
 use Rattle.fac_known.specs.KnownPrograms.{IsKnown}
 use Rattle.fac_known.specs.Laws.{Grows, KnownStays, Longer}
 use Rattle.fac_names.specs.Resolution.{settled_draft}

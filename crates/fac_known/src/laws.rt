@@ -1,9 +1,15 @@
 //! Laws of what is known, each on the contract of a function that does nothing.
-ghost use Rattle.fac_known.specs.Laws.{FilesAreKnown, FormsGrow, KnownGoesOn, KnownStays, SessionsBeginKnown};
+ghost use Rattle.fac_known.specs.Laws.{FilesAreKnown, FormsGrow, KnownGoesOn, KnownStays, ProgramsKeepPhrases, SessionsBeginKnown};
 
 /// A form, and so a later file, changes no number of what stands before it.
 pub fn forms_keep_numbers()
     ensures { FormsGrow }
+{}
+
+/// Where files resolve to a program, none of their forms is refused, and each phrase that a word has behind some of the forms is what the word runs in the
+/// program, whose arrays and top-level items begin with those behind these forms.
+pub fn programs_keep_phrases()
+    ensures { ProgramsKeepPhrases }
 {}
 
 /// The words, arrays and classes of what is known before files are resolved come first in what the files come to, with its top-level phrase as an

@@ -4,5 +4,6 @@
 mod laws;
 
 pub use laws::{
-    files_are_known, forms_keep_numbers, known_goes_on, known_programs_stay, sessions_begin_known,
+    files_are_known, forms_keep_numbers, known_goes_on, known_programs_stay, programs_keep_phrases,
+    sessions_begin_known,
 };

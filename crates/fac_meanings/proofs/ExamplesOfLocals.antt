@@ -1,5 +1,5 @@
 -- Sources with locals and fries, and what they resolve to.
-use Rattle.std.specs.Prelude.{ℕ, pos, suc, List, [], ◌∷◌, Some, None, false, codes}
+use Rattle.std.specs.Prelude.{ℕ, pos, suc, List, [], ◌∷◌, Some, false, codes}
 use Rattle.std.proofs.Common.{◌≡◌, refl}
 use Rattle.std.specs.Str.{bytes_eq}
 use Rattle.fac_lang.specs.Phrases.{int, end, lit, lit_arr, quot, word, bind, local, fry, hole}
@@ -20,7 +20,7 @@ use Rattle.fac_items.specs.FromElements.{nested}
 use Rattle.fac_endings.specs.Words.{no_effect}
 use Rattle.fac_names.specs.KnownWords.{known_words}
 use Rattle.fac_meanings.specs.Meanings.{Words, meanings}
-use Rattle.fac_meanings.specs.Signs.{Sign, closes, filled, one, opens, value}
+use Rattle.fac_meanings.specs.Signs.{closes, filled, one, opens, value}
 use Rattle.fac_names.specs.WrittenInputs.{written_inputs}
 use Rattle.fac_meanings.proofs.WrittenSources.{at, tk, nodes, named, literal, run, resolves, known, items, made, top, array, quotation, arrays_of, yes, no}
 

@@ -7,3 +7,4 @@ pub mod FoundNames
 pub mod SignLemmas
 pub mod MeaningLemmas
 pub mod StandingLemmas
+pub mod AcceptedLemmas

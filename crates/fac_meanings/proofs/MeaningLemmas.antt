@@ -14,8 +14,6 @@ use Rattle.fac_source.specs.declared.tree.Bracket.TheVariants.{Quotation, Array,
 use Rattle.fac_source.specs.declared.tree.Element.{Element}
 use Rattle.fac_source.specs.declared.tree.Form.{Form as Flat}
 use Rattle.fac_source.specs.Toks.{is_among, texts_of}
-use Rattle.fac_parse.specs.Trees.{AreItems}
-use Rattle.fac_vocab.specs.declared.entry.Entry.{Entry}
 use Rattle.fac_vocab.specs.Scopes.{Found, Scope, found}
 use Rattle.fac_items.specs.Written.{Tok, n_lit, n_array, n_quot, n_ref, n_name, n_locals, n_fry, n_call_effect, n_execute_effect, n_bind, n_hole, n_at, n_next, n_full, Nodes, nothing, more, Declared, given, makes}
 use Rattle.fac_items.specs.FromElements.{AreClosing, nested}
@@ -37,7 +35,7 @@ use Rattle.fac_known.specs.Laws.{Longer}
 use Rattle.fac_known.proofs.Growing.{and_then, elements_longer, phrase_longer, read_for, same}
 use Rattle.fac_meanings.specs.SearchOrder.{found_at, latest_first}
 use Rattle.fac_meanings.specs.Signs.{Sign, array_signs, closes, elements_signs, filled, item_signs, one, opens, phrase_signs, value, within}
-use Rattle.fac_meanings.specs.Meanings.{ConstantsAreMeant, DefinitionsAreMeant, FormsAreMeant, HasPhrase, MainsAreMeant, MakersAreMeant, MethodsAreMeant, TopItemsAreMeant, bindings_signs, cases, holes_behind, meanings, meant, named_item, values, word_found, words_behind, words_in, words_of}
+use Rattle.fac_meanings.specs.Meanings.{ConstantsAreMeant, DefinitionsAreMeant, FormsAreMeant, HasPhrase, IsWritten, MainsAreMeant, MakersAreMeant, MethodsAreMeant, TopItemsAreMeant, bindings_signs, cases, holes_behind, maker_signs, meanings, meant, named_item, values, word_found, words_behind, words_in, words_of}
 use Rattle.fac_meanings.proofs.FoundNames.{names_are_found}
 use Rattle.fac_meanings.proofs.SignLemmas.{array_at}
 
@@ -354,24 +352,26 @@ mutual
 
 -- the phrase of items behind their readings
 meant_in : (s : Scope) (inputs : List Tok) (items : List Element) (arrays : List (List Lit)) → AreClosing [] items →
-    (let m = made s (with_inputs inputs (nested items)) arrays in phrase_signs (array_signs m.arrays) m.phrase ≡ meant (words_in s) inputs items)
-meant_in s inputs items arrays closing =
+    (let m = made s (with_inputs inputs (nested items)) arrays in IsWritten m.arrays m.phrase (meant (words_in s) inputs items))
+meant_in s inputs items arrays closing later =
     let c = is_cond s in
     let ns = nested items in
     let inner = read_items c (texts_of inputs ++ []) ns in
     let m = phrase_of s [] (bindings inputs [] inner) arrays 0 in
-    ap (λ (xs : Nodes). phrase_signs (array_signs (phrase_of s [] xs arrays 0).arrays) (phrase_of s [] xs arrays 0).phrase) (bindings_read c [] inputs [] ns)
-    ∙ bindings_meant s (array_signs m.arrays) [] inputs [] inner arrays 0
+    let all = m.arrays ++ later in
+    ap (λ (xs : Nodes). phrase_signs (array_signs ((phrase_of s [] xs arrays 0).arrays ++ later)) (phrase_of s [] xs arrays 0).phrase) (bindings_read c [] inputs [] ns)
+    ∙ bindings_meant s (array_signs all) [] inputs [] inner arrays 0
     ∙ ap (λ (xs : List Sign). bindings_signs 0 inputs ++ xs) (
-    phrase_meant s (texts_of inputs ++ []) ns false arrays 0 m.arrays (nested_raw items closing) (subst (λ (xs : List (List Lit)). Longer xs m.arrays) (bindings_arrays s [] inputs [] inner arrays 0) (same m.arrays))
+    phrase_meant s (texts_of inputs ++ []) ns false arrays 0 all (nested_raw items closing) (subst (λ (xs : List (List Lit)). Longer xs all) (bindings_arrays s [] inputs [] inner arrays 0) (record { rest = later; is = refl }))
     ∙ ap (λ (xs : List (List ℕ)). meanings (words_in s) xs 0 ns) (append-nil (texts_of inputs)))
 
 -- searches that find the same
 same_finds : (f g : List ℕ → Found) → ((name : List ℕ) → f name ≡ g name) → f ≡ g
 same_finds f g h = λ i name. h name i
 
-meant_behind : (s : Scope) (before : List ℕ → Found) (inputs : List Tok) (items : List Element) → ((name : List ℕ) → found s name ≡ before name) → meant (words_in s) inputs items ≡ meant (words_of s.table before) inputs items
-meant_behind s before inputs items h = ap (λ (finds : List ℕ → Found). meant (words_of s.table finds) inputs items) (same_finds (λ name. found s name) before h)
+written_behind : (s : Scope) (before : List ℕ → Found) (inputs : List Tok) (items : List Element) (arrays : List (List Lit)) (phrase : Phrase) → ((name : List ℕ) → found s name ≡ before name) →
+    IsWritten arrays phrase (meant (words_in s) inputs items) → IsWritten arrays phrase (meant (words_of s.table before) inputs items)
+written_behind s before inputs items arrays phrase h is = subst (λ (finds : List ℕ → Found). IsWritten arrays phrase (meant (words_of s.table finds) inputs items)) (same_finds (λ name. found s name) before h) is
 
 changed_at : {A : Type 0} (f : A → A) (n : ℕ) (xs : List A) (y : A) → slice_get (changed f n xs) n ≡ Some y → (x : A) × (y ≡ f x)
 changed_at f zero [] y h = absurd (cc)
@@ -385,67 +385,69 @@ told_phrase sort effect inline recursive late w r d at = let one = changed_at (w
 
 -- a definition with these nodes, whose phrase is written so in the scope in which its name is known
 definition_meant : (r : Reading) (n : Tok) (e : Declared) (ns : Nodes) (inline recursive : Bool) (signs : List Sign) →
-    (let o = own n r in let m = made o.reading.scope ns o.reading.arrays in phrase_signs (array_signs m.arrays) m.phrase ≡ signs) →
+    (let o = own n r in let m = made o.reading.scope ns o.reading.arrays in IsWritten m.arrays m.phrase signs) →
     (let o = own n r in let q = read_for ns o.reading in let m = made o.reading.scope ns o.reading.arrays in HasPhrase (told (body m.phrase) (declared_effect e) inline recursive (declared_late o.reading.scope e) (record { word = o.word; reading = q })) o.word signs)
 definition_meant r n e ns inline recursive signs is d at =
     let o = own n r in
     let m = made o.reading.scope ns o.reading.arrays in
     (m.phrase, told_phrase (body m.phrase) (declared_effect e) inline recursive (declared_late o.reading.scope e) o.word (read_for ns o.reading) d at, is)
 
-definitions_are_meant : (r : Reading) (forms : List Flat) (locals : Option ℕ) (inputs : List Tok) (items : List Element) → (take_front r forms).first ≡ None → AreItems locals items → DefinitionsAreMeant (take_front r forms) (latest_first [] forms) inputs items
-definitions_are_meant r forms locals inputs items none fits n e inline recursive =
+pub definitions_are_meant : (r : Reading) (forms : List Flat) (inputs : List Tok) (items : List Element) → (take_front r forms).first ≡ None → AreClosing [] items → DefinitionsAreMeant (take_front r forms) (latest_first [] forms) inputs items
+definitions_are_meant r forms inputs items none closing n e inline recursive =
     let o = own n (take_front r forms) in
     let s = o.reading.scope in
+    let m = made s (with_inputs inputs (nested items)) o.reading.arrays in
     definition_meant (take_front r forms) n e (with_inputs inputs (nested items)) inline recursive (meant (words_behind s.table (latest_first [] forms)) inputs items) (
-    meant_in s inputs items o.reading.arrays (items_closing locals items fits)
-    ∙ meant_behind s (λ name. found_at s.table name (latest_first [] forms)) inputs items (λ name. (names_are_found r forms name none).1 n))
+    written_behind s (λ name. found_at s.table name (latest_first [] forms)) inputs items m.arrays m.phrase (λ name. (names_are_found r forms name none).1 n) (meant_in s inputs items o.reading.arrays closing))
 
-constants_are_meant : (r : Reading) (forms : List Flat) → (take_front r forms).first ≡ None → ConstantsAreMeant (take_front r forms) (latest_first [] forms)
+pub constants_are_meant : (r : Reading) (forms : List Flat) → (take_front r forms).first ≡ None → ConstantsAreMeant (take_front r forms) (latest_first [] forms)
 constants_are_meant r forms none n items fits =
     let o = own n (take_front r forms) in
     let s = o.reading.scope in
-    definition_meant (take_front r forms) n (given (plain_effect [] (codes "value" ∷ []))) (more (first_node (nested items)) nothing) false false (meant (words_behind s.table (latest_first [] forms)) [] items) (
-    sym (ap (λ (ns : Nodes). let m = made s ns o.reading.arrays in phrase_signs (array_signs m.arrays) m.phrase) (literal_sole items fits))
-    ∙ meant_in s [] items o.reading.arrays (literal_closing items fits)
-    ∙ meant_behind s (λ name. found_at s.table name (latest_first [] forms)) [] items (λ name. (names_are_found r forms name none).1 n))
+    let m = made s (nested items) o.reading.arrays in
+    let signs = meant (words_behind s.table (latest_first [] forms)) [] items in
+    definition_meant (take_front r forms) n (given (plain_effect [] (codes "value" ∷ []))) (more (first_node (nested items)) nothing) false false signs (
+    subst (λ (ns : Nodes). let x = made s ns o.reading.arrays in IsWritten x.arrays x.phrase signs) (literal_sole items fits)
+    (written_behind s (λ name. found_at s.table name (latest_first [] forms)) [] items m.arrays m.phrase (λ name. (names_are_found r forms name none).1 n) (meant_in s [] items o.reading.arrays (literal_closing items fits))))
 
-makers_are_meant : (r : Reading) (forms : List Flat) → (take_front r forms).first ≡ None → MakersAreMeant (take_front r forms) (latest_first [] forms)
+pub makers_are_meant : (r : Reading) (forms : List Flat) → (take_front r forms).first ≡ None → MakersAreMeant (take_front r forms) (latest_first [] forms)
 makers_are_meant r forms none n c =
     let o = own n (take_front r forms) in
     let ws = words_behind o.reading.scope.table (latest_first [] forms) in
-    definition_meant (take_front r forms) n (makes c) (more (n_name c n.place) (more (n_full (codes "kernel") (codes "boa") n.place) nothing)) false false (one (word (ws.named c.text)) n.place ∷ one (word ws.making) n.place ∷ [])
-    (ap (λ (w : ℕ). one (word w) n.place ∷ one (word ws.making) n.place ∷ []) (ap word_found ((names_are_found r forms c.text none).1 n)))
+    definition_meant (take_front r forms) n (makes c) (more (n_name c n.place) (more (n_full (codes "kernel") (codes "boa") n.place) nothing)) false false (maker_signs ws n c)
+    (λ later. ap (λ (w : ℕ). one (word w) n.place ∷ one (word ws.making) n.place ∷ []) (ap word_found ((names_are_found r forms c.text none).1 n)))
 
-methods_are_meant : (r : Reading) (forms : List Flat) (locals : Option ℕ) (items : List Element) → (take_front r forms).first ≡ None → AreItems locals items → MethodsAreMeant (take_front r forms) (latest_first [] forms) items
-methods_are_meant r forms locals items none fits c g d at =
+pub methods_are_meant : (r : Reading) (forms : List Flat) (items : List Element) → (take_front r forms).first ≡ None → AreClosing [] items → MethodsAreMeant (take_front r forms) (latest_first [] forms) items
+methods_are_meant r forms items none closing c g d at =
     let q = take_front r forms in
     let s = q.scope in
     let a = (added [] g (refused (search_faults s (c ∷ g ∷ [])) q)).reading in
     let m = made s (nested items) q.arrays in (
       m.phrase,
       told_phrase (body m.phrase) no_effect false false (method_of (ref s c) (ref s g)) (length q.words) (read_for (nested items) a) d at,
-      meant_in s [] items q.arrays (items_closing locals items fits) ∙ meant_behind s (λ name. found_at s.table name (latest_first [] forms)) [] items (λ name. (names_are_found r forms name none).0),
+      written_behind s (λ name. found_at s.table name (latest_first [] forms)) [] items m.arrays m.phrase (λ name. (names_are_found r forms name none).0) (meant_in s [] items q.arrays closing),
     )
 
-top_items_are_meant : (r : Reading) (forms : List Flat) (locals : Option ℕ) (items : List Element) → (take_front r forms).first ≡ None → AreItems locals items → TopItemsAreMeant (take_front r forms) (latest_first [] forms) items
-top_items_are_meant r forms locals items none fits =
+pub top_items_are_meant : (r : Reading) (forms : List Flat) (items : List Element) → (take_front r forms).first ≡ None → AreClosing [] items → TopItemsAreMeant (take_front r forms) (latest_first [] forms) items
+top_items_are_meant r forms items none closing =
     let q = take_front r forms in
     let s = q.scope in
     let m = made s (nested items) q.arrays in (
       m.phrase,
       refl,
-      meant_in s [] items q.arrays (items_closing locals items fits) ∙ meant_behind s (λ name. found_at s.table name (latest_first [] forms)) [] items (λ name. (names_are_found r forms name none).0),
+      written_behind s (λ name. found_at s.table name (latest_first [] forms)) [] items m.arrays m.phrase (λ name. (names_are_found r forms name none).0) (meant_in s [] items q.arrays closing),
     )
 
 mains_are_meant : (r : Reading) (forms : List Flat) → (take_front r forms).first ≡ None → MainsAreMeant (take_front r forms) (latest_first [] forms)
 mains_are_meant r forms none n = ap (λ (w : ℕ). placed (word w) n.place end) (ap word_found (names_are_found r forms n.text none).0)
 
 pub forms_are_meant : FormsAreMeant
-forms_are_meant r forms locals inputs items none fits = (
-  definitions_are_meant r forms locals inputs items none fits,
-  constants_are_meant r forms none,
-  makers_are_meant r forms none,
-  methods_are_meant r forms locals items none fits,
-  top_items_are_meant r forms locals items none fits,
-  mains_are_meant r forms none,
-)
+forms_are_meant r forms locals inputs items none fits =
+    let closing = items_closing locals items fits in (
+      definitions_are_meant r forms inputs items none closing,
+      constants_are_meant r forms none,
+      makers_are_meant r forms none,
+      methods_are_meant r forms items none closing,
+      top_items_are_meant r forms items none closing,
+      mains_are_meant r forms none,
+    )

@@ -12,7 +12,7 @@ use Rattle.fac_source.specs.declared.tree.Element.{Element}
 use Rattle.fac_source.specs.declared.tree.Element.TheVariants as element
 use Rattle.fac_source.specs.declared.tree.Term.{Term}
 use Rattle.fac_source.specs.declared.tree.Term.TheVariants as term
-use Rattle.fac_items.specs.Written.{Tok, Node, n_lit, n_array, n_quot, n_ref, n_name, n_locals, n_fry, n_call_effect, n_execute_effect, n_bind, n_hole, n_at, n_next, n_full, n_part, Nodes, nothing, more}
+use Rattle.fac_items.specs.Written.{Node, n_lit, n_array, n_quot, n_ref, n_name, n_locals, n_fry, n_call_effect, n_execute_effect, n_bind, n_hole, n_at, n_next, n_full, n_part, Nodes, nothing, more}
 use Rattle.fac_items.specs.FromElements.{AreClosing, Rests, bracketed, nested, node, opened, rests, tested_call, tok}
 use Rattle.fac_items.specs.Items.{literal}
 use Rattle.fac_items.proofs.RawNodes.{AreRaw, AreRawElements, nested_raw}

@@ -5,6 +5,7 @@ use Rattle.fac_base.specs.declared.place.Place.{Place}
 use Rattle.fac_lang.specs.Phrases.{Phrase, end, then as placed, Item, lit, wrd, word, bind, local, hole, call_effect, execute_effect, next_method}
 use Rattle.fac_lang.specs.RunningLaws.{append}
 use Rattle.fac_lang.specs.declared.program.Sort.TheVariants.{Body as body}
+use Rattle.fac_lang.specs.declared.program.Lit.{Lit}
 use Rattle.fac_lang.specs.declared.program.Lit.TheVariants as literal
 use Rattle.fac_source.specs.declared.tree.Bracket.TheVariants.{Quotation, Array, Fry}
 use Rattle.fac_source.specs.declared.tree.Element.{Element}
@@ -22,7 +23,7 @@ use Rattle.fac_names.specs.Forms.{Reading, own, take}
 use Rattle.fac_names.specs.FromFlat.{first_node}
 use Rattle.fac_names.specs.TakenForms.{take_front}
 use Rattle.fac_meanings.specs.SearchOrder.{found_at, latest_first}
-use Rattle.fac_meanings.specs.Signs.{Sign, array_signs, closes, filled, one, opens, phrase_signs, value, within}
+use Rattle.fac_meanings.specs.Signs.{Sign, array_signs, filled, one, phrase_signs, value, within}
 
 -- What words there are: that of each name, whether a name's word is `cond`, and those that readings name.
 pub record Words : Type 0 where
@@ -137,13 +138,21 @@ abbrev mutual
 abbrev pub meant : Words → List Tok → List Element → List Sign
 meant ws inputs items = bindings_signs 0 inputs ++ meanings ws (texts_of inputs) 0 (nested items)
 
+-- a phrase with these arrays, whatever arrays come behind them
+abbrev pub IsWritten : List (List Lit) → Phrase → List Sign → Type 0
+IsWritten arrays phrase signs = (later : List (List Lit)) → phrase_signs (array_signs (arrays ++ later)) phrase ≡ signs
+
 -- The word with this number, where there is one, has a phrase that is written so.
 abbrev pub HasPhrase : Reading → ℕ → List Sign → Type 0
-HasPhrase r w signs = (d : Draft) → slice_get r.words w ≡ Some d → (phrase : Phrase) × (d.word.sort ≡ body phrase) × (phrase_signs (array_signs r.arrays) phrase ≡ signs)
+HasPhrase r w signs = (d : Draft) → slice_get r.words w ≡ Some d → (phrase : Phrase) × (d.word.sort ≡ body phrase) × IsWritten r.arrays phrase signs
 
 -- the next form, which tells what the word of this name is
 abbrev pub NextMeans : Reading → List Form → Tok → Form → (Words → List Sign) → Type 0
 NextMeans r before n form signs = let o = own n r in HasPhrase (take (read_form form) r) o.word (signs (words_behind o.reading.scope.table before))
+
+-- a maker of tuples, which names its class and `boa`
+abbrev pub maker_signs : Words → Tok → Tok → List Sign
+maker_signs ws n c = one (word (ws.named c.text)) n.place ∷ one (word ws.making) n.place ∷ []
 
 -- a definition, whose inputs are locals where it is one of `::`, and else none
 abbrev pub DefinitionsAreMeant : Reading → List Form → List Tok → List Element → Type 0
@@ -154,9 +163,9 @@ DefinitionsAreMeant r before inputs items =
 abbrev pub ConstantsAreMeant : Reading → List Form → Type 0
 ConstantsAreMeant r before = (n : Tok) (items : List Element) → IsLiteral items → NextMeans r before n (f_constant n (first_node (nested items))) (λ ws. meant ws [] items)
 
--- a maker of tuples, which names its class and `boa`
+-- a maker of tuples
 abbrev pub MakersAreMeant : Reading → List Form → Type 0
-MakersAreMeant r before = (n c : Tok) → NextMeans r before n (f_maker n c) (λ ws. one (word (ws.named c.text)) n.place ∷ one (word ws.making) n.place ∷ [])
+MakersAreMeant r before = (n c : Tok) → NextMeans r before n (f_maker n c) (λ ws. maker_signs ws n c)
 
 -- a method, whose word is the next one
 abbrev pub MethodsAreMeant : Reading → List Form → List Element → Type 0
@@ -165,7 +174,7 @@ MethodsAreMeant r before items = (c g : Tok) → HasPhrase (take (f_method c g (
 -- items at the top level, which come behind those before them
 abbrev pub TopItemsAreMeant : Reading → List Form → List Element → Type 0
 TopItemsAreMeant r before items =
-    (let q = take (f_items (nested items)) r in (phrase : Phrase) × (q.top ≡ append r.top phrase) × (phrase_signs (array_signs q.arrays) phrase ≡ meant (words_behind r.scope.table before) [] items))
+    (let q = take (f_items (nested items)) r in (phrase : Phrase) × (q.top ≡ append r.top phrase) × IsWritten q.arrays phrase (meant (words_behind r.scope.table before) [] items))
 
 -- the word of a `MAIN:`
 abbrev pub MainsAreMeant : Reading → List Form → Type 0

@@ -1,5 +1,5 @@
 -- What items mean, token by token, where no `cond` reads its cases.
-use Rattle.std.specs.Prelude.{◌≡◌, ℕ, suc, List, [], ◌∷◌, ◌++◌, map, length, Option, Some, None, Bool, if◌then◌else◌}
+use Rattle.std.specs.Prelude.{◌≡◌, ℕ, suc, List, [], ◌∷◌, ◌++◌, map, length, Option, None, Bool, if◌then◌else◌}
 use Rattle.fac_lang.specs.Phrases.{lit, wrd, word, bind, hole, next_method}
 use Rattle.fac_lang.specs.declared.program.Lit.TheVariants as literal
 use Rattle.fac_source.specs.declared.tree.Bracket.{Bracket}

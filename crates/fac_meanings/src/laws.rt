@@ -1,4 +1,5 @@
 //! Laws of names and of items, each on the contract of a function that does nothing.
+ghost use Rattle.fac_meanings.specs.Accepted.{ProgramsRunTheirForms};
 ghost use Rattle.fac_meanings.specs.Meanings.{FormsAreMeant};
 ghost use Rattle.fac_meanings.specs.SearchOrder.{FormsDefine, NamesAreFound, NamesKeepWords};
 ghost use Rattle.fac_meanings.specs.Signs.{PhrasesAreWrittenAsItems};
@@ -32,6 +33,12 @@ pub fn phrases_are_written_as_items()
 /// maker and a `MAIN:` name what they find.
 pub fn forms_mean_what_is_bound_or_found()
     ensures { FormsAreMeant }
+{}
+
+/// Where files resolve to a program, the word of each of their definitions, constants, makers of tuples and methods runs in it the phrase that the form's
+/// items mean behind the forms before, and so does the top-level phrase for items at the top level.
+pub fn programs_run_their_forms()
+    ensures { ProgramsRunTheirForms }
 {}
 
 /// Where no `cond` reads its cases, items mean what their tokens mean one after another.

@@ -5,5 +5,5 @@ mod laws;
 
 pub use laws::{
     forms_define_names, forms_mean_what_is_bound_or_found, items_mean_as_they_stand,
-    names_are_found, names_keep_words, phrases_are_written_as_items,
+    names_are_found, names_keep_words, phrases_are_written_as_items, programs_run_their_forms,
 };
