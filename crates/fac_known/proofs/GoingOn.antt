@@ -35,7 +35,8 @@ use Rattle.fac_endings.proofs.EndedClasses.{class_in, draft_fits, late_in}
 use Rattle.fac_names.specs.Forms.{accessor_text, changed}
 use Rattle.fac_known.specs.KnownPrograms.{IsKnown, HasItsWord, may_be_found}
 use Rattle.fac_names.specs.Resolution.{settled_draft}
-use Rattle.fac_names.specs.Resolved.{Known, as_earlier, beginning, drafts_of}
+use Rattle.fac_names.specs.declared.known.Known.{Known}
+use Rattle.fac_names.specs.Resolved.{as_earlier, beginning, drafts_of}
 use Rattle.fac_names.proofs.ArrayReadings.{Spared, named_in, names_by}
 use Rattle.fac_names.proofs.BuiltForms.{BuiltUp, up}
 use Rattle.fac_names.proofs.BuiltReadings.{DraftsBuilt, draft_ok, length_changed, ok_changed}

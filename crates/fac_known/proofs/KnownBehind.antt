@@ -29,7 +29,8 @@ use Rattle.fac_names.specs.FromFlat.{form_of}
 use Rattle.fac_known.specs.KnownPrograms.{IsKnown, IsEntryOf, HasItsWord, may_be_found}
 use Rattle.fac_known.specs.Laws.{FilesAreKnown, KnownGoesOn, SessionsBeginKnown}
 use Rattle.fac_names.specs.Resolution.{first_reading}
-use Rattle.fac_names.specs.Resolved.{Known, answer, beginning, first_fault, program_of, top_phrase}
+use Rattle.fac_names.specs.declared.known.Known.{Known}
+use Rattle.fac_names.specs.Resolved.{answer, beginning, first_fault, program_of, top_phrase}
 use Rattle.fac_names.specs.inner.Taking.{take_all}
 use Rattle.fac_names.proofs.ArrayReadings.{Spared}
 use Rattle.fac_names.proofs.BuiltForms.{BuiltUp, classes_in}

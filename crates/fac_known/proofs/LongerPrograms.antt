@@ -14,7 +14,8 @@ use Rattle.fac_names.specs.Forms.{Reading, take, take_file}
 use Rattle.fac_known.specs.KnownPrograms.{IsKnown}
 use Rattle.fac_known.specs.Laws.{Grows, KnownStays, Longer}
 use Rattle.fac_names.specs.Resolution.{settled_draft}
-use Rattle.fac_names.specs.Resolved.{Known, answer, beginning, first_fault, program_of}
+use Rattle.fac_names.specs.declared.known.Known.{Known}
+use Rattle.fac_names.specs.Resolved.{answer, beginning, first_fault, program_of}
 use Rattle.fac_known.proofs.GoingOn.{earlier_drafts, settled_at}
 use Rattle.fac_known.proofs.Growing.{forms_grow, grows_fold, grows_if, grows_same, grows_then, scoped_grows}
 use Rattle.fac_known.proofs.Staying.{At, defined_spare, files_at, finished_at}

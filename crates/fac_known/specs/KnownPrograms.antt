@@ -11,7 +11,7 @@ use Rattle.fac_vocab.specs.declared.entry.Entry.{Entry}
 use Rattle.fac_vocab.specs.Scopes.{word_held}
 use Rattle.fac_items.specs.Items.{entry_name}
 use Rattle.fac_names.specs.Forms.{accessor_text}
-use Rattle.fac_names.specs.Resolved.{Known}
+use Rattle.fac_names.specs.declared.known.Known.{Known}
 
 -- whether a name may find the word of this number: it is there, and no top-level phrase
 abbrev pub may_be_found : Program → ℕ → Bool

@@ -20,7 +20,8 @@ use Rattle.fac_names.specs.Forms.{Reading, take}
 use Rattle.fac_names.specs.FromFlat.{form_of}
 use Rattle.fac_known.specs.KnownPrograms.{IsKnown}
 use Rattle.fac_names.specs.Resolution.{first_reading, resolved}
-use Rattle.fac_names.specs.Resolved.{Known, beginning, going_on, read_files}
+use Rattle.fac_names.specs.declared.known.Known.{Known}
+use Rattle.fac_names.specs.Resolved.{beginning, going_on, read_files}
 use Rattle.fac_names.specs.TakenForms.{take_front, taken}
 
 -- Numbers.

@@ -1,10 +1,11 @@
 -- What the forms of accepted programs mean.
 use Rattle.std.proofs.Common.{◌≡◌, ℕ, List, [], ◌∷◌, ◌++◌, length, slice_get, Some, None, Bool, false, refl, ap, sym, ◌∙◌, subst, append_assoc}
-use Rattle.std.specs.Prelude.{get_or}
+use Rattle.std.specs.Prelude.{codes, get_or}
 use Rattle.std.proofs.lemmas.List.Sums.{fold-append}
 use Rattle.std.proofs.lemmas.Option.{slice_get-get_or}
 use Rattle.fac_lang.specs.Phrases.{Phrase}
 use Rattle.fac_lang.specs.RunningLaws.{append}
+use Rattle.fac_lang.specs.Whole.{plain_effect}
 use Rattle.fac_lang.specs.declared.program.Lit.{Lit}
 use Rattle.fac_lang.specs.declared.program.Program.{Program}
 use Rattle.fac_lang.specs.declared.program.Sort.TheVariants.{Body as body}
@@ -16,7 +17,7 @@ use Rattle.fac_items.specs.Items.{ref}
 use Rattle.fac_items.specs.Made.{made}
 use Rattle.fac_items.specs.Readings.{read_form, with_inputs}
 use Rattle.fac_items.proofs.PhraseLemmas.{append_three}
-use Rattle.fac_items.specs.Written.{Tok, Nodes, Declared, Form, f_constant, f_define, f_maker, f_method}
+use Rattle.fac_items.specs.Written.{Tok, n_full, n_name, Nodes, nothing, more, Declared, given, makes, Form, f_constant, f_define, f_maker, f_method}
 use Rattle.fac_endings.specs.Words.{no_effect, top_word}
 use Rattle.fac_endings.specs.declared.draft.Draft.{Draft}
 use Rattle.fac_endings.specs.declared.draft.Late.TheVariants.{Method as method_of}
@@ -81,13 +82,13 @@ definition_runs P r forms form none b k n e locals inputs items inline recursive
 constant_runs : (P : Program) (r : Reading) (forms : List Flat) (form : Flat) → (take_front r forms).first ≡ None → BuiltUp (take_front r forms) → IsReadOf (take_flat (take_front r forms) form) P → ConstantRuns P (take_front r forms) (latest_first [] forms) form
 constant_runs P r forms form none b k n items fits is =
     let x = take_front r forms in
-    let there = definition_there n _ _ false false x b in
+    let there = definition_there n (given (plain_effect [] (codes "value" ∷ []))) (more (first_node (nested items)) nothing) false false x b in
     runs (take (read_form (f_constant n (first_node (nested items)))) x) P (own n x).word there.0 _ (subst (λ (f : Form). IsReadOf (take (read_form f) x) P) is k) there.1 (constants_are_meant r forms none n items fits)
 
 maker_runs : (P : Program) (r : Reading) (forms : List Flat) (form : Flat) → (take_front r forms).first ≡ None → BuiltUp (take_front r forms) → IsReadOf (take_flat (take_front r forms) form) P → MakerRuns P (take_front r forms) (latest_first [] forms) form
 maker_runs P r forms form none b k n c is =
     let x = take_front r forms in
-    let there = definition_there n _ _ false false x b in
+    let there = definition_there n (makes c) (more (n_name c n.place) (more (n_full (codes "kernel") (codes "boa") n.place) nothing)) false false x b in
     runs (take (read_form (f_maker n c)) x) P (own n x).word there.0 _ (subst (λ (f : Form). IsReadOf (take (read_form f) x) P) is k) there.1 (makers_are_meant r forms none n c)
 
 method_runs : (P : Program) (r : Reading) (forms : List Flat) (form : Flat) → (take_front r forms).first ≡ None → IsReadOf (take_flat (take_front r forms) form) P → MethodRuns P (take_front r forms) (latest_first [] forms) form

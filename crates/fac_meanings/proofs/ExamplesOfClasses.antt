@@ -19,7 +19,8 @@ use Rattle.fac_endings.specs.declared.draft.Draft.{Draft}
 use Rattle.fac_endings.specs.declared.draft.Late.TheVariants.{Settled as settled}
 use Rattle.fac_names.specs.Forms.{take}
 use Rattle.fac_names.specs.KnownWords.{known_classes, known_words}
-use Rattle.fac_names.specs.Resolved.{Known, read_files}
+use Rattle.fac_names.specs.declared.known.Known.{Known}
+use Rattle.fac_names.specs.Resolved.{read_files}
 use Rattle.fac_names.specs.Resolution.{first_reading}
 use Rattle.fac_meanings.proofs.WrittenSources.{yes, no, array, arrays_of, at, defined, items, kernel_and_math, known, literal, made, name, named, nodes, own, quotation, resolves, run, tk, top, word_def}
 

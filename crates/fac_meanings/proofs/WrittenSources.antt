@@ -15,7 +15,8 @@ use Rattle.fac_items.specs.Written.{Tok, Node, n_lit, n_array, n_name, n_quot, N
 use Rattle.fac_source.specs.Toks.{number}
 use Rattle.fac_endings.specs.Words.{no_effect}
 use Rattle.fac_names.specs.KnownWords.{known_words}
-use Rattle.fac_names.specs.Resolved.{Known, read_files}
+use Rattle.fac_names.specs.declared.known.Known.{Known}
+use Rattle.fac_names.specs.Resolved.{read_files}
 use Rattle.fac_names.specs.Resolution.{first_reading}
 
 -- How sources are written here: tokens by their numbers in file 1.
