@@ -4,3 +4,4 @@ pub mod StandingRuns
 pub mod StandingViews
 pub mod StandingArrays
 pub mod StayingEffects
+pub mod LongerRuns

@@ -1,10 +1,11 @@
 -- Laws of what a machine holds, behind its runs and in longer programs.
-use Rattle.std.specs.Prelude.{◌≡◌, ◌≤◌, ℕ, List, length, drop, Some, slice_get}
+use Rattle.std.specs.Prelude.{◌≡◌, ◌≤◌, ℕ, List, length, drop, Option, Some, slice_get}
+use Rattle.fac_base.specs.declared.height.Height.{Height}
 use Rattle.fac_lang.specs.LongerPrograms.{IsLonger}
 use Rattle.fac_lang.specs.Meaning.{with_arrays}
 use Rattle.fac_lang.specs.Whole.{IsWhole}
 use Rattle.fac_lang.specs.World.{Object, World}
-use Rattle.fac_lang.specs.Phrases.{Value}
+use Rattle.fac_lang.specs.Phrases.{Value, Callable}
 use Rattle.fac_lang.specs.declared.program.Program.{Program}
 use Rattle.fac_check.specs.CallableEffects.{callable_height}
 use Rattle.fac_check.specs.Promises.{Valid}
@@ -12,6 +13,7 @@ use Rattle.fac_code.specs.declared.image.Image.{Image}
 use Rattle.fac_code.specs.declared.image.TemplateRow.{TemplateRow}
 use Rattle.fac_store.specs.MachineValues.{MValue, MCallable}
 use Rattle.fac_machine.specs.Machine.{End, Ends, starting, first_world, with_arrays as made_arrays}
+use Rattle.fac_carry.specs.Carries.{Carries, IsNeverStuck, SameEnd, top_run}
 use Rattle.fac_carry.specs.MachineView.{template_phrases, values_view, callable_view, world_view}
 use Rattle.fac_carry.specs.WholeValues.{AllWhole, WholeObjects}
 use Rattle.fac_standing.specs.Standing.{IsImageOf, ValuesStand, ObjectsStand, end_machine}
@@ -69,6 +71,14 @@ NewArraysStand = (P Q : Program) (M N : Image) → AreLonger P Q M N → (w : Wo
 -- The world behind a valid one is valid in the longer program.
 abbrev pub ValidStays : Type 0
 ValidStays = (P Q : Program) → IsLonger P Q → (w : World Value) → Valid P w → Valid Q (with_arrays Q (length P.arrays) (drop (length P.arrays) Q.arrays) w)
+
+-- So where the longer image carries the longer program, a run from what stood in the first, with the new arrays made behind it, ends as the meaning of the longer
+-- program does from what that stood for in the first; and what is held behind it stands.
+abbrev pub LongerRunsAreTheSame : Type 0
+LongerRunsAreTheSame =
+    (P Q : Program) (M N : Image) → AreLonger P Q M N → (effects : Callable → Option Height) (count : ℕ) → Carries Q effects count N → (stack : List MValue) (w : World MValue) → length stack ≡ count → ValuesStand P M stack → ObjectsStand P M w.objects →
+    IsNeverStuck (top_run Q effects (values_view (template_phrases P) stack) (with_arrays Q (length P.arrays) (drop (length P.arrays) Q.arrays) (world_view (template_phrases P) w))) → (n : ℕ) → (e : End) × Ends N (starting N stack (made_arrays N (drop (length M.arrays) N.arrays) w)) n e
+    × SameEnd (template_phrases Q) (top_run Q effects (values_view (template_phrases P) stack) (with_arrays Q (length P.arrays) (drop (length P.arrays) Q.arrays) (world_view (template_phrases P) w)) n) e × StandsAt Q N e
 
 -- The image of the longer program has the templates of the first one's, each with as many cells and holes, and its literal arrays, and perhaps others behind them.
 pub record RowStays (N : Image) (q : ℕ) (r : TemplateRow) : Type 0 where

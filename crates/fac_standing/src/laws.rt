@@ -1,5 +1,5 @@
 //! Laws of what a machine holds, each on the contract of a function that does nothing.
-ghost use Rattle.fac_standing.specs.Laws.{CallableEffectsStay, FirstArraysStand, ImagesGoOn, NewArraysAreTheSame, NewArraysStand, ObjectsStandLonger, RunsKeepStanding, StandingObjectsAreWhole, StandingValuesAreWhole, ValidStays, ValuesStandLonger, ValuesStayTheSame, WorldsStayTheSame};
+ghost use Rattle.fac_standing.specs.Laws.{CallableEffectsStay, FirstArraysStand, ImagesGoOn, LongerRunsAreTheSame, NewArraysAreTheSame, NewArraysStand, ObjectsStandLonger, RunsKeepStanding, StandingObjectsAreWhole, StandingValuesAreWhole, ValidStays, ValuesStandLonger, ValuesStayTheSame, WorldsStayTheSame};
 
 /// What stands in a program is whole there.
 pub fn standing_values_are_whole()
@@ -64,4 +64,10 @@ pub fn images_go_on()
 /// A callable has the effect that it had, or none as before.
 pub fn callable_effects_stay()
     ensures { CallableEffectsStay }
+{}
+
+/// A run of a longer image that carries its program, from what stood in the shorter one, ends as the meaning of the longer program, and what is held behind it
+/// stands.
+pub fn longer_runs_are_the_same()
+    ensures { LongerRunsAreTheSame }
 {}

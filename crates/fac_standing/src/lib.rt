@@ -5,8 +5,8 @@
 mod laws;
 
 pub use laws::{
-    callable_effects_stay, first_arrays_stand, images_go_on, new_arrays_are_the_same,
-    new_arrays_stand, objects_stand_longer, runs_keep_standing, standing_objects_are_whole,
-    standing_values_are_whole, valid_stays, values_stand_longer, values_stay_the_same,
-    worlds_stay_the_same,
+    callable_effects_stay, first_arrays_stand, images_go_on, longer_runs_are_the_same,
+    new_arrays_are_the_same, new_arrays_stand, objects_stand_longer, runs_keep_standing,
+    standing_objects_are_whole, standing_values_are_whole, valid_stays, values_stand_longer,
+    values_stay_the_same, worlds_stay_the_same,
 };
