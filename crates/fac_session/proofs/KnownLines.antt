@@ -15,7 +15,8 @@ use Rattle.fac_vocab.specs.Scopes.{begun, using_all}
 use Rattle.fac_names.specs.FromFlat.{form_of}
 use Rattle.fac_known.specs.KnownPrograms.{IsKnown}
 use Rattle.fac_names.specs.Resolution.{first_reading}
-use Rattle.fac_names.specs.Resolved.{Known, going_on, read_files}
+use Rattle.fac_names.specs.Resolved.{going_on, read_files}
+use Rattle.fac_names.specs.declared.known.Known.{Known}
 use Rattle.fac_known.proofs.KnownBehind.{known_goes_on, sessions_begin_known, files_are_known}
 use Rattle.fac_known.proofs.LongerPrograms.{known_stays}
 use Rattle.fac_check.specs.Verdicts.{verdict}
