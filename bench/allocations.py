@@ -7,7 +7,8 @@ import subprocess
 
 # What stands in the place of the C library's calls. It tells the number of allocations in the file that the first name tells, as they come, so also
 # where the program is ended by a signal; and at the program's end the greatest memory that the process had. Room of a list that was never
-# used is no memory, so that isn't told by the sizes of allocations.
+# used is no memory, so that isn't told by the sizes of allocations. Several threads may allocate: which of their allocations has which number may differ
+# from run to run.
 LIBRARY = r"""
 #include <errno.h>
 #include <fcntl.h>
@@ -41,9 +42,9 @@ __attribute__((destructor)) static void end(void) {
 }
 
 static int is_refused(void) {
-    told->calls++;
+    long call = __sync_add_and_fetch(&told->calls, 1);
     errno = ENOMEM;
-    return first <= told->calls && told->calls <= last;
+    return first <= call && call <= last;
 }
 
 void *malloc(size_t size) {

@@ -188,7 +188,7 @@ class Case:
             self.room = int(text)
         elif name == b"fronts":
             self.fronts = text.decode()
-        elif name != b"about":
+        elif name not in (b"about", b"workers"):
             self.left_out = True
 
     def lines(self):

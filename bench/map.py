@@ -21,16 +21,16 @@ WIDTH = 160
 ROOMS = [
     ("Base", "fac_base fac_par fac_lang fac_num fac_io fac_lines fac_spelling"),
     ("Reading", "fac_source fac_token fac_effect fac_parse fac_prelude"),
-    ("Names", "fac_vocab fac_items fac_endings fac_names"),
+    ("Names", "fac_vocab fac_items fac_endings fac_names fac_known fac_meanings"),
     ("Checking", "fac_abs fac_rows fac_graph fac_locals fac_classes fac_generic fac_check fac_longer"),
     (
         "Image and machine",
-        "fac_texts fac_code fac_bytes fac_machine fac_store fac_show fac_sequences fac_prim fac_vm fac_carry fac_emit fac_expand",
+        "fac_texts fac_code fac_bytes fac_machine fac_store fac_show fac_sequences fac_prim fac_vm fac_carry fac_emit fac_expand fac_standing",
     ),
-    ("Tool", "fac_notes fac_session fac_gen fac_command fac_tool fac_program factorc"),
+    ("Tool", "fac_notes fac_session fac_gen fac_command fac_tool fac_program factorc fac_explain factorc_explain"),
     (
         "Programs of tests and measurements",
-        "fac_cases fac_image_cases fac_number_cases fac_spelling_cases fac_tests fac_count factorc_refused factorc_reading",
+        "fac_cases fac_explain_cases fac_image_cases fac_number_cases fac_spelling_cases fac_tests fac_count factorc_refused factorc_reading",
     ),
 ]
 

@@ -130,9 +130,9 @@ module _ (T : Templates) (N : Names) where
 
 -- They make whole values of whole ones.
 module _ (P : Program) (M : Image) (N : Names) where
-  or_bad_keeps : {A : Type 0} (o : Option A) (e : ErrorName) (v : Option MValue) (w : World MValue) (go : A → Gives MValue) → ((y : A) → o ≡ Some y → WholeGives P M (go y)) → WholeGives P M (or_bad machine_values o e v w go)
-  or_bad_keeps None e v w go h = tt
-  or_bad_keeps (Some y) e v w go h = h y refl
+  or_bad_keeps : {A : Type 0} (o : Option A) (e : ErrorName) (v : Option MValue) (w : World MValue) (go : A → Gives MValue) → WholeObjects P M w.objects → ((y : A) → o ≡ Some y → WholeGives P M (go y)) → WholeGives P M (or_bad machine_values o e v w go)
+  or_bad_keeps None e v w go os h = os
+  or_bad_keeps (Some y) e v w go os h = h y refl
 
   abbrev WholeTuple : Option (ℕ × List MValue) → Type 0
   WholeTuple None = Unit {0}
@@ -148,17 +148,17 @@ module _ (P : Program) (M : Image) (N : Names) where
   tuple_whole (x ∷ os) (suc a) h = tuple_whole os a h.1
 
   place_keeps :
-      (s : List ℕ) (v : MValue) (w : World MValue) (a : ℕ) (t : Option (ℕ × List MValue)) (go : Slot machine_values N → Gives MValue) → WholeTuple t → ((p : Slot machine_values N) → AllWhole P M p.values → WholeGives P M (go p)) →
+      (s : List ℕ) (v : MValue) (w : World MValue) (a : ℕ) (t : Option (ℕ × List MValue)) (go : Slot machine_values N → Gives MValue) → WholeTuple t → WholeObjects P M w.objects → ((p : Slot machine_values N) → AllWhole P M p.values → WholeGives P M (go p)) →
       WholeGives P M (slot_place machine_values N s v w a t go)
-  place_keeps s v w a None go whole h = tt
-  place_keeps s v w a (Some t) go whole h =
-      or_bad_keeps (name_at 0 s (N.kind_slots t.0)) NoSlot (Some v) w (λ k. go (record { address = a; kind = t.0; values = t.1; place = k })) (λ k e. h (record { address = a; kind = t.0; values = t.1; place = k }) whole)
+  place_keeps s v w a None go whole os h = os
+  place_keeps s v w a (Some t) go whole os h =
+      or_bad_keeps (name_at 0 s (N.kind_slots t.0)) NoSlot (Some v) w (λ k. go (record { address = a; kind = t.0; values = t.1; place = k })) os (λ k e. h (record { address = a; kind = t.0; values = t.1; place = k }) whole)
 
   slot_keeps :
       (s : List ℕ) (v : MValue) (w : World MValue) (go : Slot machine_values N → Gives MValue) → WholeObjects P M w.objects → ((p : Slot machine_values N) → AllWhole P M p.values → WholeGives P M (go p)) → WholeGives P M (want_slot machine_values N s v w go)
   slot_keeps s v w go os h =
-      or_bad_keeps (seen_tuple (m_seen v)) NotTuple (Some v) w (λ a. slot_place machine_values N s v w a (tuple_of machine_values (slice_get w.objects a)) go)
-      (λ a e. place_keeps s v w a (tuple_of machine_values (slice_get w.objects a)) go (tuple_whole w.objects a os) h)
+      or_bad_keeps (seen_tuple (m_seen v)) NotTuple (Some v) w (λ a. slot_place machine_values N s v w a (tuple_of machine_values (slice_get w.objects a)) go) os
+      (λ a e. place_keeps s v w a (tuple_of machine_values (slice_get w.objects a)) go (tuple_whole w.objects a os) os h)
 
   put_keeps : (p : Slot machine_values N) (y : MValue) (w : World MValue) → AllWhole P M p.values → Whole P M y → WholeObjects P M w.objects → WholeObjects P M (with_slot machine_values N p y w).objects
   put_keeps p y w h g os = object_set P M w.objects p.address (tuple p.kind (set p.values p.place y)) os (set_whole P M p.values p.place y h g)
@@ -166,7 +166,7 @@ module _ (P : Program) (M : Image) (N : Names) where
   pub accessor_keeps : (x : Accessor) (s : List ℕ) → Keeps P M (accessor_fn machine_values N x s)
   accessor_keeps getting s = λ v w hv os.
       slot_keeps s v w (λ p. or_bad machine_values (slice_get p.values p.place) NoSlot (Some v) w (λ y. gives (y ∷ []) w)) os
-      (λ p h. or_bad_keeps (slice_get p.values p.place) NoSlot (Some v) w (λ y. gives (y ∷ []) w) (λ y e. ((get_whole P M p.values p.place y h e, tt), os)))
+      (λ p h. or_bad_keeps (slice_get p.values p.place) NoSlot (Some v) w (λ y. gives (y ∷ []) w) os (λ y e. ((get_whole P M p.values p.place y h e, tt), os)))
   accessor_keeps setting s = λ v y w hv hy os. slot_keeps s v w (λ p. gives (v ∷ []) (with_slot machine_values N p y w)) os (λ p h. ((hv, tt), put_keeps p y w h hy os))
   accessor_keeps putting s = λ y v w hy hv os. slot_keeps s v w (λ p. gives [] (with_slot machine_values N p y w)) os (λ p h. (tt, put_keeps p y w h hy os))
 

@@ -110,7 +110,7 @@ module _ (P : Program) (M : Image) where
     followed_keeps (answers_tuple c n) g vs w h os = ((tt, tt), object_added w.objects (tuple c (repeated n (m_plain no))) os (repeated_whole n (m_plain no) tt))
     followed_keeps (curries j k p) g vs w h os = made_keeps (m_curry (value_at machine_values vs j) (value_at machine_values vs k)) w (followed machine_values N p vs w) (curry_whole (value_at machine_values vs j) (value_at machine_values vs k) (at_whole vs j h) (at_whole vs k h)) os (followed_keeps p g vs w h os)
     followed_keeps (composes j k p) g vs w h os = made_keeps (m_compose (value_at machine_values vs j) (value_at machine_values vs k)) w (followed machine_values N p vs w) (compose_whole (value_at machine_values vs j) (value_at machine_values vs k) (at_whole vs j h) (at_whole vs k h)) os (followed_keeps p g vs w h os)
-    followed_keeps (fails e k) g vs w h os = tt
+    followed_keeps (fails e k) g vs w h os = os
     followed_keeps (looks k go) g vs w h os = let v = m_seen (value_at machine_values vs k) in followed_keeps (go v) (g v) vs w h os
     followed_keeps (adds ps go) g vs w h os = let ks = places_from (length vs) (length ps) in followed_keeps (go ks) (g.1 ks) (vs ++ map m_plain ps) w (more_whole vs (map m_plain ps) h (plains_whole ps g.0)) os
     followed_keeps (opens a go) g vs w h os =

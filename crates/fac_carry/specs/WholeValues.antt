@@ -44,9 +44,9 @@ module _ (P : Program) (M : Image) where
 
   abbrev pub WholeGives : Gives MValue → Type 0
   WholeGives (gives vs w) = AllWhole vs × WholeObjects w.objects
-  WholeGives (bad e v w) = Unit {0}
+  WholeGives (bad e v w) = WholeObjects w.objects
 
-  -- a primitive that makes whole values of whole ones
+  -- a primitive that makes whole values of whole ones, and leaves whole objects where it fails
   abbrev pub Keeps : Fn MValue → Type 0
   Keeps (fn0 f) = (w : World MValue) → WholeObjects w.objects → WholeGives (f w)
   Keeps (fn1 f) = (x : MValue) (w : World MValue) → Whole x → WholeObjects w.objects → WholeGives (f x w)

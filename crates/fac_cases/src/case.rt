@@ -19,6 +19,7 @@
 //!     @note N M         the write of this number to the notes fails after M bytes, in each call
 //!     @room N           the output and the notes take so many bytes each, in place of 1,000
 //!     @last N           of each output the last N lines are told, in place of all
+//!     @workers N        the calls are made with so many workers, in place of 1
 //!     @tokens N         no call: the source is a file of this number, and its tokens are told
 //!
 //! There are the files of these sources and no others. What a call left of its input is told too.
@@ -29,9 +30,11 @@ use crate::telling::{
 use fac_base::{Bytes, Duplicate, List, Memory, Text};
 use fac_io::{Files, MemFiles, MemSink, MemSource, Sink, Source};
 use fac_lines::Channels;
+use fac_par::{NoGate, Workers};
 use fac_tool::{Ended, factor_top};
 use std::alloc::Global;
 use std::mem;
+use std::thread::Threads;
 
 // The most bytes that a sink takes, where no line says otherwise.
 const ROOM: u64 = 1000;
@@ -56,6 +59,8 @@ pub struct Case {
     room: u64,
     // How many lines of each output are told, the last ones. None where all are.
     last: Option<u32>,
+    // How many workers the calls have.
+    workers: u32,
     // The number of the file whose tokens are told.
     tokens: Option<u32>,
 }
@@ -119,14 +124,14 @@ fn push_times(bytes: &mut Bytes, text: &str) -> Result<bool, Memory> {
 }
 
 // Makes the call.
-fn call<F: Files, S: Source, K: Sink, N: Sink>(
-    alloc: Global,
+fn call<R: Threads + Sync, F: Files, S: Source, K: Sink, N: Sink>(
+    workers: &Workers<'_, R, NoGate>,
     words: &[String],
     files: &mut F,
     channels: &mut Channels<S, K>,
     note: &mut N,
 ) -> Ended {
-    factor_top(alloc, words, files, channels, note)
+    factor_top(workers, words, files, channels, note)
 }
 
 // Tells how a call ended, before which so much was asked of the files.
@@ -153,8 +158,8 @@ fn tell_call(
 }
 
 // Makes the call, and tells how it ended.
-fn called(
-    alloc: Global,
+fn called<R: Threads + Sync>(
+    workers: &Workers<'_, R, NoGate>,
     told: &mut Text,
     words: &[String],
     files: &mut MemFiles,
@@ -163,10 +168,10 @@ fn called(
     last: Option<u32>,
 ) -> Result<(), Memory> {
     let before = files.asked().as_slice().len();
-    let ended = call(alloc, words, files, channels, note);
+    let ended = call(workers, words, files, channels, note);
     let output = last_lines(channels.output().taken(), last);
-    tell_call(alloc, told, &ended, files, before, output, note)?;
-    tell_left(alloc, told, channels)
+    tell_call(workers.alloc, told, &ended, files, before, output, note)?;
+    tell_left(workers.alloc, told, channels)
 }
 
 // A sink of this room whose listed writes fail.
@@ -191,6 +196,7 @@ impl Case {
             note: List::new(alloc),
             room: ROOM,
             last: None,
+            workers: 1,
             tokens: None,
         })
     }
@@ -271,6 +277,13 @@ impl Case {
                 self.last = text.parse::<u32>().ok();
                 Ok(self.last.is_some())
             }
+            "workers" => match text.parse::<u32>() {
+                Ok(workers) => {
+                    self.workers = workers;
+                    Ok(true)
+                }
+                Err(_) => Ok(false),
+            },
             "tokens" => {
                 self.tokens = text.parse::<u32>().ok();
                 Ok(self.tokens.is_some())
@@ -279,12 +292,18 @@ impl Case {
         }
     }
 
-    /// What the case comes to. Its sources are taken.
-    pub fn told(&mut self, alloc: Global) -> Result<Text, Memory> {
-        match self.tokens {
-            Some(file) => tell_tokens(alloc, file, self.source.as_slice()),
-            None => self.called(alloc),
+    /// What the case comes to. Its sources are taken. The threads of its workers are made by this.
+    pub fn told<R: Threads + Sync>(&mut self, threads: &R, alloc: Global) -> Result<Text, Memory> {
+        if let Some(file) = self.tokens {
+            return tell_tokens(alloc, file, self.source.as_slice());
         }
+        let workers = Workers {
+            threads,
+            alloc,
+            count: self.workers,
+            gate: &NoGate,
+        };
+        self.called(&workers)
     }
 
     // Ends the file whose lines came, and begins one with this name.
@@ -306,19 +325,20 @@ impl Case {
     }
 
     // Makes one of the calls, and tells how it ended.
-    fn call(
+    fn call<R: Threads + Sync>(
         &self,
-        alloc: Global,
+        workers: &Workers<'_, R, NoGate>,
         told: &mut Text,
         words: &[String],
         files: &mut MemFiles,
     ) -> Result<(), Memory> {
+        let alloc = workers.alloc;
         let source = MemSource::new(self.input.copy(alloc)?, self.reads.copy(alloc)?);
         let output = sink(alloc, self.room, &self.output)?;
         let mut channels = Channels::new(alloc, source, output);
         let mut note = sink(alloc, self.room, &self.note)?;
         called(
-            alloc,
+            workers,
             told,
             words,
             files,
@@ -329,15 +349,19 @@ impl Case {
     }
 
     // Makes the calls, and tells how each ended.
-    fn called(&mut self, alloc: Global) -> Result<Text, Memory> {
+    fn called<R: Threads + Sync>(
+        &mut self,
+        workers: &Workers<'_, R, NoGate>,
+    ) -> Result<Text, Memory> {
+        let alloc = workers.alloc;
         let mut files = self.files(alloc)?;
         let mut told = Text::new(alloc);
-        self.call(alloc, &mut told, self.words.as_slice(), &mut files)?;
+        self.call(workers, &mut told, self.words.as_slice(), &mut files)?;
         for words in self.others.as_slice() {
-            self.call(alloc, &mut told, words.as_slice(), &mut files)?;
+            self.call(workers, &mut told, words.as_slice(), &mut files)?;
         }
         if let Some(name) = &self.fronts {
-            tell_fronts(alloc, &mut told, files.held(name.as_str()))?;
+            tell_fronts(workers, &mut told, files.held(name.as_str()))?;
         }
         Ok(told)
     }

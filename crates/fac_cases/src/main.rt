@@ -25,6 +25,7 @@ use fac_base::{Memory, Text};
 use std::alloc::Global;
 use std::io;
 use std::io::ErrorKind;
+use std::thread::Threads;
 
 // The system's error for want of memory.
 fn no_memory() -> io::Error {
@@ -32,9 +33,14 @@ fn no_memory() -> io::Error {
 }
 
 // Takes a line, and tells what is to be told before it.
-fn told(alloc: Global, case: &mut Case, line: &str) -> Result<Text, Memory> {
+fn told<R: Threads + Sync>(
+    threads: &R,
+    alloc: Global,
+    case: &mut Case,
+    line: &str,
+) -> Result<Text, Memory> {
     if line.is_empty() {
-        let told = case.told(alloc)?;
+        let told = case.told(threads, alloc)?;
         *case = Case::new(alloc)?;
         return Ok(told);
     }
@@ -49,7 +55,7 @@ fn main(rt: HostRuntime) -> io::Result<()> {
     };
     for line in rt.lines(alloc) {
         let line = line?;
-        let Ok(text) = told(alloc, &mut case, line.as_str()) else {
+        let Ok(text) = told(&rt, alloc, &mut case, line.as_str()) else {
             return Err(no_memory());
         };
         rt.print(text.as_str())?;

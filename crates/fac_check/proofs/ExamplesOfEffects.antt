@@ -5,7 +5,7 @@ use Rattle.fac_base.specs.declared.height.Height.{Height}
 use Rattle.fac_lang.specs.declared.program.Program.{Program}
 use Rattle.fac_lang.specs.declared.program.Sort.TheVariants.{Body as body}
 use Rattle.fac_base.specs.Signatures.{Signature, signature, no_inputs, quoted, leaves}
-use Rattle.fac_lang.specs.Phrases.{int, end, Item, word, held, plain, of_phrase}
+use Rattle.fac_lang.specs.Phrases.{int, end, Item, held, plain, of_phrase}
 use Rattle.fac_lang.specs.Primitives.{prim_numbered}
 use Rattle.fac_lang.proofs.DemoPrelude.{word_of, shared_words, built_in_classes}
 use Rattle.fac_lang.proofs.DemoWords.{phrase, quotation, drop, + as plus, throw, call, if, own_number, own}

@@ -59,5 +59,6 @@ pub mod ExamplesOfAlone
 pub mod FewerInputs
 pub mod LeastHeights
 pub mod SearchLemmas
-pub mod EffectLists
+pub mod PieceLemmas
+pub mod Crossings
 mod ExamplesOfEffects

@@ -16,7 +16,6 @@ use Rattle.fac_abs.specs.SeenMarks.{MarksSeen, Grows, IsMark, mark_of, stack_of,
 use Rattle.fac_abs.specs.declared.reached.Reached.{Reached}
 use Rattle.fac_abs.specs.declared.reached.Reached.TheVariants.{Dead, On}
 use Rattle.fac_abs.specs.declared.rule.Rule.{Rule}
-use Rattle.fac_base.specs.declared.place.Place.{Place}
 use Rattle.fac_rows.specs.RowBinding.{Binding, tie, start_row, row_binding}
 use Rattle.fac_rows.specs.SeenBindings.{binding_seen, IsBinding, IsStart, IsTie}
 use Rattle.fac_rows.proofs.BindingLemmas.{binding_same}

@@ -2,7 +2,6 @@
 use Rattle.std.proofs.Common.{◌≡◌, ◌≢◌, ◌<◌, ◌≤◌, ◌+◌, ℕ, List, [], ◌∷◌, ◌++◌, length, Bool, true, false, Option, Some, None, refl, sym, ap, subst, ◌∙◌, arith}
 use Rattle.std.specs.Prelude.{nat_eq, not, ◌&&◌, slice_get}
 use Rattle.std.proofs.lemmas.Bool.{ne_eqb}
-use Rattle.fac_base.specs.declared.place.Place.{Place}
 use Rattle.fac_lang.specs.declared.phrase.Template.{Template}
 use Rattle.fac_lang.specs.declared.program.Program.{Program}
 use Rattle.fac_lang.specs.declared.program.WordDef.{WordDef}
@@ -31,7 +30,7 @@ use Rattle.fac_rows.proofs.NamingRows.{naming_for, naming_for_names}
 use Rattle.fac_check.specs.declared.refusal.Broken.{Broken}
 use Rattle.fac_check.specs.declared.walker.Walked.{Walked}
 use Rattle.fac_check.specs.Flow.{Walked as WalkedPhrase, most_steps, walk, doing, walked}
-use Rattle.fac_check.specs.Verdicts.{broken_at, end_of, kept_word, ordinary_verdict, row_verdict, top_verdict, inline_verdict, body_verdict, phrase_verdict, sort_verdict, head_rules, ruled_verdict, word_verdict, undeclared, bad_rows, bad_generic, no_generic_effect}
+use Rattle.fac_check.specs.Verdicts.{broken_at, end_of, kept_word, ordinary_verdict, row_verdict, top_verdict, inline_verdict, body_verdict, phrase_verdict, sort_verdict, ruled_verdict, word_verdict, undeclared, bad_rows, bad_generic, no_generic_effect}
 use Rattle.fac_check.specs.inner.Walking.{Opened, NamesTemplate, items_of, walked_seen, go_at}
 use Rattle.fac_check.specs.inner.Alone.{placed_alone}
 use Rattle.fac_check.specs.inner.OwnEffects.{effect_where, own_effect}

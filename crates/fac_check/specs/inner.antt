@@ -9,3 +9,4 @@ pub mod UndeclaredRecursion
 pub mod Alone
 pub mod BrokenRules
 pub mod Searching
+pub mod Pieces

@@ -6,12 +6,15 @@ ghost use Rattle.fac_check.specs.Checks.{IsKept, Gathers};
 
 use crate::Checked;
 use crate::checker::{Verdict, word_broken};
+use crate::pieces::word_pieces;
 use crate::recursion::undeclared_words;
 use crate::refusal::Refusal;
 use fac_base::{List, Memory};
 use fac_locals::Closed;
+use fac_par::{Gate, Workers, map_pieces};
 use fac_rows::RowWords;
 use std::alloc::Global;
+use std::thread::Threads;
 
 // The flag of a word.
 fn flag(flags: &List<bool>, number: u32) -> bool
@@ -51,20 +54,20 @@ pub fn check_word(
     }
 }
 
-/// The verdicts on all words, in their order. An ordinary word is walked from the inputs that its effect declares, the top-level phrase from
-/// as many unknown values as the closed program says, and a row word from its input row, where each quotation input does what its effect
-/// declares. An expanded word is walked where it is used.
-pub fn check_words(alloc: Global, closed: &Closed) -> Result<List<Verdict>, Memory>
+/// The verdicts on all words, in their order, for every number of workers and every gate. An ordinary word is walked from the inputs that its effect
+/// declares, the top-level phrase from as many unknown values as the closed program says, and a row word from its input row, where each quotation
+/// input does what its effect declares. An expanded word is walked where it is used. The piece of a word has the word's number.
+pub fn check_words<R: Threads + Sync, G: Gate + Sync>(
+    workers: &Workers<'_, R, G>,
+    closed: &Closed,
+) -> Result<List<Verdict>, Memory>
     requires { StandsForWhole closed.now }
     ensures { IfOk result (AreVerdicts closed.now) }
 {
-    let undeclared = undeclared_words(alloc, closed)?;
-    let rows = RowWords::new(alloc, &closed.program.words)?;
-    let mut verdicts = List::new(alloc);
-    for number in 0..closed.program.words.len() {
-        verdicts.push(check_word(alloc, closed, &rows, &undeclared, number)?)?;
-    }
-    Ok(verdicts)
+    let undeclared = undeclared_words(workers.alloc, closed)?;
+    let rows = RowWords::new(workers.alloc, &closed.program.words)?;
+    let pieces = word_pieces(workers.alloc, closed, &rows, &undeclared)?;
+    map_pieces(workers, pieces.as_slice())
 }
 
 /// The first refusal among the verdicts on words in their order. None where all are accepted.

@@ -7,6 +7,7 @@ mod checker;
 mod doing;
 mod judge;
 mod laws;
+mod pieces;
 mod recursion;
 mod refusal;
 mod searching;

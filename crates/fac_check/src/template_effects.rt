@@ -4,12 +4,15 @@ ghost use Rattle.fac_rows.specs.NumberedRows.{row_entry};
 ghost use Rattle.fac_check.specs.Judged.{StandsForWhole};
 ghost use Rattle.fac_check.specs.TemplateEffects.{AreEffects, IsEffect, within_outs};
 
+use crate::pieces::template_pieces;
 use crate::searching::least;
 use fac_base::limits::MOST_CALLABLE_VALUES;
 use fac_base::{Height, List, Memory};
 use fac_locals::Closed;
+use fac_par::{NoGate, Workers, map_pieces};
 use fac_rows::RowWords;
 use std::alloc::Global;
+use std::thread::Threads;
 
 // A height, where no more values are left than a callable may leave.
 fn within(height: Height) -> Option<Height>
@@ -26,8 +29,8 @@ fn within(height: Height) -> Option<Height>
     }
 }
 
-// That of the template with this number.
-fn effect(
+/// That of the template with this number.
+pub fn effect(
     alloc: Global,
     closed: &Closed,
     rows: &RowWords,
@@ -46,15 +49,22 @@ fn effect(
 
 /// The effects of the templates, in their order: of each callable that a template makes, whatever values it holds for what it captures and for
 /// its holes, the least number of inputs up to 1,024 from which its phrase breaks no rule of the checker, and how many values it leaves then.
-/// None where there is no such number, or where more than a million values are left. Each is found by a few walks of its phrase.
-pub fn effects(alloc: Global, closed: &Closed) -> Result<List<Option<Height>>, Memory>
+/// None where there is no such number, or where more than a million values are left. Each is found by a few walks of its phrase. They are the same
+/// for every number of workers, and no gate is told of them.
+pub fn effects<R: Threads + Sync, G>(
+    workers: &Workers<'_, R, G>,
+    closed: &Closed,
+) -> Result<List<Option<Height>>, Memory>
     requires { StandsForWhole closed.now }
     ensures { IfOk result (AreEffects closed.now) }
 {
-    let rows = RowWords::new(alloc, &closed.program.words)?;
-    let mut heights = List::new(alloc);
-    for number in 0..closed.templates.len() {
-        heights.push(effect(alloc, closed, &rows, number)?)?;
-    }
-    Ok(heights)
+    let rows = RowWords::new(workers.alloc, &closed.program.words)?;
+    let pieces = template_pieces(workers.alloc, closed, &rows)?;
+    let untold = Workers {
+        threads: workers.threads,
+        alloc: workers.alloc,
+        count: workers.count,
+        gate: &NoGate,
+    };
+    map_pieces(&untold, pieces.as_slice())
 }

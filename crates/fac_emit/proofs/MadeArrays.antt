@@ -1,5 +1,5 @@
 -- The literal arrays of an image of plain code are made as those of its program.
-use Rattle.std.proofs.Common.{◌≡◌, ℕ, suc, List, [], ◌∷◌, ◌++◌, length, Option, refl, ap, sym, subst, ◌∙◌, arith}
+use Rattle.std.proofs.Common.{◌≡◌, ℕ, suc, List, [], ◌∷◌, ◌++◌, length, true, false, Option, refl, ap, sym, subst, ◌∙◌, arith}
 use Rattle.std.proofs.lemmas.List.{length-map}
 use Rattle.std.specs.Prelude.{map}
 use Rattle.fac_base.specs.declared.height.Height.{Height}
@@ -10,7 +10,7 @@ use Rattle.fac_lang.specs.Phrases.{str, Literal, Phrase, quot, Value, plain, fun
 use Rattle.fac_lang.specs.World.{Object, array, World}
 use Rattle.fac_lang.specs.Printed.{or_empty}
 use Rattle.fac_lang.proofs.SourcePrograms.{IsSessionProgram, IsElementOf, AreElementsOf, AreArraysOf, may_name}
-use Rattle.fac_lang.specs.Meaning.{array_method, of_method_if, literal_value, with_arrays as meaning_arrays, start}
+use Rattle.fac_lang.specs.Meaning.{array_method, is_top_phrase, of_method_if, literal_value, with_arrays as meaning_arrays, start}
 use Rattle.fac_locals.specs.Literals.{Quoted, behind, first_in_array, element_item}
 use Rattle.fac_locals.specs.Closed.{IsMadeBy, Closes, ClosesElement, CloseElements, CloseArrays}
 use Rattle.fac_locals.specs.declared.closing.Closed.{Closed}
@@ -61,7 +61,7 @@ module _ (P : Program) (C : Closed) (heights : List (Option Height)) (M : Image)
       let parts = first_element C h.0 h.1 (subst (λ (xs : List Lit). AreAmong (program_texts C) (own_elements_texts xs)) h.2 named) in
       rw h.2 (rw (element_made m addresses at l h.0 h.3 parts.0, elements_made m addresses (behind at (element_item m l)) ls h.1 h.4 parts.1) refl)
 
-  same_made : (a : ℕ) (lss css : List (List Lit)) → CloseArrays P a lss css → AreAmong (program_texts C) (arrays_texts css) → (w : World MValue) → world_view T (with_arrays M (map (elems_of C) css) w) ≡ meaning_arrays P a lss (world_view T w)
+  pub same_made : (a : ℕ) (lss css : List (List Lit)) → CloseArrays P a lss css → AreAmong (program_texts C) (arrays_texts css) → (w : World MValue) → world_view T (with_arrays M (map (elems_of C) css) w) ≡ meaning_arrays P a lss (world_view T w)
   same_made a [] css h named w = rw h refl
   same_made a (ls ∷ lss) css h named w =
       let m = array_method P (length P.arrays) a in
@@ -76,37 +76,39 @@ module _ (P : Program) (C : Closed) (heights : List (Option Height)) (M : Image)
       ∙ ap (λ (n : ℕ). record (world_view T w) { objects = map (object_view T) w.objects ++ array (map (literal_value P w.literals m) ls) ∷ []; literals = w.literals ++ n ∷ [] }) count in
       rw h.3 (same_made (suc a) lss h.2 h.5 parts.1 w' ∙ ap (meaning_arrays P (suc a) lss) view)
 
-  -- callables in arrays are of the image's templates
-  template_whole : (i : ℕ) (is : List ℕ) (at : Literal) (u : Phrase) (q : ℕ) → at.around ≡ i ∷ is → IsMadeBy P [] at (quot u) q → Whole P M (m_fun (m_lit q none_kept))
-  template_whole i is at u q around e =
-      let l : Quoted = record { at = at; cells = []; item = quot u } in
-      let row = listed_row P C closes heights M.code M.templates is_plain.code is_plain.template_rows_are q l (is_listed_in_array P q l i is around e) in
-      let cells : length row.row.cells ≡ 0 = ap length row.cells in
-      let holes : row.row.holes ≡ 0 = row.holes in
-      (row.row, row.there, omega (arith, cells, holes), tt)
+  -- Of the program, and of each of whose top-level phrases none is a word that the program's phrases may name.
+  module _ (R : Program) (spares : (w : ℕ) → may_name P w ≡ true → is_top_phrase R w ≡ false) where
+    -- callables in arrays are of the image's templates
+    template_whole : (i : ℕ) (is : List ℕ) (at : Literal) (u : Phrase) (q : ℕ) → at.around ≡ i ∷ is → IsMadeBy P [] at (quot u) q → Whole R M (m_fun (m_lit q none_kept))
+    template_whole i is at u q around e =
+        let l : Quoted = record { at = at; cells = []; item = quot u } in
+        let row = listed_row P C closes heights M.code M.templates is_plain.code is_plain.template_rows_are q l (is_listed_in_array P q l i is around e) in
+        let cells : length row.row.cells ≡ 0 = ap length row.cells in
+        let holes : row.row.holes ≡ 0 = row.holes in
+        (row.row, row.there, omega (arith, cells, holes), tt)
 
-  element_whole : (m : Option ℕ) (addresses : List ℕ) (i : ℕ) (is : List ℕ) (at : Literal) (l c : Lit) → at.around ≡ i ∷ is → IsElementOf (may_name P) l → ClosesElement P m at l c → Whole P M (element_value M addresses (elem_of C c))
-  element_whole m addresses i is at (l_int z) c around g h = rw h tt
-  element_whole m addresses i is at l_yes c around g h = rw h tt
-  element_whole m addresses i is at l_no c around g h = rw h tt
-  element_whole m addresses i is at (l_str bs) c around g h = rw h tt
-  element_whole m addresses i is at (l_arr a) c around g h = rw h tt
-  element_whole m addresses i is at (l_word w) c around g h = rw h (may_name_no_phrase P w g)
-  element_whole m addresses i is at (l_quot t) c around g h = rw h.1 (template_whole i is at _ h.0 around h.2)
-  element_whole m addresses i is at (l_made k) c around g h = absurd h
+    element_whole : (m : Option ℕ) (addresses : List ℕ) (i : ℕ) (is : List ℕ) (at : Literal) (l c : Lit) → at.around ≡ i ∷ is → IsElementOf (may_name P) l → ClosesElement P m at l c → Whole R M (element_value M addresses (elem_of C c))
+    element_whole m addresses i is at (l_int z) c around g h = rw h tt
+    element_whole m addresses i is at l_yes c around g h = rw h tt
+    element_whole m addresses i is at l_no c around g h = rw h tt
+    element_whole m addresses i is at (l_str bs) c around g h = rw h tt
+    element_whole m addresses i is at (l_arr a) c around g h = rw h tt
+    element_whole m addresses i is at (l_word w) c around g h = rw h (spares w g)
+    element_whole m addresses i is at (l_quot t) c around g h = rw h.1 (template_whole i is at _ h.0 around h.2)
+    element_whole m addresses i is at (l_made k) c around g h = absurd h
 
-  elements_whole : (m : Option ℕ) (addresses : List ℕ) (i : ℕ) (is : List ℕ) (at : Literal) (ls cs : List Lit) → at.around ≡ i ∷ is → AreElementsOf (may_name P) ls → CloseElements P m at ls cs → AllWhole P M (map (element_value M addresses) (elems_of C cs))
-  elements_whole m addresses i is at [] cs around g h = rw h tt
-  elements_whole m addresses i is at (l ∷ ls) cs around g h = rw h.2 (element_whole m addresses i is at l h.0 around g.0 h.3, elements_whole m addresses i is (behind at (element_item m l)) ls h.1 around g.1 h.4)
+    elements_whole : (m : Option ℕ) (addresses : List ℕ) (i : ℕ) (is : List ℕ) (at : Literal) (ls cs : List Lit) → at.around ≡ i ∷ is → AreElementsOf (may_name P) ls → CloseElements P m at ls cs → AllWhole R M (map (element_value M addresses) (elems_of C cs))
+    elements_whole m addresses i is at [] cs around g h = rw h tt
+    elements_whole m addresses i is at (l ∷ ls) cs around g h = rw h.2 (element_whole m addresses i is at l h.0 around g.0 h.3, elements_whole m addresses i is (behind at (element_item m l)) ls h.1 around g.1 h.4)
 
-  all_whole : (a : ℕ) (lss css : List (List Lit)) → AreArraysOf (may_name P) lss → CloseArrays P a lss css → (w : World MValue) → WholeObjects P M w.objects → WholeObjects P M (with_arrays M (map (elems_of C) css) w).objects
-  all_whole a [] css g h w os = rw h os
-  all_whole a (ls ∷ lss) css g h w os =
-      let m = array_method P (length P.arrays) a in
-      let first = has_first h.0.around h.0.index in
-      let own = elements_whole m w.literals first.0 first.1 (first_in_array h.0) ls h.1 first.2 g.0 h.4 in
-      let made : Object MValue = array (map (element_value M w.literals) (elems_of C h.1)) in
-      rw h.3 (all_whole (suc a) lss h.2 g.1 h.5 (record w { objects = w.objects ++ made ∷ []; literals = w.literals ++ length w.objects ∷ [] }) (object_added P M w.objects made os own))
+    pub all_whole : (a : ℕ) (lss css : List (List Lit)) → AreArraysOf (may_name P) lss → CloseArrays P a lss css → (w : World MValue) → WholeObjects R M w.objects → WholeObjects R M (with_arrays M (map (elems_of C) css) w).objects
+    all_whole a [] css g h w os = rw h os
+    all_whole a (ls ∷ lss) css g h w os =
+        let m = array_method P (length P.arrays) a in
+        let first = has_first h.0.around h.0.index in
+        let own = elements_whole m w.literals first.0 first.1 (first_in_array h.0) ls h.1 first.2 g.0 h.4 in
+        let made : Object MValue = array (map (element_value M w.literals) (elems_of C h.1)) in
+        rw h.3 (all_whole (suc a) lss h.2 g.1 h.5 (record w { objects = w.objects ++ made ∷ []; literals = w.literals ++ length w.objects ∷ [] }) (object_added R M w.objects made os own))
 
   -- The world before the first item.
   pub record FirstWorld (input : List ℕ) : Type 0 where
@@ -118,5 +120,5 @@ module _ (P : Program) (C : Closed) (heights : List (Option Height)) (M : Image)
       let empty : World MValue = record { objects = []; literals = []; input = input; asked = 0; output = [] } in
       record {
         same = ap (λ (ess : List (List Elem)). world_view T (with_arrays M ess empty)) is_plain.arrays ∙ same_made 0 P.arrays C.program.arrays closes.arrays (all_arrays_named C) empty;
-        whole = subst (λ (ess : List (List Elem)). WholeObjects P M (with_arrays M ess empty).objects) (sym is_plain.arrays) (all_whole 0 P.arrays C.program.arrays b.arrays_from_source closes.arrays empty tt);
+        whole = subst (λ (ess : List (List Elem)). WholeObjects P M (with_arrays M ess empty).objects) (sym is_plain.arrays) (all_whole P (may_name_no_phrase P) 0 P.arrays C.program.arrays b.arrays_from_source closes.arrays empty tt);
       }

@@ -73,7 +73,7 @@ module _ (P Q : Program) (F : GoesOn P Q) where
     row_same false true w t e b ms = refl
     row_same false false w t e b ms = refl
 
-    inline_same : (i : Bool) (w : ℕ) (d : WordDef) (t : Phrase) (b : Option Row) (ms : List Mark) → inline_doing P own i w d t b ms ≡ inline_doing Q own i w d t b ms
+    pub inline_same : (i : Bool) (w : ℕ) (d : WordDef) (t : Phrase) (b : Option Row) (ms : List Mark) → inline_doing P own i w d t b ms ≡ inline_doing Q own i w d t b ms
     inline_same true w d t b ms = row_same _ _ w t d.effect b ms
     inline_same false w d t b ms = refl
 

@@ -210,9 +210,11 @@ places_are P Q p q F =
 same_literal : (P Q : Program) (o : Option Quoted) (k : ℕ) (l : Quoted) → o ≡ Some l → literal_or Q k o ≡ literal_or P k o
 same_literal P Q o k l e = ap (literal_or Q k) e ∙ sym (ap (literal_or P k) e)
 
-pub templates_are : TemplatesStay
-templates_are P Q p q F k lt is =
+pub numbered_are : (P Q : Program) → IsWhole P → IsWhole Q → IsLonger P Q → (k : ℕ) → k < length (literals P) → literal_numbered Q k ≡ literal_numbered P k
+numbered_are P Q p q F k lt =
     let more = literals_are P Q p q F in
     let there = found (literals P) k lt in
-    let same : literal_numbered Q k ≡ literal_numbered P k = ap (λ (ls : List Quoted). literal_or Q k (slice_get ls k)) more.1 ∙ ap (literal_or Q k) (front_there (literals P) more.0 k lt) ∙ same_literal P Q (slice_get (literals P) k) k there.0 there.1 in
-    ap (λ (l : Quoted). filled (inner_cells l.cells l.item) is (inner_phrase l.item)) same
+    ap (λ (ls : List Quoted). literal_or Q k (slice_get ls k)) more.1 ∙ ap (literal_or Q k) (front_there (literals P) more.0 k lt) ∙ same_literal P Q (slice_get (literals P) k) k there.0 there.1
+
+pub templates_are : TemplatesStay
+templates_are P Q p q F k lt is = ap (λ (l : Quoted). filled (inner_cells l.cells l.item) is (inner_phrase l.item)) (numbered_are P Q p q F k lt)

@@ -28,8 +28,9 @@ use Rattle.fac_check.proofs.UndeclaredWords.{InlineWord, words_inline, edges, le
 use Rattle.fac_graph.proofs.NumberLists.{some_same}
 use Rattle.fac_graph.proofs.PathLemmas.{short_paths}
 use Rattle.fac_longer.specs.Longer.{GoesOn}
-use Rattle.fac_lang.specs.LongerPrograms.{as_earlier, with_earlier}
+use Rattle.fac_lang.specs.LongerPrograms.{IsLonger, as_earlier, with_earlier}
 use Rattle.fac_longer.specs.Laws.{VerdictsStay}
+use Rattle.fac_longer.proofs.LongerPrograms.{earlier, phrase_at, goes_on}
 use Rattle.fac_longer.proofs.Staying.{found_stays}
 
 no_truth : {A : Type 0} → true ≡ false → A
@@ -255,22 +256,15 @@ past_accepted R n w c t is =
     first_keeps R (undeclared R w c) UndeclaredRecursion (later_rules R w c) n w c none
     (first_keeps R (bad_rows R w c) RowDeclaration (last_rule c) n w c rows (first_keeps R (bad_generic c.sort c.effect) MethodEffect [] n w c generics walk))
 
-earlier_at : (n : ℕ) (ds more : List WordDef) (d : WordDef) → slice_get ds n ≡ Some d →
-    slice_get (with_earlier n ds ++ more) n ≡ Some (record { name = d.name; sort = as_earlier d.sort; effect = d.effect; inline = d.inline; recursive = d.recursive; place = d.place })
-earlier_at n [] more d e = absurd (cc)
-earlier_at zero (x ∷ ds) more d e = let same : x ≡ d = cc in ap (λ (y : WordDef). Some (record { name = y.name; sort = as_earlier y.sort; effect = y.effect; inline = y.inline; recursive = y.recursive; place = y.place })) same
-earlier_at (suc n) (x ∷ ds) more d e = earlier_at n ds more d e
-
-pub verdicts_stay : VerdictsStay
-verdicts_stay P Q p q F G m n w d c at there h = by (nat_eq w P.top) refl
+stays_by : (P Q : Program) → IsWhole P → IsLonger P Q → GoesOn P Q → (m n w : ℕ) (d c : WordDef) → slice_get P.words w ≡ Some d → slice_get Q.words w ≡ Some c → word_verdict P m w d ≡ None → word_verdict Q n w c ≡ None
+stays_by P Q p F G m n w d c at there h = by (nat_eq w P.top) refl
   where
     by : (x : Bool) → nat_eq w P.top ≡ x → word_verdict Q n w c ≡ None
     by true e =
         let same : w ≡ P.top = grind arith in
         let phrase = G.phrase w d at e in
-        let earlier : WordDef = record { name = d.name; sort = as_earlier d.sort; effect = d.effect; inline = d.inline; recursive = d.recursive; place = d.place } in
-        let found : slice_get Q.words w ≡ Some earlier = ap (λ (ds : List WordDef). slice_get ds w) F.words_are ∙ subst (λ (k : ℕ). slice_get (with_earlier k P.words ++ F.more_words) w ≡ Some earlier) same (earlier_at w P.words F.more_words d at) in
-        let is : c ≡ earlier = some_same c earlier (sym there ∙ found) in
+        let found : slice_get Q.words w ≡ Some (earlier d) = ap (λ (ds : List WordDef). slice_get ds w) F.words_are ∙ subst (λ (k : ℕ). slice_get (with_earlier k P.words ++ F.more_words) w ≡ Some (earlier d)) same (phrase_at w P.words F.more_words d at) in
+        let is : c ≡ earlier d = some_same c (earlier d) (sym there ∙ found) in
         past_accepted Q n w c phrase.0 (ap (λ (x : WordDef). x.sort) is ∙ ap as_earlier phrase.1)
     by false e =
         let over = G.below w d at in
@@ -282,3 +276,6 @@ verdicts_stay P Q p q F G m n w d c at there h = by (nat_eq w P.top) refl
         (first_keeps Q (undeclared Q w d) UndeclaredRecursion (later_rules Q w d) n w d (undeclared_stays P Q p G w d at e first.0)
         (first_keeps Q (bad_rows Q w d) RowDeclaration (last_rule d) n w d (rows_stay P Q G w d e over ∙ second.0)
         (first_keeps Q (bad_generic d.sort d.effect) MethodEffect [] n w d third.0 (sort_stays P Q G m n w d d.sort e over third.1))))
+
+pub verdicts_stay : VerdictsStay
+verdicts_stay P Q p q F m n w d c at there h = stays_by P Q p F (goes_on P Q p q F) m n w d c at there h

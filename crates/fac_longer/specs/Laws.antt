@@ -11,6 +11,10 @@ use Rattle.fac_locals.specs.Frames.{template_phrase}
 use Rattle.fac_check.specs.Verdicts.{word_verdict}
 use Rattle.fac_longer.specs.Longer.{GoesOn}
 
+-- A longer program goes on with the first, as far as a walk asks.
+abbrev pub LongerGoesOn : Type 0
+LongerGoesOn = (P Q : Program) → IsWhole P → IsWhole Q → IsLonger P Q → GoesOn P Q
+
 -- Its literals are those of the first, and others behind them.
 abbrev pub LiteralsStay : Type 0
 LiteralsStay = (P Q : Program) → IsWhole P → IsWhole Q → IsLonger P Q → (more : List Quoted) × (literals Q ≡ literals P ++ more)
@@ -26,5 +30,4 @@ TemplatesStay = (P Q : Program) → IsWhole P → IsWhole Q → IsLonger P Q →
 -- Each word of the first that is accepted there is accepted in the second, where the phrase of the first is an earlier one, whatever numbers of values the two phrases start on.
 abbrev pub VerdictsStay : Type 0
 VerdictsStay =
-    (P Q : Program) → IsWhole P → IsWhole Q → IsLonger P Q → GoesOn P Q → (m n w : ℕ) (d c : WordDef) → slice_get P.words w ≡ Some d → slice_get Q.words w ≡ Some c →
-    word_verdict P m w d ≡ None → word_verdict Q n w c ≡ None
+    (P Q : Program) → IsWhole P → IsWhole Q → IsLonger P Q → (m n w : ℕ) (d c : WordDef) → slice_get P.words w ≡ Some d → slice_get Q.words w ≡ Some c → word_verdict P m w d ≡ None → word_verdict Q n w c ≡ None

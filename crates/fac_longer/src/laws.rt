@@ -1,6 +1,11 @@
 //! Laws of longer programs, each on the contract of a function that does nothing.
 ghost use Rattle.fac_longer.specs.Longer.{FoundStays};
-ghost use Rattle.fac_longer.specs.Laws.{LiteralsStay, PlacesStay, TemplatesStay, VerdictsStay};
+ghost use Rattle.fac_longer.specs.Laws.{LiteralsStay, LongerGoesOn, PlacesStay, TemplatesStay, VerdictsStay};
+
+/// A longer program goes on with the first, as far as a walk asks.
+pub fn longer_goes_on()
+    ensures { LongerGoesOn }
+{}
 
 /// What a walk found in a program, it finds in each that goes on with it.
 pub fn found_stays()

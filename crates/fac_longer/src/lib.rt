@@ -3,4 +3,6 @@
 
 mod laws;
 
-pub use laws::{found_stays, literals_stay, places_stay, templates_stay, verdicts_stay};
+pub use laws::{
+    found_stays, literals_stay, longer_goes_on, places_stay, templates_stay, verdicts_stay,
+};

@@ -25,8 +25,7 @@ use Rattle.fac_endings.specs.declared.draft.Late.{Late}
 use Rattle.fac_endings.specs.declared.draft.Late.TheVariants.{Deferred as deferred}
 use Rattle.fac_items.proofs.ArrayNumbers.{Adds, below, held_times, times_both}
 use Rattle.fac_names.proofs.BuiltScopes.{EntriesBelow}
-use Rattle.fac_names.proofs.Staying.{all_spare, spares}
-use Rattle.fac_names.proofs.EntryLemmas.{Ascending, both_are, first_and, second_and, none_of, backward, entry_spares, out_spared, greater_other, now_spared, exactly, first_found, found_spares, ascending_with, ascending_defined, known_spare}
+use Rattle.fac_names.proofs.EntryLemmas.{Ascending, all_spare, spares, both_are, first_and, second_and, none_of, backward, entry_spares, out_spared, greater_other, now_spared, exactly, first_found, found_spares, ascending_with, ascending_defined, known_spare}
 
 -- What a word names.
 

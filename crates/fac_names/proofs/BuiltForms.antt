@@ -28,13 +28,13 @@ use Rattle.fac_endings.specs.declared.draft.Named.TheVariants.{Tuple as a_tuple,
 use Rattle.fac_endings.specs.declared.draft.NewClass.{NewClass}
 use Rattle.fac_endings.proofs.Apart.{and_true}
 use Rattle.fac_endings.proofs.EndedClasses.{class_in, is_new_sort, late_in, own_few}
-use Rattle.fac_names.specs.Forms.{Numbered, Reading, accessor, added, bring_one, bringing_one, class_form, class_words, counted, declared_effect, declared_late, defining, in_table, making, most_classes, option_list, own, plainly, refused, scoped, take, told, use_one, with_slot, with_told}
+use Rattle.fac_names.specs.Forms.{accessor_text, Numbered, Reading, accessor, added, bring_one, bringing_one, class_form, class_words, counted, declared_effect, declared_late, defining, in_table, making, most_classes, option_list, own, plainly, refused, scoped, take, told, use_one, with_slot, with_told}
 use Rattle.fac_names.proofs.ArrayReadings.{Begins, added_begins, names_by, refused_counted}
 use Rattle.fac_names.proofs.BuiltScopes.{WordIn, word_in_held, word_of_in}
 use Rattle.fac_names.proofs.Fronts.{Covers, is_found}
 use Rattle.fac_names.proofs.BuiltReadings.{Built, IsBuiltLate, IsTold, Keeps, first_found, one_class_more, refused_built, scope_covered, scoped_built, table_below, told_built, told_keeps, with_class, with_main, with_top, with_word}
 use Rattle.fac_names.proofs.BuiltPhrases.{append_built, phrase_built}
-use Rattle.fac_names.proofs.HeldNames.{WordHeld, accessor_text, held_new, no_accessor, word_kept}
+use Rattle.fac_names.proofs.HeldNames.{WordHeld, held_new, no_accessor, word_kept}
 use Rattle.fac_names.proofs.DefinedNames.{none_before, none_before, stays_then, keeps_refused, NameHeld, changed_here, with_no_entry, new_defined, own_built, deferring_built}
 
 -- What files use.

@@ -18,7 +18,8 @@ use Rattle.fac_endings.specs.declared.draft.Draft.{Draft}
 use Rattle.fac_endings.specs.declared.draft.NewClass.{NewClass}
 use Rattle.fac_endings.specs.ClassTable.{class_of, name_of}
 use Rattle.fac_endings.proofs.Apart.{and_true, or_false, true_both}
-use Rattle.fac_names.proofs.HeldNames.{AccessorAt, NewHeld, OldHeld, WordHeld, accessor_text}
+use Rattle.fac_names.specs.Forms.{accessor_text}
+use Rattle.fac_names.proofs.HeldNames.{AccessorAt, NewHeld, OldHeld, WordHeld}
 
 -- Elements that are unlike at any two numbers.
 

@@ -1,19 +1,25 @@
 -- Entries of tables: which of them are only deferred, and that their words ascend.
 use Rattle.std.proofs.Common.{◌≡◌, ◌≤◌, ◌<◌, ◌+◌, ℕ, suc, List, [], ◌∷◌, ◌++◌, Option, Some, Bool, true, false, cond, refl, ap, sym, ◌∙◌, subst, arith}
 use Rattle.std.specs.Prelude.{◌&&◌, ◌||◌, not, nat_eq}
-use Rattle.std.specs.List.{find, filter}
+use Rattle.std.specs.List.{find, filter, list_all}
 use Rattle.std.specs.Str.{bytes_eq}
 use Rattle.std.proofs.lemmas.Slice.Eq.{bytes_eq-Decides}
 use Rattle.fac_lang.specs.declared.program.WordDef.{WordDef}
 use Rattle.fac_vocab.specs.declared.entry.Entry.{Entry}
 use Rattle.fac_vocab.specs.Scopes.{entries_from, now_defined, same_table}
 use Rattle.fac_names.proofs.BuiltScopes.{EntriesBelow}
-use Rattle.fac_names.proofs.Staying.{all_spare, spares}
 
 -- the words of entries ascend
 abbrev pub Ascending : ℕ → List Entry → Type 0
 Ascending least [] = Unit {0}
 Ascending least (e ∷ es) = (least ≤ e.word) × Ascending (suc e.word) es
+
+-- whether an entry leaves word w as it is: it is defined, or of another word
+abbrev pub spares : ℕ → Entry → Bool
+spares w e = e.is_defined || not (nat_eq e.word w)
+
+abbrev pub all_spare : ℕ → List Entry → Bool
+all_spare w table = list_all (spares w) table
 
 -- Truth values.
 

@@ -17,8 +17,7 @@ use Rattle.fac_endings.specs.declared.draft.Draft.{Draft}
 use Rattle.fac_endings.specs.declared.draft.Late.{Late}
 use Rattle.fac_endings.specs.declared.draft.Late.TheVariants.{Settled as settled, Deferred as deferred}
 use Rattle.fac_endings.specs.declared.draft.NewClass.{NewClass}
-use Rattle.fac_names.specs.Forms.{at_place, changed}
-pub use Rattle.fac_names.specs.KnownPrograms.{accessor_text}
+use Rattle.fac_names.specs.Forms.{accessor_text, at_place, changed}
 
 the_same : {A : Type 0} (x y : A) → Some x ≡ Some y → x ≡ y
 the_same x y h = cc

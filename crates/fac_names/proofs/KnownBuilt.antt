@@ -29,7 +29,8 @@ use Rattle.fac_names.proofs.BuiltForms.{BuiltUp, up}
 use Rattle.fac_names.proofs.BuiltReadings.{DraftsBuilt, draft_ok}
 use Rattle.fac_names.proofs.BuiltScopes.{EntriesIn}
 use Rattle.fac_names.proofs.Fronts.{Fronted, found_by, is_found, new_apart, new_spares, new_stand}
-use Rattle.fac_names.proofs.HeldNames.{AccessorsHeld, AreNamed, ClassHeld, OldHeld, accessor_text, name_at, no_accessor}
+use Rattle.fac_names.specs.Forms.{accessor_text}
+use Rattle.fac_names.proofs.HeldNames.{AccessorsHeld, AreNamed, ClassHeld, OldHeld, name_at, no_accessor}
 
 -- Words.
 

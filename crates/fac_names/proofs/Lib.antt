@@ -1,5 +1,3 @@
-pub mod Growing
-pub mod Staying
 pub mod DraftLemmas
 pub mod ReadingLemmas
 pub mod ClassLemmas
@@ -27,16 +25,5 @@ pub mod Distinct
 pub mod WholePrograms
 pub mod Together
 pub mod BuiltPrograms
-pub mod GoingOn
-pub mod KnownBehind
-pub mod LongerPrograms
 pub mod TakenLemmas
-pub mod WrittenSources
-pub mod ExamplesOfNames
-pub mod ExamplesOfClasses
-pub mod ExamplesOfLocals
-pub mod ExamplesOfCalls
-pub mod SignLemmas
 pub mod TextLemmas
-pub mod FoundNames
-pub mod MeaningLemmas

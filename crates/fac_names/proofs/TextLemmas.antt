@@ -1,7 +1,6 @@
 -- Forms of a text that are taken one behind the other, behind what is known.
 use Rattle.std.proofs.Common.{◌≡◌, List, [], ◌∷◌, ◌++◌, map, fold, Option, Result, Ok, Err, false, true, ap, sym, ◌∙◌}
 use Rattle.std.proofs.lemmas.List.Sums.{fold-append}
-use Rattle.std.specs.Prelude.{IfOk}
 use Rattle.fac_lang.specs.Phrases.{end}
 use Rattle.fac_lang.specs.RunningLaws.{append}
 use Rattle.fac_lang.specs.declared.program.Program.{Program}
@@ -13,7 +12,6 @@ use Rattle.fac_parse.specs.Trees.{AreWellFormed, IsWellFormed}
 use Rattle.fac_vocab.specs.Scopes.{Scope}
 use Rattle.fac_names.specs.Forms.{Reading, take_file}
 use Rattle.fac_names.specs.FromFlat.{form_of}
-use Rattle.fac_names.specs.KnownPrograms.{IsKnown}
 use Rattle.fac_names.specs.Resolution.{first_reading}
 use Rattle.fac_names.specs.Resolved.{Known, answer, beginning, first_fault, going_on, program_of, read_files}
 use Rattle.fac_names.specs.TakenForms.{HasTaken, take_flat, taken}
@@ -24,7 +22,6 @@ use Rattle.fac_names.specs.inner.Ended.{EndsKnown, EndsText}
 use Rattle.fac_names.specs.inner.State.{reading_of}
 use Rattle.fac_names.specs.inner.Taking.{take_all}
 use Rattle.fac_names.proofs.FileLemmas.{files_taken, forms_taken}
-use Rattle.fac_names.proofs.KnownBehind.{files_are_known, known_goes_on}
 
 -- before the first form
 pub none_gone : (k : Known) (now : TextResolver) → reading_of now.so_far ≡ beginning k → HasGoneOn k [] now
@@ -52,13 +49,6 @@ pub gone_ends : (now : TextResolver) (e : Result Known ResolveFault) → EndsTex
 unfolding HasGoneOn
 gone_ends now e ends k forms fits h = text_answers k forms (reading_of now.so_far) e (h ∙ sym (forms_taken forms (beginning k) fits)) ends
 
-goes_on_known : (k : Known) (forms : List Flat) (e : Result Known ResolveFault) → IsWellFormed forms → IsKnown k → Knows (going_on k forms) e → IfOk e (λ q. IsKnown q)
-goes_on_known k forms (Ok q) fits known h = known_goes_on k q forms fits known h
-goes_on_known k forms (Err f) fits known h = tt
-
-pub gone_known : (now : TextResolver) (e : Result Known ResolveFault) → EndsText (reading_of now.so_far) e → (k : Known) (forms : List Flat) → IsWellFormed forms → IsKnown k → HasGoneOn k forms now → IfOk e (λ q. IsKnown q)
-gone_known now e ends k forms fits known h = goes_on_known k forms e fits known (gone_ends now e ends k forms fits h)
-
 -- Files.
 
 -- a text that has the items of files, and behind them the word of the last `MAIN:`
@@ -80,10 +70,3 @@ files_answer files r (Err Memory) is h = tt
 pub files_known : (now : Resolver) (e : Result Known ResolveFault) → EndsKnown (reading_of now.so_far) e → (files : List (List Flat)) → AreWellFormed files → HasTaken files now → Knows (read_files first_reading (map (map form_of) files) false) e
 unfolding HasTaken taken
 files_known now e ends files fits h = files_answer files (reading_of now.so_far) e (h ∙ files_taken files first_reading fits) ends
-
-known_together : (files : List (List Flat)) (e : Result Known ResolveFault) → AreWellFormed files → Knows (read_files first_reading (map (map form_of) files) false) e → IfOk e (λ q. IsKnown q)
-known_together files (Ok q) fits h = files_are_known files q fits h
-known_together files (Err f) fits h = tt
-
-pub files_together : (now : Resolver) (e : Result Known ResolveFault) → EndsKnown (reading_of now.so_far) e → (files : List (List Flat)) → AreWellFormed files → HasTaken files now → IfOk e (λ q. IsKnown q)
-files_together now e ends files fits h = known_together files e fits (files_known now e ends files fits h)

@@ -31,7 +31,8 @@ use Rattle.fac_names.proofs.ArrayReadings.{named_in, names_by}
 use Rattle.fac_names.proofs.BuiltReadings.{DraftsBuilt, IsBuiltLate, draft_ok}
 use Rattle.fac_names.proofs.Distinct.{AccessorWords}
 use Rattle.fac_names.proofs.Fronts.{Fronted, is_generic_of, method_stands}
-use Rattle.fac_names.proofs.HeldNames.{AccessorAt, AccessorsHeld, accessor_text, no_accessor}
+use Rattle.fac_names.specs.Forms.{accessor_text}
+use Rattle.fac_names.proofs.HeldNames.{AccessorAt, AccessorsHeld, no_accessor}
 use Rattle.fac_names.proofs.WholePrograms.{sort_named}
 
 -- An effect is the same as itself.

@@ -179,6 +179,13 @@ with_slot r t =
     accessor (record t { text = codes ">>" ++ t.text }) (setter t.text) (codes "object" ∷ codes "value" ∷ []) (codes "object" ∷ []) (
     accessor (record t { text = t.text ++ codes ">>" }) (getter t.text) (codes "object" ∷ []) (codes "value" ∷ []) r))
 
+-- the name of an accessor in its vocabulary
+abbrev pub accessor_text : Sort → Option (List ℕ)
+accessor_text (getter s) = Some (s ++ codes ">>")
+accessor_text (setter s) = Some (codes ">>" ++ s)
+accessor_text (putter s) = Some (s ++ codes "<<")
+accessor_text _ = None
+
 -- one form, after its reading
 abbrev pub take : Form → Reading → Reading
 take (f_in v) r = scoped (entered v.text) r

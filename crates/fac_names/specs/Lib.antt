@@ -6,9 +6,4 @@ pub mod KnownWords
 pub mod Resolution
 pub mod TakenForms
 pub mod TakenTexts
-pub mod SearchOrder
-pub mod Signs
-pub mod KnownPrograms
-pub mod Meanings
-pub mod Laws
 pub mod inner

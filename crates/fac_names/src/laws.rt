@@ -1,66 +1,7 @@
 //! Laws of names, each on the contract of a function that does nothing.
-ghost use Rattle.fac_names.specs.Laws.{FilesAreKnown, FormsGrow, KnownGoesOn, KnownStays, SessionsBeginKnown};
-ghost use Rattle.fac_names.specs.Meanings.{FormsAreMeant};
 ghost use Rattle.fac_names.specs.Resolution.{ResolvedAreWhole};
-ghost use Rattle.fac_names.specs.SearchOrder.{FormsDefine, NamesAreFound, NamesKeepWords};
-ghost use Rattle.fac_names.specs.Signs.{PhrasesAreWrittenAsItems};
 
 /// A program that names resolve to is whole.
 pub fn resolved_programs_are_whole()
     ensures { ResolvedAreWhole }
-{}
-
-/// The phrase of items is written as the items are, with their names resolved.
-pub fn phrases_are_written_as_items()
-    ensures { PhrasesAreWrittenAsItems }
-{}
-
-/// Behind forms of a file of which none is refused, the phrase of the next definition, of the next method, and of items at the top level, means its
-/// items: a name is the innermost local of its name that is bound before it, or else the word that it finds among these forms; a hole is the next one
-/// of the fry around; and in an array each name is that of a word. Items with a `cond` that reads its cases are left out.
-pub fn forms_mean_what_is_bound_or_found()
-    ensures { FormsAreMeant }
-{}
-
-/// A form, and so a later file, changes no number of what stands before it.
-pub fn forms_keep_numbers()
-    ensures { FormsGrow }
-{}
-
-/// The words, arrays and classes of what is known before files are resolved come first in what the files come to, with its top-level phrase as an
-/// earlier one.
-pub fn known_programs_stay()
-    ensures { KnownStays }
-{}
-
-/// What files come to belongs together: its scope finds words of its program alone, and this is whole.
-pub fn files_are_known()
-    ensures { FilesAreKnown }
-{}
-
-/// So it does where a session begins with it, in a scope that uses all vocabularies.
-pub fn sessions_begin_known()
-    ensures { SessionsBeginKnown }
-{}
-
-/// Whatever text goes on behind what belongs together, what it comes to belongs together, so its program is whole.
-pub fn known_goes_on()
-    ensures { KnownGoesOn }
-{}
-
-/// Behind forms of a file of which none is refused, also in the phrase of the next word, a name finds what it finds among these forms, from the
-/// place on backwards: what the current vocabulary or its companion has, or else what was brought last, or else the one word that the
-/// vocabularies in use have.
-pub fn names_are_found()
-    ensures { NamesAreFound }
-{}
-
-/// Where a name is new in its vocabulary, the form that defines it gives it the first word that the form adds.
-pub fn forms_define_names()
-    ensures { FormsDefine }
-{}
-
-/// What a vocabulary has under a name it has for good.
-pub fn names_keep_words()
-    ensures { NamesKeepWords }
 {}

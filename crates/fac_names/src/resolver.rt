@@ -4,7 +4,6 @@ ghost use Rattle.fac_lang.specs.Whole.{IsWhole};
 ghost use Rattle.fac_source.specs.declared.tree.Form.{Form};
 ghost use Rattle.fac_parse.specs.Trees.{AreForms, AreWellFormed};
 ghost use Rattle.fac_names.specs.FromFlat.{form_of};
-ghost use Rattle.fac_names.specs.KnownPrograms.{IsKnown};
 ghost use Rattle.fac_names.specs.Resolution.{Resolves, first_reading, settled_draft};
 ghost use Rattle.fac_names.specs.Resolved.{read_files};
 ghost use Rattle.fac_names.specs.TakenForms.{HasTaken};
@@ -157,10 +156,9 @@ impl Resolver {
         end(alloc, so_far)
     }
 
-    /// The program of all files as `end` has it, with the scope behind the last one, for a session to go on from: the two belong together.
+    /// The program of all files as `end` has it, with the scope behind the last one, for a session to go on from.
     pub fn known(self, alloc: Global) -> Result<Known, ResolveFault>
-        ensures together { (files : Items (Items Form)) → AreWellFormed files → HasTaken files self → IfOk result (λ known. IsKnown known) }
-        ensures known { (files : Items (Items Form)) → AreWellFormed files → HasTaken files self → Knows (read_files first_reading (map (map form_of) files) false) result }
+        ensures { (files : Items (Items Form)) → AreWellFormed files → HasTaken files self → Knows (read_files first_reading (map (map form_of) files) false) result }
     {
         let Resolver { so_far } = self;
         end_files(alloc, so_far)

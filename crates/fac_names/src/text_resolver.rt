@@ -2,7 +2,6 @@
 ghost use Rattle.std.specs.Prelude.{◌≡◌, ◌++◌, [], IfOk, List as Items, OnOk};
 ghost use Rattle.fac_source.specs.declared.tree.Form.{Form};
 ghost use Rattle.fac_parse.specs.Trees.{AreForms, IsWellFormed};
-ghost use Rattle.fac_names.specs.KnownPrograms.{IsKnown};
 ghost use Rattle.fac_names.specs.Resolved.{beginning, going_on};
 ghost use Rattle.fac_names.specs.TakenTexts.{HasGoneOn, Knows};
 ghost use Rattle.fac_names.specs.inner.Ended.{EndsKnown, EndsText};
@@ -146,11 +145,9 @@ impl TextResolver {
         take_forms(alloc, &mut self.so_far, forms)
     }
 
-    /// What is known behind the text, or its first name by place that is refused. The last word is the top-level phrase: the items of the text. Where what
-    /// was known before belongs together, so does what is known now, and its program is whole.
+    /// What is known behind the text, or its first name by place that is refused. The last word is the top-level phrase: the items of the text.
     pub fn end(self, alloc: Global) -> Result<Known, ResolveFault>
-        ensures goes_on { (known : Known) (forms : Items Form) → IsWellFormed forms → HasGoneOn known forms self → Knows (going_on known forms) result }
-        ensures known { (known : Known) (forms : Items Form) → IsWellFormed forms → IsKnown known → HasGoneOn known forms self → IfOk result (λ next. IsKnown next) }
+        ensures { (known : Known) (forms : Items Form) → IsWellFormed forms → HasGoneOn known forms self → Knows (going_on known forms) result }
     {
         let TextResolver { so_far } = self;
         end_text(alloc, so_far)

@@ -1,5 +1,5 @@
-//! What a program does with the words, the files and the streams that the system gives it: it makes the top call. Each program's `main` makes the real
-//! objects, and is one call of this.
+//! What a program does with the words, the files and the streams that the system gives it: it makes the top call, with so many workers. Each program's
+//! `main` makes the real objects, and is one call of this.
 #![tactic(auto)]
 
 ghost use Rattle.std.specs.Prelude.{◌≡◌, IfSome, drop, map, string_bytes};
@@ -9,6 +9,7 @@ ghost use Rattle.fac_program.specs.Program.{words_given, Calls, TellsCode, Progr
 
 use fac_io::{Files, RealSink, RealSource, Sink, Source};
 use fac_lines::Channels;
+use fac_par::{Gate, NoGate, Workers};
 use fac_tool::{factor_top, tell_no_words};
 use std::alloc::Global;
 use std::env::Args;
@@ -16,6 +17,10 @@ use std::io;
 use std::io::ErrorKind;
 use std::process::ExitCode;
 use std::rt::{Stderr, Stdin, Stdout};
+use std::thread::Threads;
+
+// How many workers a program has.
+const WORKERS: u32 = 4;
 
 // The words of a command line behind the program's name. None where there is no memory for them.
 fn words_behind_name(alloc: Global, mut args: Args) -> Option<Vec<String>>
@@ -43,8 +48,8 @@ fn words_of(alloc: Global, args: io::Result<Args>) -> Option<Vec<String>>
 }
 
 // Makes the top call; the program's status is that of its ending.
-fn call_top<F: Files, S: Source, K: Sink, N: Sink>(
-    alloc: Global,
+fn call_top<R: Threads + Sync, G: Gate + Sync, F: Files, S: Source, K: Sink, N: Sink>(
+    workers: &Workers<'_, R, G>,
     words: &[String],
     files: &mut F,
     channels: &mut Channels<S, K>,
@@ -57,7 +62,7 @@ fn call_top<F: Files, S: Source, K: Sink, N: Sink>(
         (sink_seen N.taken N.pieces N.faults notes.old notes.new)
         result }
 {
-    let ended = factor_top(alloc, words, files, channels, notes);
+    let ended = factor_top(workers, words, files, channels, notes);
     ExitCode::from(ended.status)
 }
 
@@ -70,8 +75,8 @@ fn end_without_words<N: Sink>(notes: &mut N) -> ExitCode
 }
 
 /// The program, on the words, the files and the streams that the system gives.
-pub fn program<F: Files, S: Source, K: Sink, N: Sink>(
-    alloc: Global,
+pub fn program<R: Threads + Sync, G: Gate + Sync, F: Files, S: Source, K: Sink, N: Sink>(
+    workers: &Workers<'_, R, G>,
     args: io::Result<Args>,
     files: &mut F,
     channels: &mut Channels<S, K>,
@@ -84,14 +89,16 @@ pub fn program<F: Files, S: Source, K: Sink, N: Sink>(
         (sink_seen N.taken N.pieces N.faults notes.old notes.new)
         result }
 {
-    match words_of(alloc, args) {
-        Some(words) => call_top(alloc, words.as_slice(), files, channels, notes),
+    match words_of(workers.alloc, args) {
+        Some(words) => call_top(workers, words.as_slice(), files, channels, notes),
         None => end_without_words(notes),
     }
 }
 
 /// The program on the streams of the system: its input is the standard input, its output goes to the standard output, and its notes to the standard error.
-pub fn program_on_streams<F: Files>(
+/// Its workers' threads are made by this, and no gate is told of their work.
+pub fn program_on_streams<R: Threads + Sync, F: Files>(
+    threads: &R,
     alloc: Global,
     args: io::Result<Args>,
     files: &mut F,
@@ -105,5 +112,11 @@ pub fn program_on_streams<F: Files>(
         (sink_seen ⟦<RealSink<Stderr> as Sink>⟧.taken ⟦<RealSink<Stderr> as Sink>⟧.pieces ⟦<RealSink<Stderr> as Sink>⟧.faults notes.old notes.new)
         result }
 {
-    program(alloc, args, files, channels, notes)
+    let workers = Workers {
+        threads,
+        alloc,
+        count: WORKERS,
+        gate: &NoGate,
+    };
+    program(&workers, args, files, channels, notes)
 }

@@ -4,4 +4,4 @@
 
 mod laws;
 
-pub use laws::lines_keep_what_stands;
+pub use laws::{lines_go_on, lines_keep_what_stands, lines_stay_known, sessions_are_known};

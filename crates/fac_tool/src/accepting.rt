@@ -23,7 +23,9 @@ use fac_locals::{Closed, close};
 use fac_names::{ResolveFault, Resolver};
 use fac_notes::status::NO_MEMORY;
 use fac_notes::word_name;
+use fac_par::{Gate, Workers};
 use std::alloc::Global;
+use std::thread::Threads;
 
 // The number of values that the top-level phrase starts from.
 const START: u64 = 0;
@@ -97,12 +99,15 @@ fn close_program(alloc: Global, program: Program) -> Result<Closed, Ended>
 }
 
 // The first refusal of a closed program.
-fn refusal_of(alloc: Global, closed: &Closed) -> Result<Option<Refusal>, Ended>
+fn refusal_of<R: Threads + Sync, G: Gate + Sync>(
+    workers: &Workers<'_, R, G>,
+    closed: &Closed,
+) -> Result<Option<Refusal>, Ended>
     requires { StandsForWhole closed.now }
     ensures { StepsOn (λ refusal. OfEach closed.now (λ P. verdict P closed.now.start ≡ refusal_if refusal)) result }
 {
     first_refusal_is_verdict();
-    match check_words(alloc, closed) {
+    match check_words(workers, closed) {
         Err(_) => Err(bare(NO_MEMORY, 0)),
         Ok(verdicts) => Ok(first_refused(&verdicts)),
     }
@@ -119,27 +124,33 @@ fn refused(alloc: Global, program: &Program, refusal: Refusal) -> Ended
 }
 
 // A closed program that is accepted.
-fn check_closed(alloc: Global, closed: Closed) -> Result<Checked, Ended>
+fn check_closed<R: Threads + Sync, G: Gate + Sync>(
+    workers: &Workers<'_, R, G>,
+    closed: Closed,
+) -> Result<Checked, Ended>
     requires start { closed.start ≡ 0 }
     requires stands { (P : Source) × StandsFor closed P }
     ensures { (P : Source) → StandsFor closed P → (count : ℕ) → Steps (λ checked. (verdict P 0 ≡ None) × StandsForSafe checked.closed P) (λ on. on_verdict on count P (verdict P 0)) result }
 {
-    match refusal_of(alloc, &closed)? {
-        Some(refusal) => Err(refused(alloc, &closed.program, refusal)),
+    match refusal_of(workers, &closed)? {
+        Some(refusal) => Err(refused(workers.alloc, &closed.program, refusal)),
         None => Ok(accept(closed)),
     }
 }
 
 /// The accepted program of the prelude and the texts of a command's files.
-pub fn accepted_program(alloc: Global, texts: List<Bytes>) -> Result<Accepted, Ended>
+pub fn accepted_program<R: Threads + Sync, G: Gate + Sync>(
+    workers: &Workers<'_, R, G>,
+    texts: List<Bytes>,
+) -> Result<Accepted, Ended>
     ensures { Accepts texts result }
 {
     let NamedProgram {
         program,
         definitions,
-    } = read_program(alloc, texts)?;
-    let closed = close_program(alloc, program)?;
-    let checked = check_closed(alloc, closed)?;
+    } = read_program(workers.alloc, texts)?;
+    let closed = close_program(workers.alloc, program)?;
+    let checked = check_closed(workers, closed)?;
     Ok(Accepted {
         checked,
         definitions,

@@ -22,7 +22,9 @@ use fac_emit::{asks_effects, compile};
 use fac_expand::{Extent, Use, expand};
 use fac_lang::{Program, WordDef};
 use fac_locals::Closed;
+use fac_par::Workers;
 use std::alloc::Global;
+use std::thread::Threads;
 
 /// An image and its bytes.
 #[derive(Drop)]
@@ -34,14 +36,17 @@ pub struct Linked {
 }
 
 // The effects of a program's templates where it asks for any, and none where it doesn't.
-fn asked_effects(alloc: Global, closed: &Closed) -> Result<List<Option<Height>>, Memory>
+fn asked_effects<R: Threads + Sync, G>(
+    workers: &Workers<'_, R, G>,
+    closed: &Closed,
+) -> Result<List<Option<Height>>, Memory>
     requires { StandsForWhole closed.now }
     ensures { IfOk result (AreEffectsIfAsked closed.now) }
 {
     if !asks_effects(closed) {
-        return Ok(List::new(alloc));
+        return Ok(List::new(workers.alloc));
     }
-    let heights = effects(alloc, closed)?;
+    let heights = effects(workers, closed)?;
     Ok(heights)
 }
 
@@ -134,33 +139,42 @@ fn image_with(
 }
 
 // The image of an accepted program, with the effects of all of its templates, and with its direct phrases in place.
-fn whole_image(alloc: Global, checked: Checked) -> Result<Image, Memory>
+fn whole_image<R: Threads + Sync, G>(
+    workers: &Workers<'_, R, G>,
+    checked: Checked,
+) -> Result<Image, Memory>
     requires { (P : Source) × StandsForSafe checked.closed P }
     ensures carried { IfOk result (λ image. (P : Source) → StandsForSafe checked.closed P → CarriedWhole P image) }
     ensures spellable { IfOk result IsSpellable }
 {
-    let heights = effects(alloc, &checked.closed)?;
-    image_with(alloc, checked, heights.as_slice(), Extent::All)
+    let heights = effects(workers, &checked.closed)?;
+    image_with(workers.alloc, checked, heights.as_slice(), Extent::All)
 }
 
 // The image of an accepted program, with the effects of its templates where a run asks for any.
-fn image_to_run(alloc: Global, checked: Checked) -> Result<Image, Memory>
+fn image_to_run<R: Threads + Sync, G>(
+    workers: &Workers<'_, R, G>,
+    checked: Checked,
+) -> Result<Image, Memory>
     requires { (P : Source) × StandsForSafe checked.closed P }
     ensures carried { IfOk result (λ image. (P : Source) → StandsForSafe checked.closed P → Carried P image) }
     ensures spellable { IfOk result IsSpellable }
 {
-    let heights = asked_effects(alloc, &checked.closed)?;
-    image_with(alloc, checked, heights.as_slice(), Extent::Reached)
+    let heights = asked_effects(workers, &checked.closed)?;
+    image_with(workers.alloc, checked, heights.as_slice(), Extent::Reached)
 }
 
 /// The image of an accepted program, which carries it, has the effects of its callables in its rows and its direct phrases in place, and its bytes. Want of memory is the one error, also where
 /// the image would have more bytes than one may have. What the program took is given back when its image is made.
-pub fn link(alloc: Global, checked: Checked) -> Result<Linked, Memory>
+pub fn link<R: Threads + Sync, G>(
+    workers: &Workers<'_, R, G>,
+    checked: Checked,
+) -> Result<Linked, Memory>
     requires { (P : Source) × StandsForSafe checked.closed P }
     ensures { IfOk result (λ linked. IsLinked linked × ((P : Source) → StandsForSafe checked.closed P → CarriedWhole P linked.image)) }
 {
-    let image = whole_image(alloc, checked)?;
-    let bytes = encode(alloc, &image)?;
+    let image = whole_image(workers, checked)?;
+    let bytes = encode(workers.alloc, &image)?;
     if bytes.len() as u64 > MOST_IMAGE_BYTES {
         return Err(Memory);
     }
@@ -169,12 +183,15 @@ pub fn link(alloc: Global, checked: Checked) -> Result<Linked, Memory>
 
 /// An image of an accepted program that is only run, with no bytes: its templates have no effects where the run asks for none. Want of
 /// memory is the one error, also where the image would have more bytes than one may have. What the program took is given back.
-pub fn link_to_run(alloc: Global, checked: Checked) -> Result<Image, Memory>
+pub fn link_to_run<R: Threads + Sync, G>(
+    workers: &Workers<'_, R, G>,
+    checked: Checked,
+) -> Result<Image, Memory>
     requires { (P : Source) × StandsForSafe checked.closed P }
     ensures { IfOk result (λ image. IsShort image × ((P : Source) → StandsForSafe checked.closed P → Carried P image)) }
 {
-    let image = image_to_run(alloc, checked)?;
-    let length = spelled_length(alloc, &image)?;
+    let image = image_to_run(workers, checked)?;
+    let length = spelled_length(workers.alloc, &image)?;
     if length > MOST_IMAGE_BYTES {
         return Err(Memory);
     }

@@ -20,8 +20,10 @@ use fac_io::{Sink, Source as Reader};
 use fac_lines::Channels;
 use fac_machine::runs_have_one_end;
 use fac_notes::status::NO_MEMORY;
+use fac_par::Workers;
 use fac_vm::Machine;
 use std::alloc::Global;
+use std::thread::Threads;
 
 // Runs a fresh machine and answers, as `run_image` does. What is said goes for each program that its image carries, on one input.
 fn run_carried<S: Reader, K: Sink>(
@@ -42,19 +44,22 @@ fn run_carried<S: Reader, K: Sink>(
 
 // A fresh machine for an accepted program, which is given back before.
 #[tactic(auto, using(crate::proofs::StopLemmas::made_fresh))]
-fn machine_of(alloc: Global, checked: Checked) -> Result<Machine, Memory>
+fn machine_of<R: Threads + Sync, G>(
+    workers: &Workers<'_, R, G>,
+    checked: Checked,
+) -> Result<Machine, Memory>
     requires { (P : Source) × StandsForSafe checked.closed P }
     ensures { IfOk result (λ machine. IsFresh machine × ((P : Source) → StandsForSafe checked.closed P → Carried P machine.image)) }
 {
-    match link_to_run(alloc, checked) {
-        Ok(image) => Machine::new(alloc, image),
+    match link_to_run(workers, checked) {
+        Ok(image) => Machine::new(workers.alloc, image),
         Err(_) => Err(Memory),
     }
 }
 
 /// Compiles an accepted program and runs it over channels with this budget of ticks. Of the program its image alone is there while it runs.
-pub fn run_program<S: Reader, K: Sink>(
-    alloc: Global,
+pub fn run_program<R: Threads + Sync, G, S: Reader, K: Sink>(
+    workers: &Workers<'_, R, G>,
     checked: Checked,
     budget: u64,
     channels: &mut Channels<S, K>,
@@ -63,8 +68,8 @@ pub fn run_program<S: Reader, K: Sink>(
     ensures ends { StepsEnd checked.closed (λ P input. run_answer P input budget) (λ P input. runs P input budget) channels.old channels.new result }
     ensures counts { StatusCounts channels.old channels.new (ended_by result).status }
 {
-    match machine_of(alloc, checked) {
-        Ok(mut machine) => Ok(run_carried(alloc, &mut machine, budget, channels)),
+    match machine_of(workers, checked) {
+        Ok(mut machine) => Ok(run_carried(workers.alloc, &mut machine, budget, channels)),
         Err(_) => Err(bare(NO_MEMORY, 0)),
     }
 }
@@ -72,8 +77,8 @@ pub fn run_program<S: Reader, K: Sink>(
 // The two commands that run have one clause, each with its answer.
 
 /// Likewise, and then writes this where the run is done.
-pub fn run_and_write<S: Reader, K: Sink>(
-    alloc: Global,
+pub fn run_and_write<R: Threads + Sync, G, S: Reader, K: Sink>(
+    workers: &Workers<'_, R, G>,
     checked: Checked,
     behind: Behind,
     budget: u64,
@@ -83,10 +88,10 @@ pub fn run_and_write<S: Reader, K: Sink>(
     ensures ends { StepsEnd checked.closed (λ P input. written_answer (behind_seen behind) P input budget) (λ P input. runs_and_writes (behind_seen behind) P input budget) channels.old channels.new result }
     ensures counts { StatusCounts channels.old channels.new (ended_by result).status }
 {
-    match machine_of(alloc, checked) {
+    match machine_of(workers, checked) {
         Ok(mut machine) => {
-            let ended = run_carried(alloc, &mut machine, budget, channels);
-            Ok(write_behind(alloc, behind, ended, channels))
+            let ended = run_carried(workers.alloc, &mut machine, budget, channels);
+            Ok(write_behind(workers.alloc, behind, ended, channels))
         }
         Err(_) => Err(bare(NO_MEMORY, 0)),
     }

@@ -12,30 +12,39 @@ use fac_base::{Bytes, Memory, Text};
 use fac_check::Checked;
 use fac_io::{Files, SaveFault};
 use fac_notes::status::{NO_MEMORY, SUCCESS};
-use std::alloc::Global;
+use fac_par::Workers;
+use std::thread::Threads;
 
 // The bytes of the image of an accepted program.
-fn image_bytes(alloc: Global, checked: Checked) -> Result<Bytes, Memory>
+fn image_bytes<R: Threads + Sync, G>(
+    workers: &Workers<'_, R, G>,
+    checked: Checked,
+) -> Result<Bytes, Memory>
     requires { (P : Source) × StandsForSafe checked.closed P }
     ensures { IfOk result (λ bytes. (P : Source) → StandsForSafe checked.closed P → IsBuilt P bytes) }
 {
-    let linked = link(alloc, checked)?;
+    let linked = link(workers, checked)?;
     Ok(linked.bytes)
 }
 
 /// Saves the image of an accepted program under a name.
-pub fn save_image<F: Files>(alloc: Global, checked: Checked, name: &str, files: &mut F) -> Ended
+pub fn save_image<R: Threads + Sync, G, F: Files>(
+    workers: &Workers<'_, R, G>,
+    checked: Checked,
+    name: &str,
+    files: &mut F,
+) -> Ended
     requires { (P : Source) × StandsForSafe checked.closed P }
     ensures saves { (P : Source) → StandsForSafe checked.closed P → Saves P name.now (files_seen F.held F.asked F.faults files.old files.new) result }
     ensures count { F.faults files.old ≤ F.faults files.new }
 {
-    let Ok(bytes) = image_bytes(alloc, checked) else {
+    let Ok(bytes) = image_bytes(workers, checked) else {
         return bare(NO_MEMORY, 0);
     };
-    let Ok(file) = Text::from_str(alloc, name) else {
+    let Ok(file) = Text::from_str(workers.alloc, name) else {
         return bare(NO_MEMORY, 0);
     };
-    match files.save(alloc, name, bytes.as_slice()) {
+    match files.save(workers.alloc, name, bytes.as_slice()) {
         Ok(()) => bare(SUCCESS, 0),
         Err(SaveFault::Failed) => reported(0, Report::File { name: file }),
         Err(SaveFault::Memory) => bare(NO_MEMORY, 0),

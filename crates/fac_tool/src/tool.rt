@@ -12,11 +12,12 @@ use crate::work::work;
 use crate::{Command, Ended, read_words};
 use fac_io::{Files, Sink, Source};
 use fac_lines::Channels;
-use std::alloc::Global;
+use fac_par::{Gate, Workers};
+use std::thread::Threads;
 
 // Does the work of a command, and tells how it ended.
-fn work_and_tell<F: Files, S: Source, K: Sink, N: Sink>(
-    alloc: Global,
+fn work_and_tell<R: Threads + Sync, G: Gate + Sync, F: Files, S: Source, K: Sink, N: Sink>(
+    workers: &Workers<'_, R, G>,
     command: Command<'_>,
     files: &mut F,
     channels: &mut Channels<S, K>,
@@ -29,13 +30,13 @@ fn work_and_tell<F: Files, S: Source, K: Sink, N: Sink>(
         (sink_seen N.taken N.pieces N.faults notes.old notes.new)
         result }
 {
-    let reached = work(alloc, command, files, channels);
-    tell(alloc, command.files(), reached, notes)
+    let reached = work(workers, command, files, channels);
+    tell(workers.alloc, command.files(), reached, notes)
 }
 
 // Does what the words of a command line ask for, and tells how it ended.
-fn answer<F: Files, S: Source, K: Sink, N: Sink>(
-    alloc: Global,
+fn answer<R: Threads + Sync, G: Gate + Sync, F: Files, S: Source, K: Sink, N: Sink>(
+    workers: &Workers<'_, R, G>,
     words: &[String],
     files: &mut F,
     channels: &mut Channels<S, K>,
@@ -50,7 +51,7 @@ fn answer<F: Files, S: Source, K: Sink, N: Sink>(
 {
     match read_words(words) {
         None => tell_usage(notes),
-        Some(command) => work_and_tell(alloc, command, files, channels, notes),
+        Some(command) => work_and_tell(workers, command, files, channels, notes),
     }
 }
 
@@ -66,8 +67,11 @@ fn answer<F: Files, S: Source, K: Sink, N: Sink>(
 /// place and no last call leaves a return entry, and what `exec` answers is the run of the image of its bytes; the law
 /// `saved_code_runs_as_its_source` says of both that this is what `run` answers on the sources. That `run` goes through code isn't in it: `compile`
 /// and `Machine::run` promise that. Want of memory may be answered at any point; a fault only where the object that was handed in counted one.
-pub fn factor_top<F: Files, S: Source, K: Sink, N: Sink>(
-    alloc: Global,
+///
+/// The words of a program are checked, and the effects of its quotations found, by these workers. No clause names them: for every number of workers and
+/// every gate the answer is the same. The gate is told of the check of each word, by the word's number.
+pub fn factor_top<R: Threads + Sync, G: Gate + Sync, F: Files, S: Source, K: Sink, N: Sink>(
+    workers: &Workers<'_, R, G>,
     words: &[String],
     files: &mut F,
     channels: &mut Channels<S, K>,
@@ -88,5 +92,5 @@ pub fn factor_top<F: Files, S: Source, K: Sink, N: Sink>(
     ensures input_fault { result.status ≡ INPUT_FAULT → Rose channels.old.input_faults channels.new.input_faults }
     ensures write_fault { result.status ≡ WRITE_FAULT → Rose channels.old.output_faults channels.new.output_faults ⊎ Rose (N.faults notes.old) (N.faults notes.new) }
 {
-    answer(alloc, words, files, channels, notes)
+    answer(workers, words, files, channels, notes)
 }

@@ -31,7 +31,9 @@ use fac_io::{Files, Sink, Source as Reader};
 use fac_lines::Channels;
 use fac_names::resolved_programs_are_whole;
 use fac_notes::status::NO_MEMORY;
+use fac_par::{Gate, Workers};
 use std::alloc::Global;
+use std::thread::Threads;
 
 // What is done with an accepted program whose image isn't saved.
 #[derive(Clone, Copy)]
@@ -45,8 +47,8 @@ enum Task {
 }
 
 // Does this with an accepted program.
-fn carry_out<S: Reader, K: Sink>(
-    alloc: Global,
+fn carry_out<R: Threads + Sync, G: Gate + Sync, S: Reader, K: Sink>(
+    workers: &Workers<'_, R, G>,
     task: Task,
     accepted: Accepted,
     channels: &mut Channels<S, K>,
@@ -56,17 +58,17 @@ fn carry_out<S: Reader, K: Sink>(
     ensures counts { StatusCounts channels.old channels.new (ended_by result).status }
 {
     match task {
-        Task::Check => Ok(tell_checked(alloc, accepted.definitions, channels)),
-        Task::Run(budget) => run_program(alloc, accepted.checked, budget, channels),
+        Task::Check => Ok(tell_checked(workers.alloc, accepted.definitions, channels)),
+        Task::Run(budget) => run_program(workers, accepted.checked, budget, channels),
         Task::RunThen(behind, budget) => {
-            run_and_write(alloc, accepted.checked, behind, budget, channels)
+            run_and_write(workers, accepted.checked, behind, budget, channels)
         }
     }
 }
 
 // Does this with the program of the prelude and of texts.
-fn do_on_texts<S: Reader, K: Sink>(
-    alloc: Global,
+fn do_on_texts<R: Threads + Sync, G: Gate + Sync, S: Reader, K: Sink>(
+    workers: &Workers<'_, R, G>,
     task: Task,
     texts: List<Bytes>,
     channels: &mut Channels<S, K>,
@@ -76,13 +78,13 @@ fn do_on_texts<S: Reader, K: Sink>(
 {
     accepted_programs_are_safe();
     resolved_programs_are_whole();
-    let accepted = accepted_program(alloc, texts)?;
-    carry_out(alloc, task, accepted, channels)
+    let accepted = accepted_program(workers, texts)?;
+    carry_out(workers, task, accepted, channels)
 }
 
 // The steps of a command on the sources of these names.
-fn steps<F: Files, S: Reader, K: Sink>(
-    alloc: Global,
+fn steps<R: Threads + Sync, G: Gate + Sync, F: Files, S: Reader, K: Sink>(
+    workers: &Workers<'_, R, G>,
     task: Task,
     names: &[String],
     files: &mut F,
@@ -92,13 +94,13 @@ fn steps<F: Files, S: Reader, K: Sink>(
     ensures counts { StatusCounts channels.old channels.new (ended_by result).status }
     ensures ending { ReachesBy (on_sources (map string_bytes names.now) (task_seen task)) (files_seen F.held F.asked F.faults files.old files.new) (input_seen channels.old channels.new) (output_seen channels.old channels.new) (ended_by result) }
 {
-    let texts = load_all(alloc, names, files)?;
-    do_on_texts(alloc, task, texts, channels)
+    let texts = load_all(workers.alloc, names, files)?;
+    do_on_texts(workers, task, texts, channels)
 }
 
 // The steps of `gen` on the text of so many words that are drawn from this seed. No file is asked for.
-fn generate_steps<S: Reader, K: Sink>(
-    alloc: Global,
+fn generate_steps<R: Threads + Sync, G: Gate + Sync, S: Reader, K: Sink>(
+    workers: &Workers<'_, R, G>,
     seed: u32,
     words: u32,
     budget: u64,
@@ -108,10 +110,10 @@ fn generate_steps<S: Reader, K: Sink>(
     ensures ending { (files : FilesTold) →
         ReachesBy (on_text (generated seed words) (summing_up words (generated seed words) budget)) (still_files files) (input_seen channels.old channels.new) (output_seen channels.old channels.new) (ended_by result) }
 {
-    match draw(alloc, seed, words) {
+    match draw(workers.alloc, seed, words) {
         Err(_) => Err(bare(NO_MEMORY, 0)),
         Ok(Drawn { texts, bytes }) => do_on_texts(
-            alloc,
+            workers,
             Task::RunThen(Behind::Summary { words, bytes }, budget),
             texts,
             channels,
@@ -120,8 +122,8 @@ fn generate_steps<S: Reader, K: Sink>(
 }
 
 // The steps of `build` on the sources of these names, whose image has this one.
-fn build_steps<F: Files>(
-    alloc: Global,
+fn build_steps<R: Threads + Sync, G: Gate + Sync, F: Files>(
+    workers: &Workers<'_, R, G>,
     names: &[String],
     image: &str,
     files: &mut F,
@@ -132,9 +134,9 @@ fn build_steps<F: Files>(
 {
     accepted_programs_are_safe();
     resolved_programs_are_whole();
-    let texts = load_all(alloc, names, files)?;
-    let accepted = accepted_program(alloc, texts)?;
-    Ok(save_image(alloc, accepted.checked, image, files))
+    let texts = load_all(workers.alloc, names, files)?;
+    let accepted = accepted_program(workers, texts)?;
+    Ok(save_image(workers, accepted.checked, image, files))
 }
 
 // The steps of `exec` on the image of this name.
@@ -169,8 +171,8 @@ fn list_steps<F: Files, S: Reader, K: Sink>(
 }
 
 // Does what a command asks for.
-fn command_steps<F: Files, S: Reader, K: Sink>(
-    alloc: Global,
+fn command_steps<R: Threads + Sync, G: Gate + Sync, F: Files, S: Reader, K: Sink>(
+    workers: &Workers<'_, R, G>,
     command: Command<'_>,
     files: &mut F,
     channels: &mut Channels<S, K>,
@@ -180,16 +182,16 @@ fn command_steps<F: Files, S: Reader, K: Sink>(
     ensures ending { ReachesBy (plan_of (command_seen command.entry)) (files_seen F.held F.asked F.faults files.old files.new) (input_seen channels.old channels.new) (output_seen channels.old channels.new) (ended_by result) }
 {
     match command {
-        Command::Check { files: names } => steps(alloc, Task::Check, names, files, channels),
+        Command::Check { files: names } => steps(workers, Task::Check, names, files, channels),
         Command::Run {
             steps: budget,
             files: names,
-        } => steps(alloc, Task::Run(budget), names, files, channels),
+        } => steps(workers, Task::Run(budget), names, files, channels),
         Command::RunStack {
             steps: budget,
             files: names,
         } => steps(
-            alloc,
+            workers,
             Task::RunThen(Behind::Stack, budget),
             names,
             files,
@@ -198,31 +200,31 @@ fn command_steps<F: Files, S: Reader, K: Sink>(
         Command::Build {
             files: names,
             image,
-        } => build_steps(alloc, names, image, files),
+        } => build_steps(workers, names, image, files),
         Command::Exec {
             steps: budget,
             image,
-        } => execute_steps(alloc, image, budget, files, channels),
-        Command::List { image } => list_steps(alloc, image, files, channels),
+        } => execute_steps(workers.alloc, image, budget, files, channels),
+        Command::List { image } => list_steps(workers.alloc, image, files, channels),
         Command::Generate {
             steps: budget,
             seed,
             words,
             ..
-        } => generate_steps(alloc, seed, words, budget, channels),
+        } => generate_steps(workers, seed, words, budget, channels),
     }
 }
 
 /// Does the work of a command.
-pub fn work<F: Files, S: Reader, K: Sink>(
-    alloc: Global,
+pub fn work<R: Threads + Sync, G: Gate + Sync, F: Files, S: Reader, K: Sink>(
+    workers: &Workers<'_, R, G>,
     command: Command<'_>,
     files: &mut F,
     channels: &mut Channels<S, K>,
 ) -> Ended
     ensures { Reaches (command_seen command.entry) (files_seen F.held F.asked F.faults files.old files.new) (input_seen channels.old channels.new) (output_seen channels.old channels.new) result }
 {
-    match command_steps(alloc, command, files, channels) {
+    match command_steps(workers, command, files, channels) {
         Ok(ended) => ended,
         Err(ended) => ended,
     }

@@ -16,6 +16,7 @@ fn main(rt: HostRuntime) -> ExitCode {
     );
     let mut notes = RealSink::new(rt.stderr());
     program_on_streams(
+        &rt,
         rt.alloc(),
         env::args(&rt),
         &mut files,

@@ -1,13 +1,16 @@
-use Rattle.std.proofs.Common.{◌+◌, List, sym, subst, arith}
-use Rattle.fac_check.specs.declared.checker.Verdict.{Verdict}
-use Rattle.fac_check.proofs.JudgeLemmas.{VerdictsSo, verdicts_next, verdicts_done}
+use denote.Param.Send.{sendable}
+use Rattle.std.proofs.lemmas.Result.{IfOk-weaker}
+use Rattle.fac_par.specs.Pieces.{MeetEach}
+use Rattle.fac_check.specs.Judged.{AreVerdicts}
+use Rattle.fac_check.proofs.Crossings.{word_piece_sync}
+use Rattle.fac_check.proofs.PieceLemmas.{MeetsWord, verdicts_of}
 use Rattle.fac_check.proofs.judge.check_words.Goals as goal
 
-pub loop-number-preserved : goal.loop-number-preserved
-loop-number-preserved c =
-    let closed = c.args.closed.now in
-    subst (λ (vs : List Verdict). VerdictsSo closed vs (c.loop-number.number + 1)) (sym c.in_ok-push.ensures.ok)
-    (verdicts_next closed c.loop-number.verdicts c.in_ok-check_word.field-0 c.loop-number.number (omega (arith, c.loop-number-test.true, c.len-number-end.ensures)) c.in_ok-check_word.ensures c.loop-number.invariant)
+pub map_pieces-requires-sync-P : goal.map_pieces-requires-sync-P
+map_pieces-requires-sync-P g c κs within = search (sendable, word_piece_sync) depth 20
 
 pub returns : goal.returns
-returns c = verdicts_done c.args.closed.now c.loop-number.verdicts c.loop-number.number (omega (arith, c.loop-number-test.false, c.len-number-end.ensures)) c.loop-number.invariant
+returns g c =
+    let closed = c.args.closed.now in
+    let pieces = c.as_slice.result.now in
+    IfOk-weaker c.map_pieces.result (λ verdicts. MeetEach MeetsWord pieces verdicts) (AreVerdicts closed) (λ verdicts met. verdicts_of closed pieces verdicts (rw c.as_slice.ensures.value c.in_ok-pieces.ensures.pieces) met) c.map_pieces.ensures

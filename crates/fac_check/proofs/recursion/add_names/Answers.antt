@@ -1,9 +1,9 @@
-use Rattle.std.proofs.Common.{◌≡◌, ◌+◌, ◌∷◌, true, length, drop, List, sym, ap, subst, ◌∙◌, arith}
+use Rattle.std.proofs.Common.{◌≡◌, ◌+◌, ◌∷◌, true, length, drop, List, sym, ap, subst, ◌∙◌}
 use Rattle.std.proofs.lemmas.List.{drop_more}
 use Rattle.fac_lang.specs.declared.phrase.Item.{Item as PlacedItem}
 use Rattle.fac_lang.specs.PhraseView.{items_phrase}
 use Rattle.fac_check.specs.inner.Walkable.{takes_phrase}
-use Rattle.fac_check.proofs.TakenPrograms.{first_taken, others_taken}
+use Rattle.fac_check.proofs.TakenPrograms.{first_taken}
 use Rattle.fac_check.proofs.recursion.add_names.Goals as goal
 
 pub add_named-requires : goal.add_named-requires

@@ -2,7 +2,7 @@ use Rattle.fac_tool.proofs.StopLemmas.{carried_end}
 use Rattle.fac_tool.proofs.saving.image_bytes.Goals as goal
 
 pub returns : goal.returns
-returns c =
+returns g c =
     let linked = c.in_ok-linked.ensures in
     λ P stands.
     let whole = linked.1 P stands in

@@ -1,0 +1,7 @@
+pub mod CharacterLemmas
+pub mod GivenLemmas
+pub mod CheckedLemmas
+pub mod ExplainedLemmas
+pub mod TellingLemmas
+pub mod VerdictLemmas
+mod ExamplesOfPictures

@@ -1,0 +1,154 @@
+//! The vocabularies of the language that hold a word of a name.
+ghost use Rattle.std.specs.Prelude.{◌≡◌, ◌≤◌, ◌++◌, ◌∷◌, [], length, map, codes, IfOk, OnOk};
+ghost use Rattle.std.specs.List.{concat, All};
+ghost use Rattle.fac_tool.specs.Answer.{limit};
+ghost use Rattle.fac_explain.specs.declared.homes.TheConstants.{MOST_NAME};
+ghost use Rattle.fac_explain.specs.Homes.{AreHomes, HasHomes, IsWithHomes, bringing as bringing_text, hint, more_homes, vocabularies};
+ghost use Rattle.fac_explain.specs.inner.Steps.{AcceptsTexts};
+
+use crate::checking::check_texts;
+use crate::pushing::say;
+use fac_base::{Bytes, List, Memory, Text};
+use fac_source::NameKind;
+use fac_tool::Report;
+use std::alloc::Global;
+
+/// No word of the language has a name of more bytes.
+pub const MOST_NAME: usize = 256;
+
+/// The vocabularies of the language, in the order of their names.
+#[rattlefmt::skip]
+pub static VOCABULARIES: [&str; 14] = [
+    "accessors", "arrays", "combinators", "fry", "io", "kernel", "locals", "math", "math.parser", "prettyprint", "sequences", "strings", "syntax", "words",
+];
+
+// A source that brings one word of a vocabulary.
+fn bringing(alloc: Global, vocab: &str, name: &Text) -> Result<Bytes, Memory>
+    ensures { IfOk result (λ text. text ≡ bringing_text vocab.now name.now) }
+{
+    let mut text = Bytes::new(alloc);
+    say(&mut text, "FROM: ")?;
+    say(&mut text, vocab)?;
+    say(&mut text, " => ")?;
+    text.extend(name.as_bytes())?;
+    say(&mut text, " ;\n")?;
+    Ok(text)
+}
+
+// That source alone, as the one file of a command.
+fn alone(alloc: Global, vocab: &str, name: &Text) -> Result<List<Bytes>, Memory>
+    ensures { IfOk result (λ texts. texts ≡ bringing_text vocab.now name.now ∷ []) }
+{
+    let mut texts = List::new(alloc);
+    texts.push(bringing(alloc, vocab, name)?)?;
+    Ok(texts)
+}
+
+// Whether a vocabulary holds a word of this name, of which there are few bytes.
+fn holds(alloc: Global, vocab: &str, name: &Text) -> Result<bool, Memory>
+    requires { length (concat (bringing_text vocab.now name.now ∷ [])) ≤ limit }
+    ensures { IfOk result (AcceptsTexts (bringing_text vocab.now name.now ∷ [])) }
+{
+    let texts = alone(alloc, vocab, name)?;
+    match check_texts(alloc, texts)? {
+        None => Ok(true),
+        Some(_) => Ok(false),
+    }
+}
+
+// Those of vocabularies that hold a word of this name.
+fn homes_among(alloc: Global, vocabs: &[&str], name: &Text) -> Result<List<Text>, Memory>
+    requires few { length name.now ≤ MOST_NAME }
+    requires short { All (λ vocab. length vocab.now ≤ MOST_NAME) vocabs.now }
+    ensures { IfOk result (AreHomes name.now (map (λ vocab. vocab.now) vocabs.now)) }
+{
+    let mut homes = List::new(alloc);
+    for vocab in vocabs {
+        if holds(alloc, vocab, name)? {
+            homes.push(Text::from_str(alloc, vocab)?)?;
+        }
+    }
+    Ok(homes)
+}
+
+// Those of the language.
+fn homes(alloc: Global, name: &Text) -> Result<List<Text>, Memory>
+    requires { length name.now ≤ MOST_NAME }
+    ensures { IfOk result (AreHomes name.now vocabularies) }
+{
+    homes_among(alloc, &VOCABULARIES, name)
+}
+
+// Those of a refused name.
+fn homes_of(alloc: Global, kind: &NameKind, name: &Text) -> Result<List<Text>, Memory>
+    ensures { IfOk result (HasHomes kind.now name.now) }
+{
+    match kind {
+        NameKind::Unknown => {
+            if name.len() > MOST_NAME {
+                return Ok(List::new(alloc));
+            }
+            homes(alloc, name)
+        }
+        NameKind::Ambiguous(_, _) => Ok(List::new(alloc)),
+        NameKind::Twice => Ok(List::new(alloc)),
+        NameKind::NoVocab => Ok(List::new(alloc)),
+        NameKind::NotClass => Ok(List::new(alloc)),
+        NameKind::NotGeneric => Ok(List::new(alloc)),
+        NameKind::BadParent => Ok(List::new(alloc)),
+        NameKind::Cycle => Ok(List::new(alloc)),
+        NameKind::TooMany => Ok(List::new(alloc)),
+        NameKind::Undefined => Ok(List::new(alloc)),
+    }
+}
+
+/// Those of a refusal.
+pub fn homes_of_refusal(alloc: Global, report: &Report) -> Result<List<Text>, Memory>
+    ensures { IfOk result (IsWithHomes report.now) }
+{
+    match report {
+        Report::Name(fault) => homes_of(alloc, &fault.kind, &fault.name),
+        Report::Bytes { .. } => Ok(List::new(alloc)),
+        Report::Syntax { .. } => Ok(List::new(alloc)),
+        Report::Check { .. } => Ok(List::new(alloc)),
+        Report::Error { .. } => Ok(List::new(alloc)),
+        Report::Spent { .. } => Ok(List::new(alloc)),
+        Report::Image { .. } => Ok(List::new(alloc)),
+        Report::Trap { .. } => Ok(List::new(alloc)),
+        Report::File { .. } => Ok(List::new(alloc)),
+        Report::TooLong { .. } => Ok(List::new(alloc)),
+    }
+}
+
+// Adds more vocabularies.
+fn push_more(out: &mut Bytes, homes: &[Text]) -> Result<(), Memory>
+    ensures { OnOk result (out.new ≡ out.old ++ more_homes homes.now) }
+{
+    for home in homes {
+        push_next(out, home)?;
+    }
+    Ok(())
+}
+
+// Adds one more.
+fn push_next(out: &mut Bytes, home: &Text) -> Result<(), Memory>
+    ensures { OnOk result (out.new ≡ out.old ++ (codes ", " ++ home.now)) }
+{
+    say(out, ", ")?;
+    say(out, home.as_str())
+}
+
+/// Adds which vocabularies hold a word of a name, where any does.
+pub fn push_hint(out: &mut Bytes, homes: &[Text]) -> Result<(), Memory>
+    ensures { OnOk result (out.new ≡ out.old ++ hint homes.now) }
+{
+    match homes {
+        [] => Ok(()),
+        [first, rest @ ..] => {
+            say(out, "\nA word of this name is in ")?;
+            say(out, first.as_str())?;
+            push_more(out, rest)?;
+            say(out, ".")
+        }
+    }
+}

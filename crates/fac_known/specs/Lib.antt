@@ -1,0 +1,2 @@
+pub mod KnownPrograms
+pub mod Laws

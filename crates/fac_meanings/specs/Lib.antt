@@ -1,0 +1,5 @@
+pub mod SearchOrder
+pub mod Signs
+pub mod Meanings
+pub mod Accepted
+pub mod Standing

@@ -1,5 +1,0 @@
-use Rattle.fac_names.proofs.KnownBehind as lemma
-use Rattle.fac_names.proofs.laws.files_are_known.Goals as goal
-
-pub returns : goal.returns
-returns c = lemma.files_are_known

@@ -1,5 +1,0 @@
-use Rattle.fac_names.proofs.Growing as lemma
-use Rattle.fac_names.proofs.laws.forms_keep_numbers.Goals as goal
-
-pub returns : goal.returns
-returns c = lemma.forms_grow

@@ -1,5 +1,0 @@
-use Rattle.fac_names.proofs.MeaningLemmas as lemma
-use Rattle.fac_names.proofs.laws.forms_mean_what_is_bound_or_found.Goals as goal
-
-pub returns : goal.returns
-returns c = lemma.forms_are_meant

@@ -1,5 +1,0 @@
-use Rattle.fac_names.proofs.LongerPrograms as lemma
-use Rattle.fac_names.proofs.laws.known_programs_stay.Goals as goal
-
-pub returns : goal.returns
-returns c = lemma.known_stays

@@ -1,5 +1,0 @@
-use Rattle.fac_names.proofs.KnownBehind as lemma
-use Rattle.fac_names.proofs.laws.sessions_begin_known.Goals as goal
-
-pub returns : goal.returns
-returns c = lemma.sessions_begin_known
