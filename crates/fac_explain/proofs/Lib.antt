@@ -1,7 +1,0 @@
-pub mod CharacterLemmas
-pub mod GivenLemmas
-pub mod CheckedLemmas
-pub mod ExplainedLemmas
-pub mod TellingLemmas
-pub mod VerdictLemmas
-mod ExamplesOfPictures
