@@ -1,0 +1,15 @@
+//! What people are told of a refusal, beside its note: its place with line and column, the line with the token marked, and a sentence. No file is
+//! read and nothing is checked here.
+#![tactic(auto)]
+
+mod hints;
+mod pictures;
+mod places;
+mod pushing;
+mod sentences;
+
+pub use hints::push_hint;
+pub use pictures::{push_marked_at, push_place, told_token};
+pub use places::{byte_place, refused_token, token_place};
+pub use pushing::{push_told, say};
+pub use sentences::{push_kind, push_rule, push_syntax};
