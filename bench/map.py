@@ -20,7 +20,7 @@ WIDTH = 160
 
 ROOMS = [
     ("Base", "fac_base fac_par fac_lang fac_num fac_io fac_lines fac_spelling"),
-    ("Reading", "fac_source fac_token fac_effect fac_parse fac_prelude"),
+    ("Reading", "fac_source fac_token fac_effect fac_parse fac_trees fac_prelude"),
     ("Names", "fac_vocab fac_items fac_endings fac_names fac_known fac_meanings"),
     ("Checking", "fac_abs fac_rows fac_graph fac_locals fac_classes fac_generic fac_check fac_longer"),
     (

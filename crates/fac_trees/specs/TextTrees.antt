@@ -1,5 +1,5 @@
 -- What texts come to.
-use Rattle.std.specs.Prelude.{◌≡◌, ℕ, ◌+◌, List, [], ◌∷◌, Result, Ok, Err}
+use Rattle.std.specs.Prelude.{◌≡◌, ℕ, ◌+◌, List, [], ◌∷◌, ◌++◌, Result, Ok, Err}
 use Rattle.fac_source.specs.declared.token.Token.{Token}
 use Rattle.fac_source.specs.declared.tree.Form.{Form}
 use Rattle.fac_token.specs.declared.fault.TokenFault.TheVariants as token
@@ -35,3 +35,8 @@ ArePieces file [] [] = Unit {0}
 ArePieces file [] (piece ∷ pieces) = ⊥
 ArePieces file (text ∷ texts) [] = ⊥
 ArePieces file (text ∷ texts) (piece ∷ pieces) = (piece.file ≡ file) × (piece.text.now ≡ text) × ArePieces (file + 1) texts pieces
+
+-- the texts of parts, one part behind the other
+abbrev pub texts_in : List (List (List ℕ)) → List (List ℕ)
+texts_in [] = []
+texts_in (part ∷ parts) = part ++ texts_in parts

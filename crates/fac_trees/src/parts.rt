@@ -1,6 +1,6 @@
 //! Texts in parts, each of which is read at once.
-ghost use Rattle.std.specs.Prelude.{◌≡◌, ◌++◌, IfOk};
-ghost use Rattle.std.specs.List.{concat};
+ghost use Rattle.std.specs.Prelude.{◌≡◌, ◌++◌, ◌∷◌, [], IfOk, OnOk};
+ghost use Rattle.fac_trees.specs.TextTrees.{texts_in};
 
 use fac_base::{Bytes, List, Memory, Queue};
 use std::alloc::Global;
@@ -21,6 +21,26 @@ fn bytes_of(texts: &[Bytes]) -> u64 {
     sum
 }
 
+// Ends the last part where it would be too large with so many bytes more.
+fn make_room(
+    alloc: Global,
+    parts: &mut Vec<List<Bytes>>,
+    last: &mut List<Bytes>,
+    bytes: &mut u64,
+    more: u64,
+    most: u64,
+) -> Result<(), Memory>
+    ensures { OnOk result (texts_in parts.new.items ++ last.new ≡ texts_in parts.old.items ++ last.old) }
+{
+    if bytes.saturating_add(more) <= most {
+        return Ok(());
+    }
+    let full = mem::replace(last, List::new(alloc));
+    parts.push(full)?;
+    *bytes = 0;
+    Ok(())
+}
+
 // Adds a text to the last part, or to a part of its own where the last one would be too large.
 fn add_text(
     alloc: Global,
@@ -30,21 +50,17 @@ fn add_text(
     text: Bytes,
     most: u64,
 ) -> Result<(), Memory>
-    ensures { OnOk result (concat parts.new.items ++ last.new ≡ concat parts.old.items ++ last.old ++ text ∷ []) }
+    ensures { OnOk result (texts_in parts.new.items ++ last.new ≡ texts_in parts.old.items ++ last.old ++ text ∷ []) }
 {
     let more = text.len() as u64;
-    if bytes.saturating_add(more) > most {
-        let full = mem::replace(last, List::new(alloc));
-        parts.push(full)?;
-        *bytes = 0;
-    }
+    make_room(alloc, parts, last, bytes, more, most)?;
     *bytes = bytes.saturating_add(more);
     last.push(text)
 }
 
 /// The same texts in parts, in their order.
 pub fn parts_of(alloc: Global, texts: List<Bytes>) -> Result<List<List<Bytes>>, Memory>
-    ensures { IfOk result (λ parts. concat parts ≡ texts) }
+    ensures { IfOk result (λ parts. texts_in parts ≡ texts) }
 {
     let most = bytes_of(texts.as_slice()) / PARTS;
     let most = if most < FEW_BYTES { FEW_BYTES } else { most };

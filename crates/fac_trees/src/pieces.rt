@@ -1,5 +1,5 @@
 //! Texts as pieces of work.
-ghost use Rattle.std.specs.Prelude.{All, ◌≡◌, ◌+◌, ◌<◌, ◌^◌, length, IfOk};
+ghost use Rattle.std.specs.Prelude.{◌+◌, ◌<◌, ◌^◌, length, IfOk};
 ghost use Rattle.fac_trees.specs.TextTrees.{AreTreesOf, ArePieces};
 
 use crate::text_tree::{TextTree, tree_of};
