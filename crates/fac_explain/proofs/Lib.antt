@@ -1,7 +1,3 @@
-pub mod CharacterLemmas
-pub mod GivenLemmas
-pub mod CheckedLemmas
-pub mod ExplainedLemmas
-pub mod TellingLemmas
-pub mod VerdictLemmas
+pub mod LineLemmas
+pub mod TextLemmas
 mod ExamplesOfPictures

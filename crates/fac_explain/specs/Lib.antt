@@ -1,10 +1,3 @@
 pub mod Places
 pub mod Pictures
 pub mod Sentences
-pub mod CheckAnswers
-pub mod Homes
-pub mod Explanations
-pub mod Explains
-pub mod VerdictLaws
-pub mod Programs
-pub mod inner

@@ -1,11 +1,8 @@
 -- The line of a place, and the marks below it.
-use Rattle.std.specs.Prelude.{ℕ, zero, suc, ◌+◌, ◌-◌, ◌==◌, List, [], ◌∷◌, ◌++◌, take, drop, map, max, min, replicate, None, Some, Bool, not, ◌&&◌, nat_le, codes, if◌then◌else◌}
+use Rattle.std.specs.Prelude.{ℕ, zero, suc, ◌+◌, ◌-◌, ◌==◌, List, [], ◌∷◌, ◌++◌, take, drop, map, max, min, replicate, None, Some, Bool, not, ◌&&◌, nat_le, codes, decimal, if◌then◌else◌}
 use Rattle.std.specs.declared.option.Option.{Option}
 use Rattle.fac_token.specs.declared.spotting.Spot.{Spot}
 use Rattle.fac_token.specs.Spots.{is_break, since_break}
-use Rattle.fac_notes.specs.declared.report.ByteFault.TheVariants as byte
-use Rattle.fac_notes.specs.declared.report.Report.{Report}
-use Rattle.fac_notes.specs.declared.report.Report.TheVariants as report
 use Rattle.fac_explain.specs.declared.pictures.TheConstants.{MOST_SHOWN, BEFORE_PLACE}
 use Rattle.fac_explain.specs.Places.{begins_character, characters}
 
@@ -68,7 +65,15 @@ abbrev pub marked_at : List ℕ → Option Spot → List ℕ
 marked_at text None = []
 marked_at text (Some spot) = marked (line_around text spot.at) (spelling_at text spot) spot.column
 
--- The picture of a refusal. Bytes that are no text aren't shown.
-abbrev pub picture : Report → List ℕ → Option Spot → List ℕ
-picture (report.Bytes file at byte.NotUtf8) text place = []
-picture _ text place = marked_at text place
+-- a name or a token as it is told, with a question mark for each control character
+abbrev pub told : List ℕ → List ℕ
+told text = plain 63 text
+
+-- a token as it is told, and a place as editors read it: the file, the line and the column
+abbrev pub token_text : List ℕ → Option Spot → List ℕ
+token_text text None = []
+token_text text (Some spot) = told (spelling_at text spot)
+
+abbrev pub place_text : List ℕ → Option Spot → List ℕ
+place_text name None = []
+place_text name (Some spot) = (told name ++ codes ":" ++ decimal spot.line) ++ (codes ":" ++ decimal spot.column ++ codes ": ")

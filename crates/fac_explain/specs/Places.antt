@@ -1,4 +1,4 @@
--- Where a refusal stands: in which file, and at which characters of it.
+-- Places in the text of a file: of a byte, and of a token by its number.
 use Rattle.std.specs.Prelude.{◌≡◌, ℕ, ◌+◌, ◌-◌, ◌==◌, List, [], take, slice_get, None, Some, Bool, not, ◌&&◌, nat_le, nat_lt, Err, if◌then◌else◌}
 use Rattle.std.specs.declared.option.Option.{Option}
 use Rattle.std.specs.List.{count_by}
@@ -9,9 +9,6 @@ use Rattle.fac_token.specs.Tokens.{Tokenizes}
 use Rattle.fac_token.specs.ReadingLaws.{IsNotMemory}
 use Rattle.fac_parse.specs.declared.reader.Why.{Why}
 use Rattle.fac_parse.specs.declared.reader.Why.TheVariants as why
-use Rattle.fac_prelude.specs.PreludeText.{prelude_text}
-use Rattle.fac_notes.specs.declared.report.Report.{Report}
-use Rattle.fac_notes.specs.declared.report.Report.TheVariants as report
 
 -- whether a byte begins a character of UTF-8
 abbrev pub begins_character : ℕ → Bool
@@ -20,22 +17,6 @@ begins_character b = not (nat_le 128 b && nat_lt b 192)
 -- how many characters begin in these bytes
 abbrev pub characters : List ℕ → ℕ
 characters bytes = count_by begins_character bytes
-
--- the text of the file with this number: the prelude is file 0, and these are the texts of the others; nothing where no file has it
-abbrev pub text_if : Option (List ℕ) → List ℕ
-text_if None = []
-text_if (Some text) = text
-
-abbrev pub text_in : List (List ℕ) → ℕ → List ℕ
-text_in texts file = (if file == 0 then prelude_text else text_if (slice_get texts (file - 1)))
-
--- the number of the file in which a refusal stands
-abbrev pub file_of : Report → ℕ
-file_of (report.Bytes file at reason) = file
-file_of (report.Syntax file at reason) = file
-file_of (report.Name fault) = fault.place.file
-file_of (report.Check refusal word) = refusal.broken.place.file
-file_of _ = 0
 
 -- the place of a byte by its number
 abbrev pub byte_spot : List ℕ → ℕ → Spot
@@ -58,11 +39,3 @@ IsTokenPlace text number place = (spots : List Spot) × AreSpots text spots × (
 abbrev pub refused_token : ℕ → Why → ℕ
 refused_token at why.End = at - 1
 refused_token at why.Other = at
-
--- where a refusal stands in the text of its file
-abbrev pub IsPlace : List ℕ → Report → Option Spot → Type 0
-IsPlace text (report.Bytes file at reason) place = place ≡ Some (byte_spot text at)
-IsPlace text (report.Syntax file at reason) place = IsTokenPlace text (refused_token at reason) place
-IsPlace text (report.Name fault) place = IsTokenPlace text fault.place.token place
-IsPlace text (report.Check refusal word) place = IsTokenPlace text refusal.broken.place.token place
-IsPlace text _ place = place ≡ None

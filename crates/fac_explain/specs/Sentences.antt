@@ -1,6 +1,5 @@
--- The sentence for each refusal. A token stands in it as it is spelled.
-use Rattle.std.specs.Prelude.{ℕ, ◌==◌, List, [], ◌++◌, None, Some, codes, decimal, Bool, ◌||◌, if◌then◌else◌}
-use Rattle.std.specs.declared.option.Option.{Option}
+-- The sentence for each rule and each kind of refused name. A token stands in it as it is told.
+use Rattle.std.specs.Prelude.{ℕ, ◌==◌, List, [], ◌∷◌, ◌++◌, codes, decimal, Bool, ◌||◌, if◌then◌else◌}
 use Rattle.std.specs.Str.{bytes_eq}
 use Rattle.fac_abs.specs.declared.rule.Rule.{Rule}
 use Rattle.fac_abs.specs.declared.rule.Rule.TheVariants as rule
@@ -9,11 +8,7 @@ use Rattle.fac_source.specs.declared.refusal.NameKind.{NameKind}
 use Rattle.fac_source.specs.declared.refusal.NameKind.TheVariants as kind
 use Rattle.fac_parse.specs.declared.reader.Why.{Why}
 use Rattle.fac_parse.specs.declared.reader.Why.TheVariants as why
-use Rattle.fac_notes.specs.Visible.{visible}
-use Rattle.fac_notes.specs.declared.report.ByteFault.{ByteFault}
-use Rattle.fac_notes.specs.declared.report.ByteFault.TheVariants as byte
-use Rattle.fac_notes.specs.declared.report.Report.{Report}
-use Rattle.fac_notes.specs.declared.report.Report.TheVariants as report
+use Rattle.fac_explain.specs.Pictures.{told}
 
 -- a number of things, which are called so
 abbrev pub counted : ℕ → List ℕ → List ℕ
@@ -21,13 +16,6 @@ counted n thing = (if n == 0 then codes "no " ++ thing ++ codes "s" else if n ==
 
 abbrev pub values : ℕ → List ℕ
 values n = counted n (codes "value")
-
--- of bytes
-abbrev pub byte_sentence : ByteFault → List ℕ
-byte_sentence byte.NotUtf8 = codes "The file isn't UTF-8 from this byte on."
-byte_sentence byte.OpenString = codes "The string that begins here isn't closed on its line."
-byte_sentence byte.BadEscape = codes "This backslash begins no escape. The five are \\n \\t \\r \\\\ \\\"."
-byte_sentence byte.StuckQuote = codes "White space has to stand before a string and behind it."
 
 -- of the grammar
 abbrev pub syntax_sentence : Why → List ℕ → List ℕ
@@ -41,7 +29,7 @@ around before name behind = before ++ name ++ behind
 -- of a name that two vocabularies have
 abbrev pub ambiguous_sentence : List ℕ → Name → Name → List ℕ
 ambiguous_sentence name first second =
-    (name ++ codes " is a word of " ++ visible first.vocab) ++ (codes " and one of " ++ visible second.vocab ++ codes ", and both vocabularies are used. FROM: chooses one.")
+    name ++ (codes " is a word of " ++ (told first.vocab ++ (codes " and one of " ++ (told second.vocab ++ codes ", and both vocabularies are used. FROM: chooses one."))))
 
 -- of names
 abbrev pub name_sentence : NameKind → List ℕ → List ℕ
@@ -68,9 +56,14 @@ takes_word token = bytes_eq token (codes "execute") || bytes_eq token (codes "bo
 abbrev pub not_known_sentence : List ℕ → List ℕ
 not_known_sentence token = (if bytes_eq token (codes "cond") then codes "cond reads the array literal that stands directly before it, and none stands there." else token ++ (if takes_word token then codes " needs a word that is known before the program runs. This one isn't." else codes " needs a callable that is known before the program runs. This one isn't.\nA callable that isn't known is run by call( and its effect."))
 
+-- of a token with two ways, of which these are the heights
+abbrev pub other_branches : List ℕ → ℕ → ℕ → List ℕ
+other_branches token first second =
+    around (codes "The two ways of ") token (codes " leave different stacks: one of ") ++ (values first ++ (codes " and one of " ++ (values second ++ codes ".")))
+
 -- of a token with two ways
 abbrev pub branches_sentence : List ℕ → ℕ → ℕ → List ℕ
-branches_sentence token first second = (if first == second then around (codes "The two ways of ") token (codes " end on different rows.") else around (codes "The two ways of ") token (codes " leave different stacks: one of ") ++ (values first ++ codes " and one of " ++ values second ++ codes "."))
+branches_sentence token first second = (if first == second then around (codes "The two ways of ") token (codes " end on different rows.") else other_branches token first second)
 
 -- of a word that runs itself, with another callable
 abbrev pub input_sentence : List ℕ → ℕ → List ℕ
@@ -84,24 +77,41 @@ own_rows_sentence token found = around (codes "Where ") token (codes " runs itse
 abbrev pub runs_callable : List ℕ → Bool
 runs_callable token = bytes_eq token (codes "call") || bytes_eq token (codes "dip") || bytes_eq token (codes "if")
 
+-- what an input takes on the row, and finds
+abbrev pub input_row_ends : ℕ → ℕ → List ℕ
+input_row_ends expected found = (codes " takes " ++ values expected) ++ (codes " on the row, and finds " ++ (values found ++ codes " above it."))
+
+-- with what a callable has to end, and ends
+abbrev pub handed_row_ends : ℕ → ℕ → List ℕ
+handed_row_ends expected found = (codes " has to end with " ++ values expected) ++ (codes " on the stack, and ends with " ++ (values found ++ codes "."))
+
+-- how many outputs a word declares, and leaves
+abbrev pub output_ends : ℕ → ℕ → List ℕ
+output_ends declared found = (codes " declares " ++ counted declared (codes "output")) ++ (codes " and leaves " ++ (values found ++ codes "."))
+
 -- of an input of a word, where it is run
+abbrev pub input_rows_end : ℕ → ℕ → List ℕ
+input_rows_end expected found = (if expected == found then codes " is run on another row than it takes." else input_row_ends expected found)
+
 abbrev pub input_rows_sentence : List ℕ → ℕ → ℕ → ℕ → List ℕ
-input_rows_sentence word input expected found =
-    (codes "The input " ++ decimal input ++ codes " of " ++ word) ++
-    (if expected == found then codes " is run on another row than it takes." else codes " takes " ++ values expected ++ codes " on the row, and finds " ++ values found ++ codes " above it.")
+input_rows_sentence word input expected found = around (codes "The input ") (decimal input) (codes " of ") ++ (word ++ input_rows_end expected found)
 
 -- of a callable that a word is handed
+abbrev pub handed_rows_end : ℕ → ℕ → List ℕ
+handed_rows_end expected found = (if expected == found then codes " ends with as many values as it has to, but on another row, with another callable below, or where it never should." else handed_row_ends expected found)
+
 abbrev pub handed_rows_sentence : List ℕ → ℕ → ℕ → ℕ → List ℕ
-handed_rows_sentence token input expected found =
-    (codes "The callable for input " ++ decimal input ++ codes " of " ++ token) ++
-    (if expected == found then codes " ends with as many values as it has to, but on another row, with another callable below, or where it never should." else codes " has to end with " ++ values expected ++ codes " on the stack, and ends with " ++ values found ++ codes ".")
+handed_rows_sentence token input expected found = around (codes "The callable for input ") (decimal input) (codes " of ") ++ (token ++ handed_rows_end expected found)
 
 abbrev pub rows_sentence : List ℕ → List ℕ → ℕ → ℕ → ℕ → List ℕ
 rows_sentence token word input expected found = (if input == 0 then own_rows_sentence token found else if runs_callable token then input_rows_sentence word input expected found else handed_rows_sentence token input expected found)
 
 -- of the outputs of a word
+abbrev pub outputs_end : ℕ → ℕ → List ℕ
+outputs_end declared found = (if declared == found then codes " ends on another row than it declares." else output_ends declared found)
+
 abbrev pub outputs_sentence : List ℕ → ℕ → ℕ → List ℕ
-outputs_sentence word declared found = word ++ (if declared == found then codes " ends on another row than it declares." else codes " declares " ++ counted declared (codes "output") ++ codes " and leaves " ++ values found ++ codes ".")
+outputs_sentence word declared found = word ++ outputs_end declared found
 
 abbrev pub method_sentence : List ℕ → List ℕ
 method_sentence token = (if bytes_eq token (codes "call-next-method") then codes "call-next-method stands outside of a method." else codes "A generic word has at least one input, and no row variable and no input with an effect.")
@@ -122,10 +132,11 @@ rule_sentence rule.TooLarge token word = around (codes "This is the 200,001st it
 rule_sentence (rule.Outputs declared found) token word = outputs_sentence word declared found
 rule_sentence rule.MustReturn token word = around [] word (codes " is declared never to return, and it returns.")
 
--- of a refusal of `check`, at a token
-abbrev pub sentence : Report → List ℕ → List ℕ
-sentence (report.Bytes file at reason) token = byte_sentence reason
-sentence (report.Syntax file at reason) token = syntax_sentence reason token
-sentence (report.Name fault) token = name_sentence fault.kind (visible fault.name)
-sentence (report.Check refusal word) token = rule_sentence refusal.broken.rule token word
-sentence _ token = []
+-- which vocabularies hold a word of a name that isn't found, behind its sentence
+abbrev pub more_homes : List (List ℕ) → List ℕ
+more_homes [] = []
+more_homes (vocab ∷ vocabs) = (codes ", " ++ vocab) ++ more_homes vocabs
+
+abbrev pub hint : List (List ℕ) → List ℕ
+hint [] = []
+hint (vocab ∷ vocabs) = (codes "\nA word of this name is in " ++ vocab) ++ (more_homes vocabs ++ codes ".")

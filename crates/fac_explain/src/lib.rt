@@ -1,25 +1,15 @@
-//! Explanations of what `check` refuses, for people: the place with line and column, the line with the token marked, and a sentence for the rule.
-//!
-//! The refusal is that of `factor_top`, which is asked over the texts in memory, so no rule is tested here. `specs/Explanations.antt` says what is
-//! written, and `specs/Explains.antt` what the whole call does.
+//! What people are told of a refusal, beside its note: its place with line and column, the line with the token marked, and a sentence. No file is
+//! read and nothing is checked here.
 #![tactic(auto)]
 
-mod checking;
-mod ended;
-mod explain;
-mod explaining;
-mod given;
-mod homes;
-mod laws;
-mod loading;
+mod hints;
 mod pictures;
 mod places;
-mod program;
 mod pushing;
 mod sentences;
-mod silent;
-mod telling;
 
-pub use explain::explain_top;
-pub use laws::{explanation_is_of_check, one_explanation, one_refusal};
-pub use program::program_on_streams;
+pub use hints::push_hint;
+pub use pictures::{push_marked_at, push_place, told_token};
+pub use places::{byte_place, refused_token, token_place};
+pub use pushing::{push_told, say};
+pub use sentences::{push_kind, push_rule, push_syntax};

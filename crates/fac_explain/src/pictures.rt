@@ -1,12 +1,11 @@
 //! The line of a place, and the marks below it.
 ghost use Rattle.std.specs.Prelude.{◌≡◌, ◌≤◌, ◌++◌, length, drop, IfOk, OnOk};
-ghost use Rattle.fac_explain.specs.Pictures.{behind_first as behind_characters, bytes_of_first as bytes_of_characters, first_of_line, gap as gap_of, left_out as left_out_of, line_around as line_around_place, marked, marked_at, marks as marks_of, picture, shown_part as shown_of, spelling_at, until_break};
+ghost use Rattle.fac_explain.specs.Pictures.{behind_first as behind_characters, bytes_of_first as bytes_of_characters, first_of_line, gap as gap_of, left_out as left_out_of, line_around as line_around_place, marked, marked_at, marks as marks_of, place_text, shown_part as shown_of, spelling_at, token_text, until_break};
 
 use crate::places::{begins_character, characters, front, line_before, rest};
-use crate::pushing::{push_plain, push_times, say};
+use crate::pushing::{push_number, push_plain, push_times, push_told, say};
 use fac_base::{Bytes, Memory};
 use fac_token::Spot;
-use fac_tool::{ByteFault, Report};
 use std::alloc::Global;
 
 /// The most characters of a line that are shown.
@@ -113,15 +112,15 @@ fn push_marked(out: &mut Bytes, line: &[u8], token: &[u8], column: u32) -> Resul
     say(out, "\n")
 }
 
-/// How the token at a place is spelled.
-pub fn spelling<'a>(text: &'a [u8], spot: &Spot) -> &'a [u8]
+// How the token at a place is spelled.
+fn spelling<'a>(text: &'a [u8], spot: &Spot) -> &'a [u8]
     ensures { result.now ≡ spelling_at text.now spot.now }
 {
     rest(front(text, spot.end), spot.at)
 }
 
-// Adds the line of a place and its marks, where there is one.
-fn push_marked_at(
+/// Adds the line of a place and its marks, where there is one.
+pub fn push_marked_at(
     alloc: Global,
     out: &mut Bytes,
     text: &[u8],
@@ -138,31 +137,33 @@ fn push_marked_at(
     }
 }
 
-/// Adds the picture of a refusal.
-pub fn push_picture(
-    alloc: Global,
-    out: &mut Bytes,
-    report: &Report,
-    text: &[u8],
-    place: &Option<Spot>,
-) -> Result<(), Memory>
-    ensures { OnOk result (out.new ≡ out.old ++ picture report.now text.now place.now) }
+/// The token at a place as it is told.
+pub fn told_token(alloc: Global, text: &[u8], place: &Option<Spot>) -> Result<Bytes, Memory>
+    ensures { IfOk result (λ token. token ≡ token_text text.now place.now) }
 {
-    match report {
-        Report::Bytes { why, .. } => match why {
-            ByteFault::NotUtf8 => Ok(()),
-            ByteFault::OpenString => push_marked_at(alloc, out, text, place),
-            ByteFault::BadEscape => push_marked_at(alloc, out, text, place),
-            ByteFault::StuckQuote => push_marked_at(alloc, out, text, place),
-        },
-        Report::Syntax { .. } => push_marked_at(alloc, out, text, place),
-        Report::Name(_) => push_marked_at(alloc, out, text, place),
-        Report::Check { .. } => push_marked_at(alloc, out, text, place),
-        Report::Error { .. } => push_marked_at(alloc, out, text, place),
-        Report::Spent { .. } => push_marked_at(alloc, out, text, place),
-        Report::Image { .. } => push_marked_at(alloc, out, text, place),
-        Report::Trap { .. } => push_marked_at(alloc, out, text, place),
-        Report::File { .. } => push_marked_at(alloc, out, text, place),
-        Report::TooLong { .. } => push_marked_at(alloc, out, text, place),
+    let mut token = Bytes::new(alloc);
+    match place {
+        None => Ok(token),
+        Some(spot) => {
+            push_told(&mut token, spelling(text, spot))?;
+            Ok(token)
+        }
+    }
+}
+
+/// Adds a place, as editors read it.
+pub fn push_place(out: &mut Bytes, name: &[u8], place: &Option<Spot>) -> Result<(), Memory>
+    ensures { OnOk result (out.new ≡ out.old ++ place_text name.now place.now) }
+{
+    match place {
+        None => Ok(()),
+        Some(spot) => {
+            push_told(out, name)?;
+            say(out, ":")?;
+            push_number(out, u64::from(spot.line))?;
+            say(out, ":")?;
+            push_number(out, u64::from(spot.column))?;
+            say(out, ": ")
+        }
     }
 }

@@ -1,13 +1,12 @@
-//! Where a refusal stands in the text of its file.
-ghost use Rattle.std.specs.Prelude.{◌≡◌, ◌≤◌, ◌+◌, length, map, take, drop, Some, IfOk};
+//! Places in the text of a file.
+ghost use Rattle.std.specs.Prelude.{◌≡◌, ◌≤◌, ◌+◌, length, take, drop, Some, IfOk};
 ghost use Rattle.std.specs.List.{count_by};
 ghost use Rattle.fac_token.specs.Spots.{is_break as is_line_break, since_break};
-ghost use Rattle.fac_explain.specs.Places.{begins_character as may_begin_character, characters as characters_in, AreSpots, byte_spot, file_of as file_of_report, IsPlace, IsTokenPlace, refused_token as token_refused, spot_numbered, text_in};
+ghost use Rattle.fac_explain.specs.Places.{begins_character as may_begin_character, characters as characters_in, AreSpots, byte_spot, IsTokenPlace, refused_token as token_refused, spot_numbered};
 
-use fac_base::{Bytes, List, Memory, Text};
+use fac_base::{List, Memory};
 use fac_parse::Why;
 use fac_token::{Spot, TokenFault, spots};
-use fac_tool::Report;
 use std::alloc::Global;
 
 /// Whether a byte begins a character of UTF-8.
@@ -29,45 +28,6 @@ pub fn characters(bytes: &[u8]) -> usize
         }
     }
     count
-}
-
-// The text of a file that was given under a number.
-fn given_text(given: &List<(Text, Bytes)>, file: u32) -> &[u8]
-    requires { 1 ≤ file }
-    ensures { result.now ≡ text_in (map (λ pair. pair.1) given.now) file }
-{
-    match given.get(file as usize - 1) {
-        Some(pair) => pair.1.as_slice(),
-        None => &[],
-    }
-}
-
-/// The text of the file with this number, where the command's files have these.
-pub fn text_of(given: &List<(Text, Bytes)>, file: u32) -> &[u8]
-    ensures { result.now ≡ text_in (map (λ pair. pair.1) given.now) file }
-{
-    if file == 0 {
-        return fac_prelude::text().as_bytes();
-    }
-    given_text(given, file)
-}
-
-/// The number of the file in which a refusal stands.
-pub fn file_of(report: &Report) -> u32
-    ensures { result ≡ file_of_report report.now }
-{
-    match report {
-        Report::Bytes { file, .. } => *file,
-        Report::Syntax { file, .. } => *file,
-        Report::Name(fault) => fault.place.file,
-        Report::Check { refusal, .. } => refusal.broken.place.file,
-        Report::Error { .. } => 0,
-        Report::Spent { .. } => 0,
-        Report::Image { .. } => 0,
-        Report::Trap { .. } => 0,
-        Report::File { .. } => 0,
-        Report::TooLong { .. } => 0,
-    }
 }
 
 /// The bytes before a place.
@@ -176,16 +136,16 @@ fn numbered(spots: &List<Spot>, number: u32) -> Option<Spot>
     }
 }
 
-// The place of a token of a text.
-fn token_place(alloc: Global, text: &[u8], number: u32) -> Result<Option<Spot>, Memory>
+/// The place of a token of a text.
+pub fn token_place(alloc: Global, text: &[u8], number: u32) -> Result<Option<Spot>, Memory>
     ensures { IfOk result (IsTokenPlace text.now number) }
 {
     let spots = spots_in(alloc, text)?;
     Ok(numbered(&spots, number))
 }
 
-// The token of a refusal of the grammar.
-fn refused_token(at: u32, why: Why) -> u32
+/// The token of a refusal of the grammar.
+pub fn refused_token(at: u32, why: Why) -> u32
     ensures { result ≡ token_refused at why }
 {
     match why {
@@ -194,28 +154,10 @@ fn refused_token(at: u32, why: Why) -> u32
     }
 }
 
-// The place of a byte, where memory allows it.
-fn byte_place(text: &[u8], at: u64) -> Result<Option<Spot>, Memory>
+/// The place of a byte by its number.
+pub fn byte_place(text: &[u8], at: u64) -> Result<Option<Spot>, Memory>
     ensures { IfOk result (λ place. place ≡ Some (byte_spot text.now at)) }
 {
     let spot = place_at(text, at)?;
     Ok(Some(spot))
-}
-
-/// Where a refusal stands in the text of its file.
-pub fn place_of(alloc: Global, text: &[u8], report: &Report) -> Result<Option<Spot>, Memory>
-    ensures { IfOk result (IsPlace text.now report.now) }
-{
-    match report {
-        Report::Bytes { at, .. } => byte_place(text, *at),
-        Report::Syntax { at, why, .. } => token_place(alloc, text, refused_token(*at, *why)),
-        Report::Name(fault) => token_place(alloc, text, fault.place.token),
-        Report::Check { refusal, .. } => token_place(alloc, text, refusal.broken.place.token),
-        Report::Error { .. } => Ok(None),
-        Report::Spent { .. } => Ok(None),
-        Report::Image { .. } => Ok(None),
-        Report::Trap { .. } => Ok(None),
-        Report::File { .. } => Ok(None),
-        Report::TooLong { .. } => Ok(None),
-    }
 }

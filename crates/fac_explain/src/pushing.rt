@@ -1,7 +1,6 @@
 //! Adding texts, numbers and names to an explanation.
 ghost use Rattle.std.specs.Prelude.{◌≡◌, ◌++◌, decimal, replicate, OnOk};
-ghost use Rattle.fac_notes.specs.Visible.{visible};
-ghost use Rattle.fac_explain.specs.Pictures.{plain, plain_byte};
+ghost use Rattle.fac_explain.specs.Pictures.{plain, plain_byte, told};
 ghost use Rattle.fac_explain.specs.Sentences.{around, counted, values};
 
 use fac_base::{Bytes, Memory};
@@ -43,11 +42,11 @@ pub fn push_plain(out: &mut Bytes, instead: u8, text: &[u8]) -> Result<(), Memor
     Ok(())
 }
 
-/// Adds a name, as notes tell it.
-pub fn push_visible(out: &mut Bytes, name: &[u8]) -> Result<(), Memory>
-    ensures { OnOk result (out.new ≡ out.old ++ visible name.now) }
+/// Adds a name or a token, with a question mark for each control character.
+pub fn push_told(out: &mut Bytes, text: &[u8]) -> Result<(), Memory>
+    ensures { OnOk result (out.new ≡ out.old ++ told text.now) }
 {
-    push_plain(out, b'?', name)
+    push_plain(out, b'?', text)
 }
 
 /// Adds a byte so many times.

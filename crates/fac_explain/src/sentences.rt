@@ -1,34 +1,17 @@
-//! The sentence for each refusal, a row for each.
-ghost use Rattle.std.specs.Prelude.{◌≡◌, ◌++◌, OnOk};
-ghost use Rattle.fac_notes.specs.Visible.{visible};
-ghost use Rattle.fac_explain.specs.Sentences.{ambiguous_sentence, branches_sentence, byte_sentence, handed_rows_sentence, input_rows_sentence, input_sentence, method_sentence, name_sentence, not_known_sentence};
-ghost use Rattle.fac_explain.specs.Sentences.{outputs_sentence, own_rows_sentence, rows_sentence, rule_sentence, sentence, syntax_sentence, underflow_sentence};
+//! The sentence for each rule and each kind of refused name, a row for each.
+ghost use Rattle.std.specs.Prelude.{◌≡◌, ◌++◌, decimal, OnOk};
+ghost use Rattle.fac_explain.specs.Sentences.{ambiguous_sentence, around, branches_sentence, counted, handed_rows_end, handed_rows_sentence, input_rows_end, input_rows_sentence, input_sentence, method_sentence, name_sentence, not_known_sentence};
+ghost use Rattle.fac_explain.specs.Sentences.{other_branches, outputs_end, outputs_sentence, own_rows_sentence, rows_sentence, rule_sentence, syntax_sentence, underflow_sentence, values};
 ghost use Rattle.fac_explain.specs.Sentences.{runs_callable as may_run_callable, takes_word as may_take_word};
 
-use crate::pushing::{push_around, push_counted, push_number, push_values, push_visible, say};
+use crate::pushing::{push_around, push_counted, push_number, push_told, push_values, say};
+use fac_abs::Rule;
 use fac_base::{Bytes, Memory, Name};
-use fac_check::Rule;
 use fac_parse::Why;
-use fac_source::{NameFault, NameKind};
-use fac_tool::{ByteFault, Report};
-use std::alloc::Global;
+use fac_source::NameKind;
 
-// What is wrong with bytes.
-fn of_bytes(why: ByteFault) -> &'static str
-    ensures { result.now ≡ byte_sentence why }
-{
-    match why {
-        ByteFault::NotUtf8 => "The file isn't UTF-8 from this byte on.",
-        ByteFault::OpenString => "The string that begins here isn't closed on its line.",
-        ByteFault::BadEscape => {
-            "This backslash begins no escape. The five are \\n \\t \\r \\\\ \\\"."
-        }
-        ByteFault::StuckQuote => "White space has to stand before a string and behind it.",
-    }
-}
-
-// Adds what is wrong with a token of the grammar.
-fn push_syntax(out: &mut Bytes, why: Why, token: &[u8]) -> Result<(), Memory>
+/// Adds what is wrong with a token of the grammar.
+pub fn push_syntax(out: &mut Bytes, why: Why, token: &[u8]) -> Result<(), Memory>
     ensures { OnOk result (out.new ≡ out.old ++ syntax_sentence why token.now) }
 {
     match why {
@@ -46,14 +29,14 @@ fn push_ambiguous(out: &mut Bytes, name: &[u8], first: &Name, second: &Name) -> 
 {
     out.extend(name)?;
     say(out, " is a word of ")?;
-    push_visible(out, first.vocab.as_bytes())?;
+    push_told(out, first.vocab.as_bytes())?;
     say(out, " and one of ")?;
-    push_visible(out, second.vocab.as_bytes())?;
+    push_told(out, second.vocab.as_bytes())?;
     say(out, ", and both vocabularies are used. FROM: chooses one.")
 }
 
-// Adds why a name is refused.
-fn push_kind(out: &mut Bytes, kind: &NameKind, name: &[u8]) -> Result<(), Memory>
+/// Adds why a name is refused. The name stands in the sentence as it is told.
+pub fn push_kind(out: &mut Bytes, kind: &NameKind, name: &[u8]) -> Result<(), Memory>
     ensures { OnOk result (out.new ≡ out.old ++ name_sentence kind.now name.now) }
 {
     match kind {
@@ -132,13 +115,10 @@ fn push_not_known(out: &mut Bytes, token: &[u8]) -> Result<(), Memory>
     )
 }
 
-// Adds that the two ways of a token differ.
-fn push_branches(out: &mut Bytes, token: &[u8], first: u32, second: u32) -> Result<(), Memory>
-    ensures { OnOk result (out.new ≡ out.old ++ branches_sentence token.now first second) }
+// Adds that the two ways of a token leave so many values.
+fn push_other_branches(out: &mut Bytes, token: &[u8], first: u32, second: u32) -> Result<(), Memory>
+    ensures { OnOk result (out.new ≡ out.old ++ other_branches token.now first second) }
 {
-    if first == second {
-        return push_around(out, "The two ways of ", token, " end on different rows.");
-    }
     push_around(
         out,
         "The two ways of ",
@@ -149,6 +129,16 @@ fn push_branches(out: &mut Bytes, token: &[u8], first: u32, second: u32) -> Resu
     say(out, " and one of ")?;
     push_values(out, second)?;
     say(out, ".")
+}
+
+// Adds that the two ways of a token differ.
+fn push_branches(out: &mut Bytes, token: &[u8], first: u32, second: u32) -> Result<(), Memory>
+    ensures { OnOk result (out.new ≡ out.old ++ branches_sentence token.now first second) }
+{
+    if first == second {
+        return push_around(out, "The two ways of ", token, " end on different rows.");
+    }
+    push_other_branches(out, token, first, second)
 }
 
 // Adds that a word runs itself with another callable.
@@ -186,6 +176,52 @@ fn runs_callable(token: &[u8]) -> bool
     token == b"call".as_slice() || token == b"dip".as_slice() || token == b"if".as_slice()
 }
 
+// Adds a number in digits between two texts.
+fn push_numbered(out: &mut Bytes, before: &str, number: u32, behind: &str) -> Result<(), Memory>
+    ensures { OnOk result (out.new ≡ out.old ++ around before.now (decimal number) behind.now) }
+{
+    say(out, before)?;
+    push_number(out, u64::from(number))?;
+    say(out, behind)
+}
+
+// Adds two numbers of things, each behind a text, and a text behind them.
+fn push_numbers(
+    out: &mut Bytes,
+    before: &str,
+    first: u32,
+    thing: &str,
+    between: &str,
+    second: u32,
+    behind: &str,
+) -> Result<(), Memory>
+    ensures { OnOk result (out.new ≡ out.old ++ ((before.now ++ counted first thing.now) ++ (between.now ++ (values second ++ behind.now)))) }
+{
+    say(out, before)?;
+    push_counted(out, first, thing)?;
+    say(out, between)?;
+    push_values(out, second)?;
+    say(out, behind)
+}
+
+// Adds how an input of a word is run on another row.
+fn push_input_rows_end(out: &mut Bytes, expected: u32, found: u32) -> Result<(), Memory>
+    ensures { OnOk result (out.new ≡ out.old ++ input_rows_end expected found) }
+{
+    if expected == found {
+        return say(out, " is run on another row than it takes.");
+    }
+    push_numbers(
+        out,
+        " takes ",
+        expected,
+        "value",
+        " on the row, and finds ",
+        found,
+        " above it.",
+    )
+}
+
 // Adds that an input of a word is run on another row.
 fn push_input_rows(
     out: &mut Bytes,
@@ -196,18 +232,30 @@ fn push_input_rows(
 ) -> Result<(), Memory>
     ensures { OnOk result (out.new ≡ out.old ++ input_rows_sentence word.now input expected found) }
 {
-    say(out, "The input ")?;
-    push_number(out, u64::from(input))?;
-    say(out, " of ")?;
+    push_numbered(out, "The input ", input, " of ")?;
     out.extend(word)?;
+    push_input_rows_end(out, expected, found)
+}
+
+// Adds how a callable ends with another stack than the word wants to which it is handed.
+fn push_handed_rows_end(out: &mut Bytes, expected: u32, found: u32) -> Result<(), Memory>
+    ensures { OnOk result (out.new ≡ out.old ++ handed_rows_end expected found) }
+{
     if expected == found {
-        return say(out, " is run on another row than it takes.");
+        return say(
+            out,
+            " ends with as many values as it has to, but on another row, with another callable below, or where it never should.",
+        );
     }
-    say(out, " takes ")?;
-    push_values(out, expected)?;
-    say(out, " on the row, and finds ")?;
-    push_values(out, found)?;
-    say(out, " above it.")
+    push_numbers(
+        out,
+        " has to end with ",
+        expected,
+        "value",
+        " on the stack, and ends with ",
+        found,
+        ".",
+    )
 }
 
 // Adds that a callable ends with another stack than the word wants to which it is handed.
@@ -220,21 +268,9 @@ fn push_handed_rows(
 ) -> Result<(), Memory>
     ensures { OnOk result (out.new ≡ out.old ++ handed_rows_sentence token.now input expected found) }
 {
-    say(out, "The callable for input ")?;
-    push_number(out, u64::from(input))?;
-    say(out, " of ")?;
+    push_numbered(out, "The callable for input ", input, " of ")?;
     out.extend(token)?;
-    if expected == found {
-        return say(
-            out,
-            " ends with as many values as it has to, but on another row, with another callable below, or where it never should.",
-        );
-    }
-    say(out, " has to end with ")?;
-    push_values(out, expected)?;
-    say(out, " on the stack, and ends with ")?;
-    push_values(out, found)?;
-    say(out, ".")
+    push_handed_rows_end(out, expected, found)
 }
 
 // Adds that a row isn't what it has to be.
@@ -257,19 +293,30 @@ fn push_rows(
     push_handed_rows(out, token, input, expected, found)
 }
 
+// Adds how a word leaves another stack than it declares.
+fn push_outputs_end(out: &mut Bytes, declared: u32, found: u32) -> Result<(), Memory>
+    ensures { OnOk result (out.new ≡ out.old ++ outputs_end declared found) }
+{
+    if declared == found {
+        return say(out, " ends on another row than it declares.");
+    }
+    push_numbers(
+        out,
+        " declares ",
+        declared,
+        "output",
+        " and leaves ",
+        found,
+        ".",
+    )
+}
+
 // Adds that a word leaves another stack than it declares.
 fn push_outputs(out: &mut Bytes, word: &[u8], declared: u32, found: u32) -> Result<(), Memory>
     ensures { OnOk result (out.new ≡ out.old ++ outputs_sentence word.now declared found) }
 {
     out.extend(word)?;
-    if declared == found {
-        return say(out, " ends on another row than it declares.");
-    }
-    say(out, " declares ")?;
-    push_counted(out, declared, "output")?;
-    say(out, " and leaves ")?;
-    push_values(out, found)?;
-    say(out, ".")
+    push_outputs_end(out, declared, found)
 }
 
 // Adds what is wrong with a generic word or a method.
@@ -285,8 +332,8 @@ fn push_method(out: &mut Bytes, token: &[u8]) -> Result<(), Memory>
     )
 }
 
-// Adds which rule of the checker is broken, at a token, in a word.
-fn push_rule(out: &mut Bytes, rule: Rule, token: &[u8], word: &[u8]) -> Result<(), Memory>
+/// Adds which rule of the checker is broken, at a token, in a word.
+pub fn push_rule(out: &mut Bytes, rule: Rule, token: &[u8], word: &[u8]) -> Result<(), Memory>
     ensures { OnOk result (out.new ≡ out.old ++ rule_sentence rule token.now word.now) }
 {
     match rule {
@@ -335,39 +382,5 @@ fn push_rule(out: &mut Bytes, rule: Rule, token: &[u8], word: &[u8]) -> Result<(
             word,
             " is declared never to return, and it returns.",
         ),
-    }
-}
-
-// Adds why a name is refused, which is told as notes tell it.
-fn push_name(alloc: Global, out: &mut Bytes, fault: &NameFault) -> Result<(), Memory>
-    ensures { OnOk result (out.new ≡ out.old ++ name_sentence fault.now.kind (visible fault.now.name)) }
-{
-    let mut name = Bytes::new(alloc);
-    push_visible(&mut name, fault.name.as_bytes())?;
-    push_kind(out, &fault.kind, name.as_slice())
-}
-
-/// Adds the sentence for a refusal at a token.
-pub fn push_sentence(
-    alloc: Global,
-    out: &mut Bytes,
-    report: &Report,
-    token: &[u8],
-) -> Result<(), Memory>
-    ensures { OnOk result (out.new ≡ out.old ++ sentence report.now token.now) }
-{
-    match report {
-        Report::Bytes { why, .. } => say(out, of_bytes(*why)),
-        Report::Syntax { why, .. } => push_syntax(out, *why, token),
-        Report::Name(fault) => push_name(alloc, out, fault),
-        Report::Check { refusal, word } => {
-            push_rule(out, refusal.broken.rule, token, word.as_bytes())
-        }
-        Report::Error { .. } => Ok(()),
-        Report::Spent { .. } => Ok(()),
-        Report::Image { .. } => Ok(()),
-        Report::Trap { .. } => Ok(()),
-        Report::File { .. } => Ok(()),
-        Report::TooLong { .. } => Ok(()),
     }
 }

@@ -12,7 +12,7 @@
 //!
 //! There are the files of these sources and no others.
 use fac_base::{Bytes, List, Memory, Text};
-use fac_explain::explain_top;
+use fac_explainer::explain_top;
 use fac_io::{MemFiles, MemSink};
 use std::alloc::Global;
 use std::{mem, str};

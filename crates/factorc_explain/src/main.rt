@@ -1,7 +1,7 @@
 //! The program that explains refusals: the real files and streams round its one call.
 #![tactic(auto)]
 
-use fac_explain::program_on_streams;
+use fac_explainer::program_on_streams;
 use fac_io::{RealFiles, RealSink};
 use std::env;
 use std::process::ExitCode;

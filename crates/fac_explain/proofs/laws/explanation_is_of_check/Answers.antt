@@ -1,5 +1,0 @@
-use Rattle.fac_explain.proofs.VerdictLemmas.{explains_checked}
-use Rattle.fac_explain.proofs.laws.explanation_is_of_check.Goals as goal
-
-pub returns : goal.returns
-returns c = explains_checked c.one_refusal.ensures

@@ -1,5 +1,0 @@
-use Rattle.fac_explain.proofs.ExplainedLemmas.{one_told}
-use Rattle.fac_explain.proofs.laws.one_explanation.Goals as goal
-
-pub returns : goal.returns
-returns c = one_told c.one_answer.ensures c.one_list_of_spots.ensures c.one_refusal.ensures
