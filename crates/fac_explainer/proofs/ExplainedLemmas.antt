@@ -1,5 +1,5 @@
 -- What is told of a refusal: it is never empty, and there is one.
-use Rattle.std.proofs.Common.{◌≡◌, ◌<◌, ℕ, ◌+◌, List, [], ◌∷◌, ◌++◌, Bool, true, false, cond, None, Some, Result, Ok, Err, length, inl, inr, refl, sym, ap, subst, ◌∙◌, arith, length-append}
+use Rattle.std.proofs.Common.{◌≡◌, ◌<◌, ℕ, ◌+◌, List, [], ◌∷◌, ◌++◌, Bool, true, false, None, Some, Result, Ok, Err, length, inl, inr, refl, sym, ap, subst, ◌∙◌, arith, length-append}
 use Rattle.std.specs.Prelude.{codes, nat_le}
 use Rattle.std.specs.List.{concat}
 use Rattle.std.specs.declared.option.Option.{Option}
@@ -24,7 +24,7 @@ use Rattle.fac_explain.specs.Places.{AreSpots, read, faulty, IsTokenPlace, spot_
 use Rattle.fac_explain.specs.Pictures.{place_text, token_text}
 use Rattle.fac_explain.specs.Sentences.{hint}
 use Rattle.fac_explainer.specs.Reports.{IsPlace, text_in, file_of, picture, sentence}
-use Rattle.fac_explainer.specs.Homes.{AreHomes, none, holds, lacks, HasHomes, IsWithHomes, bringing, vocabularies}
+use Rattle.fac_explainer.specs.Homes.{AreHomes, none, holds, lacks, HomesWhere, HasHomes, IsWithHomes, bringing, vocabularies}
 use Rattle.fac_explainer.specs.Explanations.{IsTold, IsExplanation, OneExplanation, explanation, nothing}
 use Rattle.fac_explainer.specs.CheckAnswers.{OneRefusal, IsCheckedAs, check_answer}
 use Rattle.fac_explainer.specs.Explains.{ExplainsTexts}
@@ -91,7 +91,7 @@ one_homes one name _ _ _ (lacks vocab vocabs homes why is more) (lacks _ _ other
 one_of_kind : OneRefusal → (kind : NameKind) (name : List ℕ) (homes others : List (List ℕ)) → HasHomes kind name homes → HasHomes kind name others → homes ≡ others
 one_of_kind one kind.Unknown name homes others is has = by_case (nat_le (length name) 256) is has
   where
-    by_case : (b : Bool) → cond b (AreHomes name vocabularies homes) (homes ≡ []) → cond b (AreHomes name vocabularies others) (others ≡ []) → homes ≡ others
+    by_case : (b : Bool) → HomesWhere b name homes → HomesWhere b name others → homes ≡ others
     by_case true is has = one_homes one name vocabularies homes others is has
     by_case false is has = is ∙ sym has
 one_of_kind one (kind.Ambiguous first second) name homes others is has = is ∙ sym has

@@ -1,18 +1,19 @@
 -- Texts that are called by their numbers: each name has its own text.
-use Rattle.std.proofs.Common.{◌≡◌, ◌≤◌, ◌<◌, ℕ, suc, ◌+◌, ◌^◌, List, [], ◌∷◌, ◌++◌, Bool, true, false, None, Some, length, map, take, get_or, refl, sym, ap, ◌∙◌, arith, append_assoc}
+use Rattle.std.proofs.Common.{◌≡◌, ◌≤◌, ◌<◌, ℕ, suc, ◌+◌, ◌^◌, List, [], ◌∷◌, ◌++◌, Bool, true, false, None, Some, length, map, take, get_or, refl, sym, ap, subst, ◌∙◌, arith, append_assoc}
 use Rattle.std.specs.Prelude.{decimal, slice_get}
 use Rattle.std.specs.Option.{option_map}
 use Rattle.std.proofs.lemmas.List.{append-nil, map-append, take_more}
 use Rattle.std.proofs.lemmas.Option.{slice_get-map}
-use Rattle.std.specs.List.{list_all}
+use Rattle.std.specs.List.{list_all, concat}
 use Rattle.std.specs.Str.{bytes_eq}
 use Rattle.std.specs.declared.option.Option.{Option}
 use Rattle.std.proofs.lemmas.Fmt.{decimal_injective}
 use Rattle.std.proofs.lemmas.Slice.Eq.{bytes_eq-Decides}
 use Rattle.fac_io.specs.Names.{bytes_of}
 use Rattle.fac_command.specs.Command.{is_file_name}
+use Rattle.fac_tool.specs.Answer.{limit}
 use Rattle.fac_explainer.specs.Reports.{text_if}
-use Rattle.fac_explainer.specs.inner.GivenTexts.{number_name, numbered_texts, names_from}
+use Rattle.fac_explainer.specs.inner.GivenTexts.{number_name, numbered_texts, names_from, AreNumbered}
 
 pub names_are : (n : ℕ) (texts : List (List ℕ)) → map (λ pair. pair.0) (numbered_texts n texts) ≡ names_from n texts
 names_are n [] = refl
@@ -91,3 +92,16 @@ text_here given k pair e = ap text_if (ap (option_map (λ (p : List ℕ × List 
 
 pub no_text_here : (given : List (List ℕ × List ℕ)) (k : ℕ) → None ≡ slice_get given k → [] ≡ text_if (slice_get (map (λ pair. pair.1) given) k)
 no_text_here given k e = ap text_if (ap (option_map (λ (p : List ℕ × List ℕ). p.1)) e ∙ sym (slice_get-map (λ (p : List ℕ × List ℕ). p.1) given k))
+
+-- numbered texts are numbered texts again
+pub numbered_again : (given : List (List ℕ × List ℕ)) (texts : List (List ℕ)) → given ≡ numbered_texts 1 texts → length texts < 2 ^ 32 → length (concat texts) ≤ limit → AreNumbered given (map (λ pair. pair.1) given)
+numbered_again given texts e few within =
+    let same : map (λ pair. pair.1) given ≡ texts = ap (map (λ pair. pair.1)) e ∙ texts_are 1 texts in
+    record {
+      are = e ∙ ap (numbered_texts 1) (sym same);
+      few = subst (λ (ts : List (List ℕ)). length ts < 2 ^ 32) (sym same) few;
+      within = subst (λ (ts : List (List ℕ)). length (concat ts) ≤ limit) (sym same) within;
+    }
+
+pub texts_again : (given : List (List ℕ × List ℕ)) (texts : List (List ℕ)) → given ≡ numbered_texts 1 texts → map (λ pair. pair.1) given ≡ texts
+texts_again given texts e = ap (map (λ pair. pair.1)) e ∙ texts_are 1 texts

@@ -1,5 +1,5 @@
 -- Where a name would be found that isn't found: the vocabularies of the language that hold a word of this name.
-use Rattle.std.specs.Prelude.{◌≡◌, ℕ, List, [], ◌∷◌, ◌++◌, length, map, nat_le, None, Some, codes, if◌then◌else◌}
+use Rattle.std.specs.Prelude.{◌≡◌, ℕ, List, [], ◌∷◌, ◌++◌, length, map, Bool, true, false, nat_le, None, Some, codes}
 use Rattle.fac_source.specs.declared.refusal.NameKind.{NameKind}
 use Rattle.fac_source.specs.declared.refusal.NameKind.TheVariants as kind
 use Rattle.fac_notes.specs.declared.report.Report.{Report}
@@ -21,9 +21,14 @@ pub data AreHomes (name : List ℕ) : List (List ℕ) → List (List ℕ) → Ty
   holds : (vocab : List ℕ) (vocabs homes : List (List ℕ)) → IsCheckedAs (bringing vocab name ∷ []) None → AreHomes name vocabs homes → AreHomes name (vocab ∷ vocabs) (vocab ∷ homes)
   lacks : (vocab : List ℕ) (vocabs homes : List (List ℕ)) (why : Report) → IsCheckedAs (bringing vocab name ∷ []) (Some why) → AreHomes name vocabs homes → AreHomes name (vocab ∷ vocabs) homes
 
--- of a name that isn't found; no word of the language has a long one
+-- those of the language, where a name isn't too long for one of its words
+abbrev pub HomesWhere : Bool → List ℕ → List (List ℕ) → Type 0
+HomesWhere true name homes = AreHomes name vocabularies homes
+HomesWhere false name homes = homes ≡ []
+
+-- of a name that isn't found
 abbrev pub HasHomes : NameKind → List ℕ → List (List ℕ) → Type 0
-HasHomes kind.Unknown name homes = (if nat_le (length name) MOST_NAME then AreHomes name vocabularies homes else homes ≡ [])
+HasHomes kind.Unknown name homes = HomesWhere (nat_le (length name) MOST_NAME) name homes
 HasHomes _ name homes = homes ≡ []
 
 -- of a refusal
