@@ -14,6 +14,7 @@
 use fac_base::{Bytes, List, Memory, Text};
 use fac_explainer::explain_top;
 use fac_io::{MemFiles, MemSink};
+use fac_par::{NoGate, Workers};
 use std::alloc::Global;
 use std::{mem, str};
 
@@ -169,11 +170,15 @@ impl Case {
     }
 
     /// What the case comes to. Its sources are taken.
-    pub fn told(&mut self, alloc: Global) -> Result<Text, Memory> {
+    pub fn told<R: Threads + Sync>(
+        &mut self,
+        workers: &Workers<'_, R, NoGate>,
+    ) -> Result<Text, Memory> {
+        let alloc = workers.alloc;
         let mut files = self.files(alloc)?;
         let (mut output, mut note) = self.sinks(alloc)?;
         let ended = explain_top(
-            alloc,
+            workers,
             self.words.as_slice(),
             &mut files,
             &mut output,

@@ -11,9 +11,10 @@ mod case;
 
 use case::Case;
 use fac_base::{Memory, Text};
-use std::alloc::Global;
+use fac_par::{NoGate, Workers};
 use std::io;
 use std::io::ErrorKind;
+use std::thread::Threads;
 
 // The system's error for want of memory.
 fn no_memory() -> io::Error {
@@ -21,9 +22,14 @@ fn no_memory() -> io::Error {
 }
 
 // Takes a line, and tells what is to be told before it.
-fn told(alloc: Global, case: &mut Case, line: &str) -> Result<Text, Memory> {
+fn told<R: Threads + Sync>(
+    workers: &Workers<'_, R, NoGate>,
+    case: &mut Case,
+    line: &str,
+) -> Result<Text, Memory> {
+    let alloc = workers.alloc;
     if line.is_empty() {
-        let told = case.told(alloc)?;
+        let told = case.told(workers)?;
         *case = Case::new(alloc)?;
         return Ok(told);
     }
@@ -36,9 +42,15 @@ fn main(rt: HostRuntime) -> io::Result<()> {
     let Ok(mut case) = Case::new(alloc) else {
         return Err(no_memory());
     };
+    let workers = Workers {
+        threads: &rt,
+        alloc,
+        count: 1,
+        gate: &NoGate,
+    };
     for line in rt.lines(alloc) {
         let line = line?;
-        let Ok(text) = told(alloc, &mut case, line.as_str()) else {
+        let Ok(text) = told(&workers, &mut case, line.as_str()) else {
             return Err(no_memory());
         };
         rt.print(text.as_str())?;

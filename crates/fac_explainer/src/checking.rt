@@ -12,8 +12,10 @@ use crate::silent::{Nothing, Nowhere};
 use fac_base::{Bytes, List, Memory, Text};
 use fac_lines::Channels;
 use fac_notes::status::SUCCESS;
+use fac_par::{Gate, Workers};
 use fac_tool::{Ended, Report, factor_top};
 use std::alloc::Global;
+use std::thread::Threads;
 
 // The words of a command line that checks texts of these names.
 fn words_of(alloc: Global, given: &[(Text, Bytes)]) -> Result<Vec<String>, Memory>
@@ -28,13 +30,17 @@ fn words_of(alloc: Global, given: &[(Text, Bytes)]) -> Result<Vec<String>, Memor
 }
 
 // Checks the texts that these words name.
-fn check_words(alloc: Global, words: &[String], given: &[(Text, Bytes)]) -> Ended
+fn check_words<R: Threads + Sync, G: Gate + Sync>(
+    workers: &Workers<'_, R, G>,
+    words: &[String],
+    given: &[(Text, Bytes)],
+) -> Ended
     ensures { ChecksGiven (map string_bytes words.now) (bytes_of given.now) result }
 {
     let mut files = Given { texts: given };
-    let mut channels = Channels::new(alloc, Nothing, Nowhere);
+    let mut channels = Channels::new(workers.alloc, Nothing, Nowhere);
     let mut notes = Nowhere;
-    factor_top(alloc, words, &mut files, &mut channels, &mut notes)
+    factor_top(workers, words, &mut files, &mut channels, &mut notes)
 }
 
 // The refusal of a call. One that comes to neither a refusal nor its end wanted memory.
@@ -59,21 +65,27 @@ fn refusal_of(ended: Ended) -> Result<Option<Report>, Memory>
 }
 
 /// The refusal of texts that are numbered. None where they are accepted.
-pub fn check_given(alloc: Global, given: &List<(Text, Bytes)>) -> Result<Option<Report>, Memory>
+pub fn check_given<R: Threads + Sync, G: Gate + Sync>(
+    workers: &Workers<'_, R, G>,
+    given: &List<(Text, Bytes)>,
+) -> Result<Option<Report>, Memory>
     requires { AreNumbered given.now (map (λ pair. pair.1) given.now) }
     ensures { IfOk result (IsCheckedAs (map (λ pair. pair.1) given.now)) }
 {
-    let words = words_of(alloc, given.as_slice())?;
-    let ended = check_words(alloc, words.as_slice(), given.as_slice());
+    let words = words_of(workers.alloc, given.as_slice())?;
+    let ended = check_words(workers, words.as_slice(), given.as_slice());
     refusal_of(ended)
 }
 
 /// The refusal of texts. None where they are accepted.
-pub fn check_texts(alloc: Global, texts: List<Bytes>) -> Result<Option<Report>, Memory>
+pub fn check_texts<R: Threads + Sync, G: Gate + Sync>(
+    workers: &Workers<'_, R, G>,
+    texts: List<Bytes>,
+) -> Result<Option<Report>, Memory>
     requires { length (concat texts) ≤ limit }
     ensures { IfOk result (IsCheckedAs texts) }
 {
     let _count = texts.len();
-    let given = numbered(alloc, texts)?;
-    check_given(alloc, &given)
+    let given = numbered(workers.alloc, texts)?;
+    check_given(workers, &given)
 }

@@ -16,8 +16,9 @@ use crate::telling::{tell, tell_usage};
 use fac_base::{Bytes, List, Memory};
 use fac_io::{Files, Sink};
 use fac_notes::status::{NO_MEMORY, SUCCESS, WRITE_FAULT};
+use fac_par::{Gate, Workers};
 use fac_tool::{Ended, Report};
-use std::alloc::Global;
+use std::thread::Threads;
 
 // A refusal, or none, and what is told of it.
 #[derive(Drop)]
@@ -49,14 +50,18 @@ fn are_files(words: &[String]) -> bool
 }
 
 // The refusal of files with these names and texts, explained.
-fn explained(alloc: Global, names: &[String], texts: List<Bytes>) -> Result<Explanation, Memory>
+fn explained<R: Threads + Sync, G: Gate + Sync>(
+    workers: &Workers<'_, R, G>,
+    names: &[String],
+    texts: List<Bytes>,
+) -> Result<Explanation, Memory>
     requires { length (concat texts) ≤ limit }
     ensures { IfOk result (λ made. Explained (map string_bytes names.now) texts made.refusal made.text) }
 {
     let _count = texts.len();
-    let given = numbered(alloc, texts)?;
-    let refusal = check_given(alloc, &given)?;
-    let text = told(alloc, names, &given, &refusal)?;
+    let given = numbered(workers.alloc, texts)?;
+    let refusal = check_given(workers, &given)?;
+    let text = told(workers, names, &given, &refusal)?;
     Ok(Explanation { refusal, text })
 }
 
@@ -95,32 +100,42 @@ fn write<K: Sink>(explanation: Explanation, out: &mut K) -> Ended
 }
 
 // Explains what `check` says of texts.
-fn explain_texts<K: Sink>(alloc: Global, names: &[String], texts: List<Bytes>, out: &mut K) -> Ended
+fn explain_texts<R: Threads + Sync, G: Gate + Sync, K: Sink>(
+    workers: &Workers<'_, R, G>,
+    names: &[String],
+    texts: List<Bytes>,
+    out: &mut K,
+) -> Ended
     requires { length (concat texts) ≤ limit }
     ensures { ExplainsTexts (map string_bytes names.now) texts (sink_seen K.taken K.pieces K.faults out.old out.new) result }
 {
-    match explained(alloc, names, texts) {
+    match explained(workers, names, texts) {
         Err(_) => bare(NO_MEMORY, 0),
         Ok(explanation) => write(explanation, out),
     }
 }
 
 // Loads files, and explains what `check` says of them.
-fn work<F: Files, K: Sink>(alloc: Global, names: &[String], files: &mut F, out: &mut K) -> Ended
+fn work<R: Threads + Sync, G: Gate + Sync, F: Files, K: Sink>(
+    workers: &Workers<'_, R, G>,
+    names: &[String],
+    files: &mut F,
+    out: &mut K,
+) -> Ended
     ensures { Reaches (map string_bytes names.now)
         (files_seen F.held F.asked F.faults files.old files.new)
         (sink_seen K.taken K.pieces K.faults out.old out.new)
         result }
 {
-    match load_all(alloc, names, files) {
+    match load_all(workers.alloc, names, files) {
         Err(ended) => ended,
-        Ok(texts) => explain_texts(alloc, names, texts, out),
+        Ok(texts) => explain_texts(workers, names, texts, out),
     }
 }
 
 // The same, and then tells the note.
-fn work_and_tell<F: Files, K: Sink, N: Sink>(
-    alloc: Global,
+fn work_and_tell<R: Threads + Sync, G: Gate + Sync, F: Files, K: Sink, N: Sink>(
+    workers: &Workers<'_, R, G>,
     names: &[String],
     files: &mut F,
     out: &mut K,
@@ -132,8 +147,8 @@ fn work_and_tell<F: Files, K: Sink, N: Sink>(
         (sink_seen N.taken N.pieces N.faults notes.old notes.new)
         result }
 {
-    let reached = work(alloc, names, files, out);
-    tell(alloc, names, reached, notes)
+    let reached = work(workers, names, files, out);
+    tell(workers.alloc, names, reached, notes)
 }
 
 /// Explains what `check` says of the files that the words of a command line name.
@@ -142,8 +157,8 @@ fn work_and_tell<F: Files, K: Sink, N: Sink>(
 /// of `check`: the place, the note, the line with marks below the token, and a sentence; and where there is none, that there is nothing to explain.
 /// It is one write, before that of the note. What the refusal is says `IsCheckedAs`, by the definition of what `check` answers, and what is written
 /// says `IsTold`, of the same texts. Want of memory may be answered at any point; a fault only where the object that was handed in counted one.
-pub fn explain_top<F: Files, K: Sink, N: Sink>(
-    alloc: Global,
+pub fn explain_top<R: Threads + Sync, G: Gate + Sync, F: Files, K: Sink, N: Sink>(
+    workers: &Workers<'_, R, G>,
     words: &[String],
     files: &mut F,
     out: &mut K,
@@ -156,7 +171,7 @@ pub fn explain_top<F: Files, K: Sink, N: Sink>(
         result }
 {
     if are_files(words) {
-        work_and_tell(alloc, words, files, out, notes)
+        work_and_tell(workers, words, files, out, notes)
     } else {
         tell_usage(notes)
     }

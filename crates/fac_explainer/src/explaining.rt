@@ -9,9 +9,11 @@ use crate::reports::{file_of, place_of, push_picture, push_sentence, text_of};
 use fac_base::{Bytes, List, Memory, Text};
 use fac_explain::{push_hint, push_place, say, told_token};
 use fac_notes::note;
+use fac_par::{Gate, Workers};
 use fac_token::Spot;
 use fac_tool::Report;
 use std::alloc::Global;
+use std::thread::Threads;
 
 // Puts a name behind others.
 fn add_name(alloc: Global, names: &mut List<Text>, name: &str) -> Result<(), Memory>
@@ -78,8 +80,8 @@ fn explained_at(
 }
 
 // The explanation of a refusal of files.
-fn explained(
-    alloc: Global,
+fn explained<R: Threads + Sync, G: Gate + Sync>(
+    workers: &Workers<'_, R, G>,
     files: &[String],
     given: &List<(Text, Bytes)>,
     report: &Report,
@@ -87,15 +89,22 @@ fn explained(
     ensures { IfOk result (IsExplanation (map string_bytes files.now) (map (λ pair. pair.1) given.now) report.now) }
 {
     let text = text_of(given, file_of(report));
-    let place = place_of(alloc, text, report)?;
-    let homes = homes_of_refusal(alloc, report)?;
-    let names = file_names(alloc, files)?;
-    explained_at(alloc, &names, text, report, &place, homes.as_slice())
+    let place = place_of(workers.alloc, text, report)?;
+    let homes = homes_of_refusal(workers, report)?;
+    let names = file_names(workers.alloc, files)?;
+    explained_at(
+        workers.alloc,
+        &names,
+        text,
+        report,
+        &place,
+        homes.as_slice(),
+    )
 }
 
 /// What is written where files have this refusal, or none.
-pub fn told(
-    alloc: Global,
+pub fn told<R: Threads + Sync, G: Gate + Sync>(
+    workers: &Workers<'_, R, G>,
     files: &[String],
     given: &List<(Text, Bytes)>,
     refusal: &Option<Report>,
@@ -103,7 +112,7 @@ pub fn told(
     ensures { IfOk result (IsTold (map string_bytes files.now) (map (λ pair. pair.1) given.now) refusal.now) }
 {
     match refusal {
-        Some(report) => explained(alloc, files, given, report),
-        None => Bytes::from_slice(alloc, b"nothing to explain\n".as_slice()),
+        Some(report) => explained(workers, files, given, report),
+        None => Bytes::from_slice(workers.alloc, b"nothing to explain\n".as_slice()),
     }
 }

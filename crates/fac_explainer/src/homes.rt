@@ -7,9 +7,11 @@ use crate::checking::check_texts;
 use fac_base::limits::MOST_SOURCE_BYTES;
 use fac_base::{Bytes, List, Memory, Text};
 use fac_explain::say;
+use fac_par::{Gate, Workers};
 use fac_source::NameKind;
 use fac_tool::Report;
 use std::alloc::Global;
+use std::thread::Threads;
 
 /// No word of the language has a name of more bytes.
 pub const MOST_NAME: usize = 256;
@@ -34,85 +36,106 @@ fn bringing(alloc: Global, vocab: &str, name: &Text) -> Result<Bytes, Memory>
 }
 
 // Whether the one source of a command is accepted. One that is too long, which none is here, is told as want of memory.
-fn is_accepted(alloc: Global, text: Bytes) -> Result<bool, Memory>
+fn is_accepted<R: Threads + Sync, G: Gate + Sync>(
+    workers: &Workers<'_, R, G>,
+    text: Bytes,
+) -> Result<bool, Memory>
     ensures { IfOk result (AcceptsTexts (text ∷ [])) }
 {
     if text.len() as u64 > MOST_SOURCE_BYTES {
         return Err(Memory);
     }
-    let mut texts = List::new(alloc);
+    let mut texts = List::new(workers.alloc);
     texts.push(text)?;
-    match check_texts(alloc, texts)? {
+    match check_texts(workers, texts)? {
         None => Ok(true),
         Some(_) => Ok(false),
     }
 }
 
 // Whether a vocabulary holds a word of this name.
-fn holds(alloc: Global, vocab: &str, name: &Text) -> Result<bool, Memory>
+fn holds<R: Threads + Sync, G: Gate + Sync>(
+    workers: &Workers<'_, R, G>,
+    vocab: &str,
+    name: &Text,
+) -> Result<bool, Memory>
     ensures { IfOk result (AcceptsTexts (bringing_text vocab.now name.now ∷ [])) }
 {
-    let text = bringing(alloc, vocab, name)?;
-    is_accepted(alloc, text)
+    let text = bringing(workers.alloc, vocab, name)?;
+    is_accepted(workers, text)
 }
 
 // Those of vocabularies that hold a word of this name.
-fn homes_among(alloc: Global, vocabs: &[&str], name: &Text) -> Result<List<Text>, Memory>
+fn homes_among<R: Threads + Sync, G: Gate + Sync>(
+    workers: &Workers<'_, R, G>,
+    vocabs: &[&str],
+    name: &Text,
+) -> Result<List<Text>, Memory>
     ensures { IfOk result (AreHomes name.now (map (λ vocab. vocab.now) vocabs.now)) }
 {
-    let mut homes = List::new(alloc);
+    let mut homes = List::new(workers.alloc);
     for vocab in vocabs {
-        if holds(alloc, vocab, name)? {
-            homes.push(Text::from_str(alloc, vocab)?)?;
+        if holds(workers, vocab, name)? {
+            homes.push(Text::from_str(workers.alloc, vocab)?)?;
         }
     }
     Ok(homes)
 }
 
 // Those of the language.
-fn language_homes(alloc: Global, name: &Text) -> Result<List<Text>, Memory>
+fn language_homes<R: Threads + Sync, G: Gate + Sync>(
+    workers: &Workers<'_, R, G>,
+    name: &Text,
+) -> Result<List<Text>, Memory>
     ensures { IfOk result (AreHomes name.now vocabularies) }
 {
-    homes_among(alloc, &VOCABULARIES, name)
+    homes_among(workers, &VOCABULARIES, name)
 }
 
 // Those of a refused name.
-fn homes_of(alloc: Global, kind: &NameKind, name: &Text) -> Result<List<Text>, Memory>
+fn homes_of<R: Threads + Sync, G: Gate + Sync>(
+    workers: &Workers<'_, R, G>,
+    kind: &NameKind,
+    name: &Text,
+) -> Result<List<Text>, Memory>
     ensures { IfOk result (HasHomes kind.now name.now) }
 {
     match kind {
         NameKind::Unknown => {
             if name.len() > MOST_NAME {
-                return Ok(List::new(alloc));
+                return Ok(List::new(workers.alloc));
             }
-            language_homes(alloc, name)
+            language_homes(workers, name)
         }
-        NameKind::Ambiguous(_, _) => Ok(List::new(alloc)),
-        NameKind::Twice => Ok(List::new(alloc)),
-        NameKind::NoVocab => Ok(List::new(alloc)),
-        NameKind::NotClass => Ok(List::new(alloc)),
-        NameKind::NotGeneric => Ok(List::new(alloc)),
-        NameKind::BadParent => Ok(List::new(alloc)),
-        NameKind::Cycle => Ok(List::new(alloc)),
-        NameKind::TooMany => Ok(List::new(alloc)),
-        NameKind::Undefined => Ok(List::new(alloc)),
+        NameKind::Ambiguous(_, _) => Ok(List::new(workers.alloc)),
+        NameKind::Twice => Ok(List::new(workers.alloc)),
+        NameKind::NoVocab => Ok(List::new(workers.alloc)),
+        NameKind::NotClass => Ok(List::new(workers.alloc)),
+        NameKind::NotGeneric => Ok(List::new(workers.alloc)),
+        NameKind::BadParent => Ok(List::new(workers.alloc)),
+        NameKind::Cycle => Ok(List::new(workers.alloc)),
+        NameKind::TooMany => Ok(List::new(workers.alloc)),
+        NameKind::Undefined => Ok(List::new(workers.alloc)),
     }
 }
 
 /// Those of a refusal.
-pub fn homes_of_refusal(alloc: Global, report: &Report) -> Result<List<Text>, Memory>
+pub fn homes_of_refusal<R: Threads + Sync, G: Gate + Sync>(
+    workers: &Workers<'_, R, G>,
+    report: &Report,
+) -> Result<List<Text>, Memory>
     ensures { IfOk result (IsWithHomes report.now) }
 {
     match report {
-        Report::Name(fault) => homes_of(alloc, &fault.kind, &fault.name),
-        Report::Bytes { .. } => Ok(List::new(alloc)),
-        Report::Syntax { .. } => Ok(List::new(alloc)),
-        Report::Check { .. } => Ok(List::new(alloc)),
-        Report::Error { .. } => Ok(List::new(alloc)),
-        Report::Spent { .. } => Ok(List::new(alloc)),
-        Report::Image { .. } => Ok(List::new(alloc)),
-        Report::Trap { .. } => Ok(List::new(alloc)),
-        Report::File { .. } => Ok(List::new(alloc)),
-        Report::TooLong { .. } => Ok(List::new(alloc)),
+        Report::Name(fault) => homes_of(workers, &fault.kind, &fault.name),
+        Report::Bytes { .. } => Ok(List::new(workers.alloc)),
+        Report::Syntax { .. } => Ok(List::new(workers.alloc)),
+        Report::Check { .. } => Ok(List::new(workers.alloc)),
+        Report::Error { .. } => Ok(List::new(workers.alloc)),
+        Report::Spent { .. } => Ok(List::new(workers.alloc)),
+        Report::Image { .. } => Ok(List::new(workers.alloc)),
+        Report::Trap { .. } => Ok(List::new(workers.alloc)),
+        Report::File { .. } => Ok(List::new(workers.alloc)),
+        Report::TooLong { .. } => Ok(List::new(workers.alloc)),
     }
 }

@@ -6,6 +6,7 @@ ghost use Rattle.fac_explainer.specs.Programs.{words_given, Calls, TellsCode, Pr
 
 use crate::explain_top;
 use fac_io::{Files, RealSink, Sink};
+use fac_par::{Gate, NoGate, Workers};
 use fac_tool::tell_no_words;
 use std::alloc::Global;
 use std::env::Args;
@@ -13,6 +14,10 @@ use std::io;
 use std::io::ErrorKind;
 use std::process::ExitCode;
 use std::rt::{Stderr, Stdout};
+use std::thread::Threads;
+
+// How many workers a program has.
+const WORKERS: u32 = 4;
 
 // The words of a command line behind the program's name. None where there is no memory for them.
 fn words_behind_name(alloc: Global, mut args: Args) -> Option<Vec<String>>
@@ -40,8 +45,8 @@ fn words_of(alloc: Global, args: io::Result<Args>) -> Option<Vec<String>>
 }
 
 // Makes the top call; the program's status is that of its ending.
-fn call_top<F: Files, K: Sink, N: Sink>(
-    alloc: Global,
+fn call_top<R: Threads + Sync, G: Gate + Sync, F: Files, K: Sink, N: Sink>(
+    workers: &Workers<'_, R, G>,
     words: &[String],
     files: &mut F,
     out: &mut K,
@@ -53,7 +58,7 @@ fn call_top<F: Files, K: Sink, N: Sink>(
         (sink_seen N.taken N.pieces N.faults notes.old notes.new)
         result }
 {
-    let ended = explain_top(alloc, words, files, out, notes);
+    let ended = explain_top(workers, words, files, out, notes);
     ExitCode::from(ended.status)
 }
 
@@ -66,8 +71,8 @@ fn end_without_words<N: Sink>(notes: &mut N) -> ExitCode
 }
 
 /// The program, on the words, the files and the streams that the system gives.
-pub fn program<F: Files, K: Sink, N: Sink>(
-    alloc: Global,
+pub fn program<R: Threads + Sync, G: Gate + Sync, F: Files, K: Sink, N: Sink>(
+    workers: &Workers<'_, R, G>,
     args: io::Result<Args>,
     files: &mut F,
     out: &mut K,
@@ -79,14 +84,16 @@ pub fn program<F: Files, K: Sink, N: Sink>(
         (sink_seen N.taken N.pieces N.faults notes.old notes.new)
         result }
 {
-    match words_of(alloc, args) {
-        Some(words) => call_top(alloc, words.as_slice(), files, out, notes),
+    match words_of(workers.alloc, args) {
+        Some(words) => call_top(workers, words.as_slice(), files, out, notes),
         None => end_without_words(notes),
     }
 }
 
-/// The program on the streams of the system: explanations go to the standard output, and notes to the standard error.
-pub fn program_on_streams<F: Files>(
+/// The program on the streams of the system: explanations go to the standard output, and notes to the standard error. Its workers' threads are made by
+/// this, and no gate is told of their work.
+pub fn program_on_streams<R: Threads + Sync, F: Files>(
+    threads: &R,
     alloc: Global,
     args: io::Result<Args>,
     files: &mut F,
@@ -99,5 +106,11 @@ pub fn program_on_streams<F: Files>(
         (sink_seen ⟦<RealSink<Stderr> as Sink>⟧.taken ⟦<RealSink<Stderr> as Sink>⟧.pieces ⟦<RealSink<Stderr> as Sink>⟧.faults notes.old notes.new)
         result }
 {
-    program(alloc, args, files, out, notes)
+    let workers = Workers {
+        threads,
+        alloc,
+        count: WORKERS,
+        gate: &NoGate,
+    };
+    program(&workers, args, files, out, notes)
 }

@@ -10,5 +10,12 @@ fn main(rt: HostRuntime) -> ExitCode {
     let mut files = RealFiles::new(&rt);
     let mut out = RealSink::new(rt.stdout());
     let mut notes = RealSink::new(rt.stderr());
-    program_on_streams(rt.alloc(), env::args(&rt), &mut files, &mut out, &mut notes)
+    program_on_streams(
+        &rt,
+        rt.alloc(),
+        env::args(&rt),
+        &mut files,
+        &mut out,
+        &mut notes,
+    )
 }
