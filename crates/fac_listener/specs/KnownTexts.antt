@@ -11,23 +11,35 @@ use Rattle.fac_prelude.specs.PreludeText.{prelude_text}
 use Rattle.fac_session.specs.Sessions.{Session, first_known, session_of}
 use Rattle.fac_listener.specs.TextSources.{IsReadAs}
 
+-- a session begins with this where the prelude has these forms
+unfoldable pub BeginsWith : List Form → Known → Type 0
+BeginsWith forms k = first_known forms ≡ Ok k
+
 -- this is known before the first text
 pub record IsFirst (k : Known) : Type 0 where
   pub forms : List Form
   pub is_read : IsReadAs 0 prelude_text (tree forms)
-  pub is : first_known forms ≡ Ok k
+  pub begins : BeginsWith forms k
 
--- the prelude, which is file 0, is refused so, and there is no session
+-- there is no session where the prelude comes to this, and it is refused so
+unfoldable pub RefusesSession : Source → Report → Type 0
+RefusesSession source why = session_of source ≡ Err why
+
+-- the prelude, which is file 0, is refused so
 pub record IsPreludeRefusal (why : Report) : Type 0 where
   pub source : Source
   pub is_read : IsReadAs 0 prelude_text source
-  pub is : session_of source ≡ Err why
+  pub refuses : RefusesSession source why
+
+-- behind what is known a text of these forms goes on with this
+unfoldable pub GoesOnWith : Known → List Form → Known → Type 0
+GoesOnWith k forms q = going_on k forms ≡ Ok q
 
 -- a text, which is file 1, goes on with a program behind what is known, and this is known then
 pub record GoesOn (k : Known) (text : List ℕ) (q : Known) : Type 0 where
   pub forms : List Form
   pub is_read : IsReadAs 1 text (tree forms)
-  pub is : going_on k forms ≡ Ok q
+  pub goes_on : GoesOnWith k forms q
 
 -- so do these texts, one behind the other
 abbrev pub GoOn : Known → List (List ℕ) → Known → Type 0

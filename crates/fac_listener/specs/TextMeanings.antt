@@ -4,7 +4,7 @@ use Rattle.fac_lang.specs.Phrases.{Phrase, end, then}
 use Rattle.fac_lang.specs.Meaning.{word_phrase}
 use Rattle.fac_names.specs.declared.known.Known.{Known}
 use Rattle.fac_notes.specs.Sources.{Source}
-use Rattle.fac_session.specs.Sessions.{Meant, waits, refuses, meant}
+use Rattle.fac_session.specs.Sessions.{Meant, meant, refuses, waits}
 use Rattle.fac_listener.specs.JudgedPrograms.{IsAccepted}
 use Rattle.fac_listener.specs.KnownTexts.{GoesOn}
 use Rattle.fac_listener.specs.TextSources.{IsReadAs}
@@ -17,11 +17,15 @@ abbrev pub has_item : Phrase → Bool
 has_item end = false
 has_item (then i p t) = true
 
+-- this source comes to this behind what is known, on a stack of so many values
+unfoldable pub Means : Known → ℕ → Source → Meant → Type 0
+Means k count source m = meant k count source ≡ m
+
 -- a text comes to this behind what is known, on a stack of so many values
 pub record ComesTo (k : Known) (count : ℕ) (text : List ℕ) (m : Meant) : Type 0 where
   pub source : Source
   pub is_read : IsReadAs 1 text source
-  pub is : meant k count source ≡ m
+  pub means : Means k count source m
 
 -- A text is accepted: it goes on with this program, whose top-level phrase has an item or not.
 pub record IsAcceptedText (k : Known) (count : ℕ) (text : List ℕ) (accepted : Accepted) : Type 0 where

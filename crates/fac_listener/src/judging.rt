@@ -45,6 +45,7 @@ fn refusal_of<R: Threads + Sync, G: Gate + Sync>(
 }
 
 // The answer on a program that is refused so. The name of the word is taken from this program, which has the same names.
+#[tactic(auto, using(crate::proofs::MeaningLemmas::refused_by))]
 fn refused(alloc: Global, program: &Program, refusal: Refusal) -> Judged
     ensures { (P : Source) (count : ℕ) → SameNames P program.now → verdict P count ≡ Some (refusal_seen refusal) → IsJudged P count result }
 {

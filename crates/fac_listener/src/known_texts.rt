@@ -1,18 +1,14 @@
 //! What is known behind the prelude and the texts of a session.
-ghost use Rattle.std.specs.Prelude.{◌≡◌, ◌∷◌, [], List as Items, ℕ, false, map, Err as failed, IfOk};
+ghost use Rattle.std.specs.Prelude.{◌≡◌, [], List as Items, ℕ, Err as failed, IfOk};
 ghost use Rattle.fac_parse.specs.Trees.{IsWellFormed};
 ghost use Rattle.fac_prelude.specs.PreludeText.{prelude_text};
 ghost use Rattle.fac_vocab.specs.Scopes.{begun, using_all};
-ghost use Rattle.fac_names.specs.FromFlat.{form_of};
-ghost use Rattle.fac_names.specs.Resolution.{first_reading};
-ghost use Rattle.fac_names.specs.Resolved.{going_on, read_files};
 ghost use Rattle.fac_names.specs.TakenForms.{HasTaken};
-ghost use Rattle.fac_names.specs.TakenTexts.{HasGoneOn, Knows};
+ghost use Rattle.fac_names.specs.TakenTexts.{HasGoneOn};
 ghost use Rattle.fac_notes.specs.Sources.{tree};
-ghost use Rattle.fac_session.specs.Sessions.{first_known as known_first};
 ghost use Rattle.fac_listener.specs.KnownTexts.{GoesOn, IsKnownBehind};
 ghost use Rattle.fac_listener.specs.TextSources.{IsReadAs};
-ghost use Rattle.fac_listener.specs.inner.NamedTexts.{KnowsFirst, NamesForms, NamesText};
+ghost use Rattle.fac_listener.specs.inner.NamedTexts.{KnowsBeginning, KnowsFirst, KnowsNext, KnowsPrelude, NamesForms, NamesText};
 ghost use Rattle.fac_listener.specs.inner.ReadTexts.{ReadsText};
 
 use crate::reading::{Unread, forms_of};
@@ -44,6 +40,7 @@ pub enum NoNext {
 }
 
 // The program of the prelude, which has these forms, with the scope behind it, where no file was begun.
+#[tactic(auto, using(crate::proofs::KnownLemmas::wanted_prelude))]
 fn resolve_first(
     alloc: Global,
     forms: List<Form>,
@@ -51,7 +48,7 @@ fn resolve_first(
 ) -> Result<Known, ResolveFault>
     requires none { HasTaken [] resolver }
     requires forms { IsWellFormed forms }
-    ensures { Knows (read_files first_reading (map form_of forms ∷ []) false) result }
+    ensures { KnowsPrelude forms result }
 {
     match resolver.begin_file(alloc) {
         Err(_) => Err(ResolveFault::Memory),
@@ -63,9 +60,10 @@ fn resolve_first(
 }
 
 // The program of the prelude, which has these forms, with the scope behind it.
+#[tactic(auto, using(crate::proofs::KnownLemmas::wanted_prelude))]
 fn prelude_of_forms(alloc: Global, forms: List<Form>) -> Result<Known, ResolveFault>
     requires { IsWellFormed forms }
-    ensures { Knows (read_files first_reading (map form_of forms ∷ []) false) result }
+    ensures { KnowsPrelude forms result }
 {
     match Resolver::new(alloc) {
         Err(_) => Err(ResolveFault::Memory),
@@ -83,9 +81,10 @@ fn begin_session(alloc: Global, mut known: Known) -> Result<Known, Memory>
 }
 
 // What a session begins with, where the prelude has these forms.
+#[tactic(auto, using(crate::proofs::KnownLemmas::knows_beginning, crate::proofs::KnownLemmas::refuses_beginning, crate::proofs::KnownLemmas::wanted_beginning))]
 fn first_of_forms(alloc: Global, forms: List<Form>) -> Result<Known, ResolveFault>
     requires { IsWellFormed forms }
-    ensures { Knows (known_first forms) result }
+    ensures { KnowsBeginning forms result }
 {
     match prelude_of_forms(alloc, forms) {
         Err(fault) => Err(fault),
@@ -97,6 +96,7 @@ fn first_of_forms(alloc: Global, forms: List<Form>) -> Result<Known, ResolveFaul
 }
 
 // Why there is no session where the text of the prelude isn't read.
+#[tactic(auto, using(crate::proofs::KnownLemmas::tokens_refused, crate::proofs::KnownLemmas::tree_refused))]
 fn no_first(fault: Unread) -> SessionFault
     ensures { ReadsText 0 prelude_text (failed fault) → KnowsFirst (failed result) }
 {
@@ -108,6 +108,7 @@ fn no_first(fault: Unread) -> SessionFault
 }
 
 // What is known before the first text, where the prelude has these forms.
+#[tactic(auto, using(crate::proofs::KnownLemmas::read_fits, crate::proofs::KnownLemmas::is_first, crate::proofs::KnownLemmas::first_refused))]
 fn first_of_prelude(alloc: Global, forms: List<Form>) -> Result<Known, SessionFault>
     requires { IsReadAs 0 prelude_text (tree forms) }
     ensures { KnowsFirst result }
@@ -130,13 +131,14 @@ pub fn first_known(alloc: Global) -> Result<Known, SessionFault>
 }
 
 // What is known behind a text of these forms, where none was taken.
+#[tactic(auto, using(crate::proofs::KnownLemmas::wanted_next))]
 fn resolve_text(
     alloc: Global,
     forms: List<Form>,
     mut resolver: TextResolver,
 ) -> Result<Known, ResolveFault>
     requires { IsWellFormed forms }
-    ensures { (known : Known) → HasGoneOn known [] resolver → Knows (going_on known forms) result }
+    ensures { (known : Known) → HasGoneOn known [] resolver → KnowsNext known forms result }
 {
     match resolver.take(alloc, forms) {
         Err(_) => Err(ResolveFault::Memory),
@@ -145,9 +147,10 @@ fn resolve_text(
 }
 
 // What is known behind a text of these forms.
+#[tactic(auto, using(crate::proofs::KnownLemmas::wanted_next))]
 fn next_of_forms(alloc: Global, known: Known, forms: List<Form>) -> Result<Known, ResolveFault>
     requires { IsWellFormed forms }
-    ensures { Knows (going_on known forms) result }
+    ensures { KnowsNext known forms result }
 {
     match TextResolver::new(alloc, known) {
         Err(_) => Err(ResolveFault::Memory),
@@ -156,6 +159,7 @@ fn next_of_forms(alloc: Global, known: Known, forms: List<Form>) -> Result<Known
 }
 
 // What a text of these forms goes on with, or why with nothing.
+#[tactic(auto, using(crate::proofs::KnownLemmas::next_by, crate::proofs::KnownLemmas::next_refused))]
 fn name_forms(alloc: Global, known: Known, forms: List<Form>) -> Result<Known, NoNext>
     requires { IsWellFormed forms }
     ensures { NamesForms known forms result }
@@ -168,6 +172,7 @@ fn name_forms(alloc: Global, known: Known, forms: List<Form>) -> Result<Known, N
 }
 
 // Why a text that isn't read goes on with nothing.
+#[tactic(auto, using(crate::proofs::KnownLemmas::bytes_refused, crate::proofs::KnownLemmas::end_waits, crate::proofs::KnownLemmas::syntax_refused))]
 fn no_next(fault: Unread) -> NoNext
     ensures { (known : Known) (text : Items ℕ) → ReadsText 1 text (failed fault) → NamesText known text (failed result) }
 {
@@ -186,6 +191,7 @@ fn no_next(fault: Unread) -> NoNext
 }
 
 /// What is known behind a text, which is file 1, or why it goes on with nothing.
+#[tactic(auto, using(crate::proofs::KnownLemmas::read_fits, crate::proofs::KnownLemmas::text_named))]
 pub fn next_known(alloc: Global, known: Known, text: &[u8]) -> Result<Known, NoNext>
     ensures { NamesText known text.now result }
 {
@@ -206,6 +212,7 @@ fn one_more(alloc: Global, known: Known, text: &Bytes) -> Result<Known, Memory>
 }
 
 // What is known behind the prelude.
+#[tactic(auto, using(crate::proofs::KnownLemmas::behind_none))]
 fn behind_prelude(alloc: Global) -> Result<Known, Memory>
     ensures { IfOk result (IsKnownBehind []) }
 {

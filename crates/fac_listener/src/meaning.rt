@@ -55,6 +55,7 @@ fn has_items(program: &Program) -> bool
 }
 
 // What a text comes to that goes on with this program, where its top-level phrase starts on so many values.
+#[tactic(auto, using(crate::proofs::MeaningLemmas::refused_text, crate::proofs::MeaningLemmas::accepted_text))]
 fn meaning_of_program<R: Threads + Sync, G: Gate + Sync>(
     workers: &Workers<'_, R, G>,
     program: Program,
@@ -91,6 +92,7 @@ fn no_meaning(fault: NoNext) -> Meaning
 }
 
 /// What a text, which is file 1, comes to behind what is known, on a stack of so many values.
+#[tactic(auto, using(crate::proofs::MeaningLemmas::next_whole))]
 pub fn meaning_of<R: Threads + Sync, G: Gate + Sync>(
     workers: &Workers<'_, R, G>,
     known: Known,
