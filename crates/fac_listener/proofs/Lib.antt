@@ -3,3 +3,8 @@ pub mod KnownLemmas
 pub mod ClosedNameLemmas
 pub mod MeaningLemmas
 pub mod ImageLemmas
+pub mod RunLemmas
+pub mod ToldLemmas
+pub mod PhraseLemmas
+pub mod GoOnLemmas
+pub mod SessionLemmas

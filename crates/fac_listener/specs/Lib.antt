@@ -3,4 +3,8 @@ pub mod KnownTexts
 pub mod JudgedPrograms
 pub mod TextMeanings
 pub mod TextImages
+pub mod MachineTexts
+pub mod StackTexts
+pub mod StandingSessions
+pub mod Replies
 pub mod inner

@@ -2,3 +2,5 @@
 pub mod ReadTexts
 pub mod NamedTexts
 pub mod ClosedNames
+pub mod PhraseRuns
+pub mod SessionSteps
