@@ -22,7 +22,7 @@ use Rattle.fac_notes.specs.Sources.{Source, no_tokens, no_tree, tree}
 use Rattle.fac_tool.specs.Answer.{Sources, together, come_to, answer_on, is_definition, definitions_in}
 use Rattle.fac_tool.specs.Sources.{token_fault, IsReadAs, AreReadAs, EverySource}
 use Rattle.fac_tool.specs.inner.StepEnds.{bare, reported, fault_ending, tree_ending, EndsEarly, EndsFile, ReadSoFar, EndsRead}
-use Rattle.fac_tool.specs.inner.FormsTaken.{LastGrows, FileAdds, TakesSome, FileTaken, TakesFile, TextsTaken}
+use Rattle.fac_tool.specs.inner.FormsTaken.{LastGrows, FileAdds, TakesSome, FileTaken, TakesFile, TakenUpTo, TakesPart, TextsTaken}
 use Rattle.fac_tool.proofs.EarlyEnds.{no_memory, is_refused}
 
 -- one text comes to something
@@ -78,18 +78,6 @@ pub adds_file :
     FileAdds [] before begun → TakesFile file text count (λ forms. LastGrows [] forms begun now) r → TakesFile file text count (λ forms. FileAdds forms before now) r
 adds_file file text count before begun now (Ok sum) begins taken = record { forms = taken.forms; is_read = taken.is_read; given = λ files h. taken.given files (begins files h); counts = taken.counts }
 adds_file file text count before begun now (Err ended) begins ends = ends
-
--- what those from this number on come to decides
-abbrev pub Onward : List (List ℕ) → List (List ℕ) → ℕ → List (List Form) → Type 0
-Onward texts left file before = (sources : List Source) → AreReadAs file left sources → ReadSoFar texts file before sources
-
--- files were taken up to those of the texts that are left: the prelude and some behind it
-pub record TakenUpTo (texts left : List (List ℕ)) (file count : ℕ) (resolver : Resolver) : Type 0 where
-  pub prelude : List Form
-  pub files : List (List Form)
-  pub taken : HasTaken (prelude ∷ files) resolver
-  pub onward : Onward texts left file (prelude ∷ files)
-  pub counts : count ≡ definitions_in files
 
 -- memory was wanted before the first file
 pub wanted_for_texts : EverySource → (texts : List (List ℕ)) (ended : Ended) → ended ≡ bare 12 0 → EndsRead texts ended

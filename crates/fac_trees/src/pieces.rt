@@ -31,30 +31,34 @@ impl Piece for TextPiece<'_> {
 }
 
 // A piece for each text.
-fn pieces_of<'a>(alloc: Global, first: u32, texts: &'a [Bytes]) -> Result<Vec<TextPiece<'a>>, Memory>
-    requires { first + length texts.now < 2 ^ 32 }
-    ensures { IfOk result (λ pieces. ArePieces first texts.now pieces.items) }
+fn pieces_of<'a>(
+    alloc: Global,
+    before: u32,
+    texts: &'a [Bytes],
+) -> Result<Vec<TextPiece<'a>>, Memory>
+    requires { before + length texts.now < 2 ^ 32 }
+    ensures { IfOk result (λ pieces. ArePieces (before + 1) texts.now pieces.items) }
 {
     let mut pieces = Vec::with_capacity(alloc, texts.len())?;
     for (k, text) in texts.iter().enumerate() {
-        let file = first + k as u32;
+        let file = before + 1 + k as u32;
         pieces.push(TextPiece { alloc, file, text })?;
     }
     Ok(pieces)
 }
 
-/// What texts come to that are read at once by these workers, where the files are numbered from this one on. The gate is told nothing of them. Want of memory is
+/// What texts come to that are read at once by these workers, where the last file before them has this number. The gate is told nothing of them. Want of memory is
 /// the one error.
 pub fn trees_of<R: Threads + Sync, G>(
     workers: &Workers<'_, R, G>,
-    first: u32,
+    before: u32,
     texts: &[Bytes],
 ) -> Result<List<TextTree>, Memory>
-    requires { first + length texts.now < 2 ^ 32 }
-    ensures { IfOk result (AreTreesOf first texts.now) }
+    requires { before + length texts.now < 2 ^ 32 }
+    ensures { IfOk result (AreTreesOf (before + 1) texts.now) }
 {
     let alloc = workers.alloc;
-    let pieces = pieces_of(alloc, first, texts)?;
+    let pieces = pieces_of(alloc, before, texts)?;
     let quiet = Workers {
         threads: workers.threads,
         alloc,
