@@ -1,5 +1,5 @@
 -- Texts whose forms go to the names, one behind the other.
-use Rattle.std.proofs.Common.{◌≡◌, ◌+◌, ℕ, List, [], ◌∷◌, ◌++◌, Result, Ok, Err, cond, refl, sym, ap, subst, ◌∙◌, arith}
+use Rattle.std.proofs.Common.{◌≡◌, ◌+◌, ℕ, List, [], ◌∷◌, ◌++◌, length, Result, Ok, Err, cond, refl, sym, ap, subst, ◌∙◌, append_assoc, arith}
 use Rattle.std.proofs.lemmas.List.Sums.{sum_by-append, sum_by_push}
 use Rattle.std.specs.List.{count_by}
 use Rattle.fac_source.specs.declared.token.Token.{Token}
@@ -11,6 +11,9 @@ use Rattle.fac_parse.specs.declared.reader.ParseFault.{ParseFault}
 use Rattle.fac_parse.specs.declared.reader.ParseFault.TheVariants as parse
 use Rattle.fac_parse.specs.declared.parser.Parser.{Parser}
 use Rattle.fac_parse.specs.Handed.{HandsOut}
+use Rattle.fac_parse.specs.Trees.{Parses, Reads}
+use Rattle.fac_trees.specs.declared.text_tree.TextTree.{TextTree}
+use Rattle.fac_trees.specs.TextTrees.{AreTreesOf, IsTreeOf}
 use Rattle.fac_names.specs.declared.resolver.Resolver.{Resolver}
 use Rattle.fac_names.specs.TakenForms.{HasTaken}
 use Rattle.fac_prelude.specs.PreludeText.{prelude_text}
@@ -142,3 +145,88 @@ all_taken texts left file count resolver e so_far =
       taken = so_far.taken;
       counts = so_far.counts;
     }
+
+-- What comes next.
+
+-- from texts to those that are left of them: whatever comes behind, all between were taken
+abbrev pub TakenBetween : List (List ℕ) → List (List ℕ) → ℕ → ℕ → ℕ → ℕ → Resolver → Resolver → Type 0
+TakenBetween part left first count file sum before now = (texts rest : List (List ℕ)) → TakenUpTo texts (part ++ rest) (first + 1) count before → TakenUpTo texts (left ++ rest) (file + 1) sum now
+
+-- one of them more
+pub more_between :
+    (part left next : List (List ℕ)) (first count file sum more : ℕ) (text : List ℕ) (before between now : Resolver) →
+    left ≡ text ∷ next → TakenBetween part left first count file sum before between → FileTaken (file + 1) text sum (λ forms. FileAdds forms between now) more → TakenBetween part next first count (file + 1) more before now
+more_between part left next first count file sum more text before between now e so_far adds texts rest start =
+    goes_on texts (left ++ rest) (next ++ rest) (file + 1) sum more text between now (ap (λ (ts : List (List ℕ)). ts ++ rest) e) (so_far texts rest start) adds
+
+-- or one of them ends the work
+pub ends_between :
+    EverySource → (part left next : List (List ℕ)) (first count file sum : ℕ) (text : List ℕ) (before between now : Resolver) (ended : Ended) →
+    left ≡ text ∷ next → TakenBetween part left first count file sum before between → EndsFile (file + 1) text ended → TakesPart first part count before now (Err ended)
+ends_between law part left next first count file sum text before between now ended e so_far ends texts rest start =
+    ends_texts law texts (left ++ rest) (next ++ rest) (file + 1) sum text between ended (ap (λ (ts : List (List ℕ)). ts ++ rest) e) (so_far texts rest start) ends
+
+-- or none is left
+pub done_between :
+    (part left : List (List ℕ)) (first count file sum : ℕ) (before now : Resolver) →
+    left ≡ [] → file ≡ first + length part → TakenBetween part left first count file sum before now → TakesPart first part count before now (Ok sum)
+done_between part left first count file sum before now e at so_far texts rest start =
+    subst (λ (n : ℕ). TakenUpTo texts rest (n + 1) sum now) at (subst (λ (ts : List (List ℕ)). TakenUpTo texts (ts ++ rest) (file + 1) sum now) e (so_far texts rest start))
+
+-- memory was wanted
+pub wanted_between : EverySource → (part : List (List ℕ)) (first count : ℕ) (before now : Resolver) (ended : Ended) → ended ≡ bare 12 0 → TakesPart first part count before now (Err ended)
+wanted_between law part first count before now ended e texts rest start = wanted_for_texts law texts ended e
+
+-- a part of them
+pub part_between :
+    (all part left : List (List ℕ)) (first count file sum more : ℕ) (before between now : Resolver) →
+    TakenBetween all (part ++ left) first count file sum before between → TakesPart file part sum between now (Ok more) → TakenBetween all left first count (file + length part) more before now
+part_between all part left first count file sum more before between now so_far takes texts rest start =
+    takes texts (left ++ rest) (subst (λ (ts : List (List ℕ)). TakenUpTo texts ts (file + 1) sum between) (append_assoc part left rest) (so_far texts rest start))
+
+pub part_ends :
+    (all part left : List (List ℕ)) (first count file sum : ℕ) (before between now : Resolver) (ended : Ended) →
+    TakenBetween all (part ++ left) first count file sum before between → TakesPart file part sum between now (Err ended) → TakesPart first all count before now (Err ended)
+part_ends all part left first count file sum before between now ended so_far takes texts rest start =
+    takes texts (left ++ rest) (subst (λ (ts : List (List ℕ)). TakenUpTo texts ts (file + 1) sum between) (append_assoc part left rest) (so_far texts rest start))
+
+-- What texts come to.
+
+pub tree_ends : EverySource → (file : ℕ) (text : List ℕ) (fault : ParseFault) (ended : Ended) (tokens : List Token) → Tokenizes file text (Ok tokens) → Parses tokens (Err fault) → ended ≡ tree_ending file fault → EndsFile file text ended
+tree_ends law file text (parse.Syntax at why) ended tokens are none e = record { source = no_tree at why; is_read = (tokens, are, none); ends = λ on before sources. is_refused (report.Syntax file at why) ended refl e }
+tree_ends law file text parse.Memory ended tokens are none e = wanted_for_text law file text ended e
+
+pub tree_taken :
+    (file : ℕ) (text : List ℕ) (count sum : ℕ) (forms : List Form) (before now : Resolver) (tokens : List Token) →
+    Tokenizes file text (Ok tokens) → Reads tokens forms → (sum ≡ count + count_by is_definition forms) × FileAdds forms before now → FileTaken file text count (λ given. FileAdds given before now) sum
+tree_taken file text count sum forms before now tokens are reads adds = record { forms = forms; is_read = (tokens, are, reads); given = adds.1; counts = adds.0 }
+
+-- of the texts of some trees these are left, with those trees
+pub record TreesLeft (part : List (List ℕ)) (left : List TextTree) (first count file sum : ℕ) (before now : Resolver) : Type 0 where
+  pub texts : List (List ℕ)
+  pub are : AreTreesOf (file + 1) texts left
+  pub taken : TakenBetween part texts first count file sum before now
+  pub all : file + length texts ≡ first + length part
+
+-- the first of them
+pub record FirstTree (file : ℕ) (texts : List (List ℕ)) (tree : TextTree) (next : List TextTree) : Type 0 where
+  pub text : List ℕ
+  pub rest : List (List ℕ)
+  pub is : texts ≡ text ∷ rest
+  pub comes : IsTreeOf file text tree
+  pub others : AreTreesOf (file + 1) rest next
+
+pub first_tree : (file : ℕ) (texts : List (List ℕ)) (left next : List TextTree) (tree : TextTree) → left ≡ tree ∷ next → AreTreesOf file texts left → FirstTree file texts tree next
+first_tree file texts left next tree e are = of_first texts (subst (λ (ts : List TextTree). AreTreesOf file texts ts) e are)
+  where
+    of_first : (texts : List (List ℕ)) → AreTreesOf file texts (tree ∷ next) → FirstTree file texts tree next
+    of_first [] h = absurd h
+    of_first (text ∷ rest) h = record { text = text; rest = rest; is = refl; comes = h.0; others = h.1 }
+
+-- no text is left where no tree is
+pub none_left : (file : ℕ) (texts : List (List ℕ)) (left : List TextTree) → left ≡ [] → AreTreesOf file texts left → texts ≡ []
+none_left file texts left e are = of_none texts (subst (λ (ts : List TextTree). AreTreesOf file texts ts) e are)
+  where
+    of_none : (texts : List (List ℕ)) → AreTreesOf file texts [] → texts ≡ []
+    of_none [] h = refl
+    of_none (text ∷ rest) h = absurd h
