@@ -30,10 +30,6 @@
 //!     @deepest                the runs from here on tell how many return entries they had at most
 //!     @run N M                runs the code from the place N, with M ticks
 //!     @twice N M              runs it so two times on one machine
-//!     @on N M                 runs it so on the machine of the last such line, which goes on over the image as it is now; at first on a new one
-ghost use Rattle.std.specs.Prelude.{◌≡◌, true};
-ghost use Rattle.fac_vm.specs.GoingOn.{IsLongerImage};
-
 use crate::instructions::instr;
 use crate::told_rows::Rows;
 use crate::told_runs::{told, told_deepest};
@@ -66,7 +62,6 @@ pub struct Case {
     rows: Rows,
     code: Vec<Instr>,
     said: Said,
-    kept: Option<Machine>,
 }
 
 // The two numbers of a text.
@@ -145,28 +140,6 @@ fn run_eagerly(
     runs_told(alloc, &mut machine, said, budget, again)
 }
 
-// Whether an image has what a machine needs that goes on over it.
-fn is_longer(machine: &Machine, image: &Image) -> bool
-    ensures { result ≡ true → IsLongerImage machine.now.image image.now }
-{
-    let old = machine.image();
-    old.templates.len() <= image.templates.len() && old.arrays.len() <= image.arrays.len()
-}
-
-// The machine that goes on over an image; a new one where there is none that can.
-fn next_machine(alloc: Global, kept: &Option<Machine>, image: Image) -> Result<Machine, Memory> {
-    match kept {
-        Some(machine) => {
-            if is_longer(machine, &image) {
-                machine.go_on(alloc, image)
-            } else {
-                Machine::new(alloc, image)
-            }
-        }
-        None => Machine::new(alloc, image),
-    }
-}
-
 // Where both come to the same, what they come to; else both, one behind the other.
 fn both(plain: Text, eager: Text) -> Result<Text, Memory> {
     let mut told = plain;
@@ -189,7 +162,6 @@ impl Case {
                 writes: Vec::new(alloc),
                 is_deepest_told: false,
             },
-            kept: None,
         }
     }
 
@@ -200,7 +172,6 @@ impl Case {
             Some(set) => match set.split_once(' ').unwrap_or((set, "")) {
                 ("run", text) => return self.run(alloc, text, false),
                 ("twice", text) => return self.run(alloc, text, true),
-                ("on", text) => return self.go_on(alloc, text),
                 ("about", _) => true,
                 ("deepest", _) => self.tell_deepest(),
                 ("input", text) => self.add_input(text)?,
@@ -283,19 +254,5 @@ impl Case {
             Some(image) => both(told, run_eagerly(alloc, image, said, budget, again)?),
             None => Ok(told),
         }
-    }
-
-    // Runs the image on what the last run of this kind left, and tells how it ended.
-    fn go_on(&mut self, alloc: Global, text: &str) -> Result<Text, Memory> {
-        let Some((start, budget)) = start_and_budget(text) else {
-            return Text::from_str(alloc, "  not taken\n");
-        };
-        let Some(image) = self.image(alloc, start)? else {
-            return Text::from_str(alloc, "  no image\n");
-        };
-        let mut machine = next_machine(alloc, &self.kept, image)?;
-        let told = run_told(alloc, &mut machine, &self.said, budget)?;
-        self.kept = Some(machine);
-        Ok(told)
     }
 }
