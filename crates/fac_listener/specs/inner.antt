@@ -1,0 +1,2 @@
+-- What only the contracts of inner functions cite.
+pub mod ReadTexts
