@@ -1,0 +1,4 @@
+pub mod SourceLemmas
+pub mod ClosedNameLemmas
+pub mod JudgedLemmas
+pub mod ImageLemmas

@@ -1,0 +1,4 @@
+pub mod TextSources
+pub mod JudgedPrograms
+pub mod TextImages
+pub mod inner

@@ -1,0 +1,3 @@
+-- What only the contracts of inner functions cite.
+pub mod ReadTexts
+pub mod ClosedNames
