@@ -22,3 +22,4 @@ pub mod ExamplesOfLiterals
 pub mod ExamplesOfLocals
 pub mod FrameLaws
 pub mod OpeningLaws
+pub mod Crossings
