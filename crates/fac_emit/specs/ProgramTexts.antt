@@ -125,7 +125,7 @@ arrays_texts [] = []
 arrays_texts (ls ∷ lss) = own_elements_texts ls ++ arrays_texts lss
 
 -- Word by word, so that the texts of a longer program begin with those of a shorter one. Behind the words come the strings of all templates and
--- arrays and the names of all classes, so that each text is there whatever stands where: to a program as it is read these add nothing.
+-- arrays and the names of all classes, so that each text is there whatever stands where.
 abbrev pub text_sequence : Closed → List (List ℕ)
 text_sequence C = words_texts C C.program.words ++ (templates_texts C.templates ++ (arrays_texts C.program.arrays ++ classes_texts C.program.classes))
 
