@@ -15,7 +15,7 @@ A block behind it that begins with "```input" is its input. The next block, whic
 the end, and behind that word `status=N` where it ends with another status than 0.
 
 An indented listing of docs/LANGUAGE.md is run as `a.factor`, behind all vocabularies where it uses none. Where the line behind it begins with "This prints",
-it has to write what stands between backticks in this sentence; otherwise it has to be accepted. PARTS are no programs by themselves.
+it has to write what stands between backticks in this sentence; otherwise it has to be accepted.
 
 The table of README.md that says what to write instead has sources between backticks: the first one of its left column has to be refused by the
 grammar or as a name, and those of its right column that aren't one word have to be accepted. Both are run behind the whole library.
@@ -55,8 +55,6 @@ LISTING = re.compile(
 
 INDENTED = re.compile(r"\n\n((?:    [^\n]*\n|\n(?=    ))+)\n([^\n]*(?:\n[^\n]+)*)")
 ALL = "USING: kernel math math.parser sequences arrays io prettyprint combinators strings words accessors locals fry ;"
-# Listings that are parts: what they begin with, and the words that make a program of one, or nothing where it is no phrase at all.
-PARTS = {"( str: string n -- str )": None, "[ dup 100 < ] call": (": listing ( n -- str ) ", " ;")}
 
 INSTEAD = "| In Factor | Write instead |\n|---|---|\n"
 OF_LIBRARY = "combinators sequences sorting vectors assocs hashtables math text io".split()
@@ -118,20 +116,13 @@ def programs():
 
 
 def indented():
-    """The indented listings of LANGUAGE, as programs; one that is accepted alone or behind the one before it, where it writes nothing."""
-    before = ""
+    """The indented listings of LANGUAGE, as programs."""
     for number, found in enumerate(INDENTED.finditer(read(LANGUAGE).decode()), 1):
         text = re.sub("^    ", "", found[1], flags=re.MULTILINE)
-        around = next((around for start, around in PARTS.items() if text.startswith(start)), ("", ""))
-        if around is None:
-            continue
         told = re.match(r"This prints (.*?)[.:](?=\s|$)", found[2].replace("\n", " "))
         wanted = "".join(line + "\n" for line in re.findall("`([^`]*)`", told[1])) if told else ""
         whole = "" if "USING:" in text or "USE:" in text else ALL + "\n"
-        if text.startswith("1 2 account boa"):
-            text = before + text
-        yield Program(f"indented listing {number} of {LANGUAGE}", ["a.factor"], {"a.factor": (whole + text.join(around)).encode()}, 0, wanted.encode())
-        before = text
+        yield Program(f"indented listing {number} of {LANGUAGE}", ["a.factor"], {"a.factor": (whole + text).encode()}, 0, wanted.encode())
 
 
 def instead():
