@@ -1,6 +1,7 @@
 ! Tests of `lib/heaps.factor`. Each line writes what it leaves, the top of the stack first.
 
 USING: heaps kernel math sequences vectors prettyprint ;
+IN: heaps-tests
 FROM: growable => >array ;
 
 : taken ( heap -- keys ) 0 <vector> swap [ nip over push ] slurp-heap >array ;

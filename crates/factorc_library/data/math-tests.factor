@@ -1,6 +1,7 @@
 ! Tests of `lib/math.factor`. Each line writes what it leaves, the top of the stack first.
 
 USING: kernel math math.functions math.order math.parser ranges sequences prettyprint ;
+IN: math-tests
 
 ! Quotients
 

@@ -1,6 +1,7 @@
 ! Tests of `lib/sequences.factor`. Each line writes what it leaves, the top of the stack first.
 
 USING: kernel math sequences arrays splitting io math.parser prettyprint ;
+IN: sequences-tests
 
 ! Places and parts
 

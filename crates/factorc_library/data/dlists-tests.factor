@@ -1,6 +1,7 @@
 ! Tests of `lib/dlists.factor`. Each line writes what it leaves, the top of the stack first.
 
 USING: deques dlists kernel math sequences prettyprint ;
+IN: dlists-tests
 
 : few ( -- dlist ) <dlist> { 1 2 3 } over push-all-back ;
 

@@ -1,6 +1,7 @@
 ! Tests of `lib/combinators.factor`. Each line writes what it leaves, the top of the stack first.
 
 USING: kernel math sequences prettyprint ;
+IN: combinators-tests
 
 1 2 3 [ + + ] 3keep . . . .
 7 2 [ - ] [ * ] 2bi . .

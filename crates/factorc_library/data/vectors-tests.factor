@@ -1,6 +1,7 @@
 ! Tests of `lib/vectors.factor`. Each line writes what it leaves, the top of the stack first.
 
 USING: accessors arrays kernel math sequences vectors prettyprint ;
+IN: vectors-tests
 FROM: growable => length nth set-nth first second last empty? each map filter reduce sum >array ;
 
 ! Making them

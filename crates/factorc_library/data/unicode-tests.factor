@@ -1,6 +1,7 @@
 ! Tests of `lib/unicode.factor`. Each line writes what it leaves.
 
 USING: io kernel math prettyprint sequences strings ;
+IN: unicode-tests
 
 { 26085 26412 9731 969 128512 } >string print
 { 1 27 127 159 55295 57344 65533 65535 127488 130047 } [ 1string first ] map .

@@ -1,6 +1,7 @@
 ! Tests of `lib/bignums.factor`. Each line writes what it leaves, the top of the stack first.
 
 USING: bignums kernel math math.order sequences sorting io prettyprint ;
+IN: bignums-tests
 
 : big. ( x -- ) bignum>string print ;
 

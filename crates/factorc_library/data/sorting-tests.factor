@@ -1,6 +1,7 @@
 ! Tests of `lib/sorting.factor`. Each line writes what it leaves, the top of the stack first.
 
 USING: kernel math math.order sequences arrays sorting io prettyprint ;
+IN: sorting-tests
 
 ! Comparing
 

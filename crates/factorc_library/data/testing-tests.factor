@@ -1,6 +1,7 @@
 ! Tests of `lib/testing.factor`.
 
 USING: kernel math tools.test ;
+IN: testing-tests
 
 { } [ ] unit-test
 { 3 } [ 1 2 + ] unit-test

@@ -1,6 +1,7 @@
 ! Tests of `lib/text.factor`. Each line writes what it leaves, the top of the stack first.
 
 USING: kernel math sequences splitting strings ascii io math.parser prettyprint ;
+IN: text-tests
 
 ! Strings of characters
 

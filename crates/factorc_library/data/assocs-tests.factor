@@ -1,6 +1,7 @@
 ! Tests of `lib/assocs.factor`. Each line writes what it leaves, the top of the stack first.
 
 USING: kernel math sequences arrays assocs io prettyprint ;
+IN: assocs-tests
 
 CONSTANT: ages { { "ann" 30 } { "bob" f } { "é" 7 } { "ann" 99 } }
 

@@ -1,6 +1,7 @@
 ! Tests of `lib/sets.factor`. Each line writes what it leaves, the top of the stack first.
 
 USING: kernel math sequences sets prettyprint ;
+IN: sets-tests
 
 : few ( -- hash-set ) { 3 4 3 } >hash-set ;
 

@@ -1,4 +1,5 @@
-//! The program again, with a stored run that reads its input, to its end and once more.
+//! The program again, with a stored run of the library and its tests: all files of `data/`, which `lib` at the top is. It reads its input, to its end and
+//! once more.
 #![tactic(auto)]
 
 use fac_io::{RealFiles, RealSink, RealSource};
