@@ -51,7 +51,7 @@ def stored_run():
     files = [f"{name}{part}.factor" for name in names for part in ("", "-tests")]
     lib = ROOT / "lib"
     return {
-        "args": "".join(f"{word}\n" for word in ["run", *files]).encode(),
+        "args": "".join(f"{word}\n" for word in ["run", "--steps", "200000000", *files]).encode(),
         "stdin": (lib / "io-tests.in").read_bytes(),
         "stdout": b"".join((lib / f"{name}-tests.out").read_bytes() for name in names),
     }
