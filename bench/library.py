@@ -11,7 +11,7 @@ processor one of n takes, by valgrind's callgrind, without those of a program th
 take; and how many times as many as CPython's. It ends with status 1 where an answer is wrong, and where 4 n take more than 5 times as many, of
 heaps and sorts 6 times.
 
-`needs` gives the files of the library that one needs before it, as its first lines say; examples/check.py asks for them.
+`needs_of` gives the files of the library that a file needs before it, as its first lines say; examples/check.py asks for them.
 """
 
 import os
@@ -33,16 +33,16 @@ HEAD = re.compile(r"It needs (.*?) before it")
 FILE = re.compile(r"`lib/(\w+)\.factor`")
 
 
-def needs(name):
-    """The names of the files of the library that this one needs before it, in an order that serves."""
-    first = (ROOT / f"lib/{name}.factor").read_text(encoding="utf-8").partition("\n\n")[0]
+def needs_of(path):
+    """The names of the files of the library that the file at this path, from the top, needs before it, in an order that serves."""
+    first = (ROOT / path).read_text(encoding="utf-8").partition("\n\n")[0]
     told = HEAD.search(" ".join(line.lstrip("! ") for line in first.split("\n")))
     return FILE.findall(told[1]) if told else []
 
 
 def with_needs(name):
-    """The names of all files that this one needs, and its own."""
-    return [*needs(name), name]
+    """The names of all files of the library that this one needs, and its own."""
+    return [*needs_of(f"lib/{name}.factor"), name]
 
 
 def stored_run():

@@ -5,8 +5,8 @@ writes what it should.
     python3 examples/check.py [PROGRAM]         on the built program, by default crates/factorc/out/factorc
     python3 examples/check.py --model           on the model of the language, bench/model.py
 
-Each program is run by itself, as `PROGRAM run NAME.factor`, and each test of the library behind the files that it needs, as
-`PROGRAM run lib/NAME.factor lib/NAME-tests.factor`. Its input is the file with its name and `.in`, or nothing where there is none. It has to
+Each program is run behind the files of the library that its first lines name, and each test of the library behind the file that it tests and those that
+this one needs, as `PROGRAM run lib/NAME.factor lib/NAME-tests.factor`. Its input is the file with its name and `.in`, or nothing where there is none. It has to
 write what the file with its name and `.out` has, and to end with status 0 and without a note.
 
 A listing of README.md and of docs/TUTORIAL.md is a block that begins with "```factor", perhaps with the names of files of the library that it needs behind
@@ -102,7 +102,8 @@ def programs():
             if folder == "lib" and tested != name:
                 yield stored([f"lib/{needed}.factor" for needed in files.with_needs(tested)] + [f"lib/{name}"])
             elif folder == "examples" and name.endswith(".factor"):
-                yield stored([f"examples/{name}"])
+                path = f"examples/{name}"
+                yield stored([*(f"lib/{needed}.factor" for needed in files.needs_of(path)), path])
     for page, number, found in ((page, *each) for page in (README, TUTORIAL) for each in enumerate(LISTING.finditer(read(page)), 1)):
         library, text, given, status, wanted = found.groups()
         names = library.decode().split()

@@ -37,6 +37,7 @@ table values .
 { } keys .
 { 1 2 3 } "ab" zip .
 { } { 1 } zip .
+"ab" zip-index .
 table unzip . .
 table [ . . ] assoc-each
 0 { { 1 10 } { 2 20 } } [ * + ] assoc-each .

@@ -107,6 +107,9 @@ M: object values >alist [ second ] map ;
 ! A table of these keys and values, up to the end of the shorter sequence.
 : zip ( keys values -- alist ) [ 2array ] 2map ;
 
+! An array of pairs of each element and its place.
+: zip-index ( seq -- alist ) [ 2array ] map-index ;
+
 ! The keys and the values.
 : unzip ( assoc -- keys values ) [ keys ] [ values ] bi ;
 

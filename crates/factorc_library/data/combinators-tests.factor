@@ -1,6 +1,6 @@
 ! Tests of `lib/combinators.factor`. Each line writes what it leaves, the top of the stack first.
 
-USING: kernel math sequences prettyprint ;
+USING: combinators kernel math sequences prettyprint ;
 IN: combinators-tests
 
 1 2 3 [ + + ] 3keep . . . .

@@ -22,13 +22,6 @@ USE: sequences
 ! Runs three callables on `x`, `y` and `z`, one after another.
 : 3tri ( x y z p q r -- ) [ [ 3keep ] dip 3keep ] dip call ; inline
 
-! Runs each callable of an array on `x`. Factor's `cleave` takes callables that leave values; here, where an array isn't looked into before
-! the program runs, each has to leave none. What leaves values is `bi`, `tri`, `2bi` or `2tri`.
-: cleave ( x seq -- ) [ dupd call( x -- ) ] each drop ;
-
-! Runs each callable of an array on `x` and `y`. As `cleave`, it takes callables that leave nothing.
-: 2cleave ( x y seq -- ) [ [ 2dup ] dip call( x y -- ) ] each 2drop ;
-
 ! Several values, a callable for each
 
 ! Runs `p` on `w` and `x`, and then `q` on `y` and `z`.
@@ -76,3 +69,15 @@ USE: sequences
 
 ! The callable that runs `quot` with `param1` and `param2` below the top value.
 : 2with ( param1 param2 obj quot -- obj curry ) with with ; inline
+
+IN: combinators
+USING: kernel sequences ;
+
+! Several callables out of an array
+
+! Runs each callable of an array on `x`. Factor's `cleave` takes callables that leave values; here, where an array isn't looked into before
+! the program runs, each has to leave none. What leaves values is `bi`, `tri`, `2bi` or `2tri`.
+: cleave ( x seq -- ) [ dupd call( x -- ) ] each drop ;
+
+! Runs each callable of an array on `x` and `y`. As `cleave`, it takes callables that leave nothing.
+: 2cleave ( x y seq -- ) [ [ 2dup ] dip call( x y -- ) ] each 2drop ;

@@ -1,6 +1,6 @@
 ! Tests of `lib/hashtables.factor`. Each line writes what it leaves, the top of the stack first.
 
-USING: accessors assocs hashtables kernel math math.parser sequences prettyprint ;
+USING: accessors assocs hashtables kernel math math.parser math.statistics sequences prettyprint ;
 IN: hashtables-tests
 
 SYMBOL: red

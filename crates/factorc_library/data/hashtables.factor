@@ -157,6 +157,9 @@ M: hashtable assoc-like
 ! A hash table of the keys and values of a table, and of equal keys of the last one.
 : >hashtable ( assoc -- hash ) >alist 0 <hashtable> assoc-like ;
 
+IN: math.statistics
+USING: assocs hashtables kernel sequences ;
+
 ! A hash table of each element and how often it stands in the sequence.
 : histogram ( seq -- hash )
     0 <hashtable> [ [ inc-at ] curry each ] keep ;

@@ -34,7 +34,8 @@ CONSTANT: (modulus2) 2147483399
 
 PRIVATE>
 
-! Begins with these numbers again. Two programs, or two parts of one, get the same numbers behind the same seed.
+! Begins with these numbers again. Two programs, or two parts of one, get the same numbers behind the same seed. In Factor it takes and leaves
+! the generator too.
 : seed-random ( seed -- )
     dup 2147483562 mod abs 1 + 0 (state) set-nth
     2147483398 mod abs 1 + 1 (state) set-nth

@@ -149,7 +149,6 @@ USING: grouping ;
 { 1 2 } { 3 4 } [ < ] 2all? .
 { 1 9 } { 3 4 } [ < ] 2all? .
 { } { 1 } [ < ] 2all? .
-"ab" zip-index .
 { 1 2 3 } [ "-" write ] [ number>string write ] interleave nl
 { } [ "-" write ] [ number>string write ] interleave nl
 100 { 1 2 } [ 1 + ] [ + ] interleave .

@@ -126,9 +126,6 @@ PRIVATE>
 : accumulate ( ..a seq identity quot: ( ..a prev elt -- ..a next ) -- ..a final newseq )
     [ swap ] dip [ dip ] curry [ over ] prepose map ; inline
 
-! An array of pairs of each element and its place.
-: zip-index ( seq -- alist ) [ 2array ] map-index ;
-
 ! Runs `quot` on each element, and `between` before each one but the first.
 :: interleave ( ..a seq between: ( ..a -- ..a ) quot: ( ..a elt -- ..a ) -- ..a )
     seq [ zero? [ between dip ] unless quot call ] each-index ; inline
