@@ -10,7 +10,7 @@ this one needs, as `PROGRAM run lib/NAME.factor lib/NAME-tests.factor`. Its inpu
 write what the file with its name and `.out` has, and to end with status 0 and without a note.
 
 A listing of README.md and of docs/TUTORIAL.md is a block that begins with "```factor", perhaps with the names of files of the library that it needs behind
-that, and with the word `image` before them where it is built as an image too, which is executed then. It is run as `a.factor`, behind these.
+that, and with the word `image` before them where it is built as an image too, which is executed then, or `stack` where it is run with `--stack`. It is run as `a.factor`, behind these.
 A block behind it that begins with "```input" is its input. The next block, which begins with "```text", has what it writes, with its note at
 the end, and behind that word `status=N` where it ends with another status than 0.
 
@@ -69,8 +69,8 @@ NOTE = re.compile(rb'codes "([^"]*)"')
 
 @dataclass
 class Program:
-    """A program: what it is called here, the names of its files and their texts, the status and the text that it ends with, its input, and
-    whether it is built as an image too."""
+    """A program: what it is called here, the names of its files and their texts, the status and the text that it ends with, its input, whether it
+    is built as an image too, and the options of its run."""
 
     title: str
     names: list
@@ -79,6 +79,7 @@ class Program:
     wanted: bytes
     given: bytes = b""
     image: bool = False
+    options: tuple = ()
 
 
 def read(name):
@@ -107,11 +108,11 @@ def programs():
     for page, number, found in ((page, *each) for page in (README, TUTORIAL) for each in enumerate(LISTING.finditer(read(page)), 1)):
         library, text, given, status, wanted = found.groups()
         names = library.decode().split()
-        image = names[:1] == ["image"]
-        names = names[image:]
+        image, stack = (names[:1] == [word] for word in ("image", "stack"))
+        names = names[image or stack :]
         texts = {name: read(name) for name in names} | {"a.factor": text}
         status = int(status.partition(b"status=")[2] or 0)
-        yield Program(f"listing {number} of {page}", [*names, "a.factor"], texts, status, wanted, given or b"", image)
+        yield Program(f"listing {number} of {page}", [*names, "a.factor"], texts, status, wanted, given or b"", image, ("--stack",) if stack else ())
     for note, text in EXAMPLE.findall(read(REFUSALS)):
         yield Program(f"the example {text.decode()} of {REFUSALS}", ["a.factor"], {"a.factor": text}, STATUSES[note.partition(b":")[0]], note + b"\n")
 
@@ -167,7 +168,7 @@ def run_built(built, program):
             found = subprocess.run(command, cwd=folder, input=program.given, capture_output=True, timeout=MOST_SECONDS, check=False)
             return found.returncode, found.stdout + found.stderr
 
-        ran = ended("run", *program.names)
+        ran = ended("run", *program.options, *program.names)
         if not program.image or ran != (program.status, program.wanted):
             return ran
         saved = ended("build", *program.names, "-o", "a.image")
@@ -176,7 +177,7 @@ def run_built(built, program):
 
 def run_model(program):
     """The same of the model."""
-    answer = model.answer(["run", *program.names], program.texts, given=program.given)
+    answer = model.answer(["run", *program.options, *program.names], program.texts, given=program.given)
     return answer.status, answer.output.encode() + answer.note.encode()
 
 
