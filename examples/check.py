@@ -10,7 +10,8 @@ this one needs, as `PROGRAM run lib/NAME.factor lib/NAME-tests.factor`. Its inpu
 write what the file with its name and `.out` has, and to end with status 0 and without a note.
 
 A listing of README.md and of docs/TUTORIAL.md is a block that begins with "```factor", perhaps with the names of files of the library that it needs behind
-that, and with the word `image` before them where it is built as an image too, which is executed then, or `stack` where it is run with `--stack`. It is run as `a.factor`, behind these.
+that, and with the word `image` before them where it is built as an image too, which is executed then, or `stack` where it is run with `--stack`. It is
+run as `a.factor`, behind these.
 A block behind it that begins with "```input" is its input. The next block, which begins with "```text", has what it writes, with its note at
 the end, and behind that word `status=N` where it ends with another status than 0.
 
@@ -23,12 +24,17 @@ grammar or as a name, and those of its right column that aren't one word have to
 An example of docs/REFUSALS.md is an item of a list that begins with a note and, behind `of`, a source, both between backticks. The source is run as
 `a.factor`, and has to write this note alone and to end with its status. Each text of the tables of notes has to stand in that document.
 
+The commands in README.md, docs/TUTORIAL.md, examples/README.md and man/factorc.1 that name files are done in their order on the built program, in a folder
+with a copy of lib/ and examples/, a program `a.factor`, and the listing of the tutorial that is an image too with its input, `votes.factor` and `votes.txt`.
+Each has to end with status 0.
+
 The script ends with status 1 where one ends otherwise or writes something else.
 """
 
 import difflib
 import os
 import re
+import shutil
 import subprocess
 import sys
 import tempfile
@@ -59,6 +65,11 @@ ALL = "USING: kernel math math.parser sequences arrays io prettyprint combinator
 INSTEAD = "| In Factor | Write instead |\n|---|---|\n"
 OF_LIBRARY = "combinators sequences sorting vectors assocs hashtables math text io".split()
 BEFORE_INSTEAD = f"{ALL[:-2]} assocs hashtables math.functions vectors ; TUPLE: point x y ; "
+
+MANUAL = "man/factorc.1"
+# A command that names a file, on a line of its own or in backticks, and has no word in capital letters, which stands for others.
+COMMAND = re.compile(r"^    ((?:factorc|printf) .*\.\w.*)$|`((?:printf [^`]*)?factorc \w+ [^`]*\.\w[^`]*)`", re.MULTILINE)
+CAPITALS = re.compile(r"\b[A-Z]+\b(?![\w.])")
 
 REFUSALS = "docs/REFUSALS.md"
 EXAMPLE = re.compile(rb"^- `([^`\n]+)` of\s+`([^`\n]+)`", re.MULTILINE)
@@ -147,6 +158,37 @@ def misguided(built):
     return faults
 
 
+def commands():
+    """The commands of the documents, each with the page that has it."""
+    for page in (README, TUTORIAL, "examples/README.md"):
+        for found in COMMAND.finditer(read(page).decode()):
+            if not CAPITALS.search(command := found[1] or found[2]):
+                yield page, command
+    block = re.search(r"^\.nf\n(.*?)^\.fi$", read(MANUAL).decode(), re.MULTILINE | re.DOTALL)[1]
+    yield from ((MANUAL, line) for line in block.replace("\\-", "-").replace("\\\\", "\\").splitlines())
+
+
+def unfollowed(built):
+    """The commands of the documents that don't end well on the built program."""
+    faults = []
+    with tempfile.TemporaryDirectory() as folder:
+        for name in ("lib", "examples"):
+            shutil.copytree(os.path.join(TOP, name), os.path.join(folder, name))
+        votes = next(program for program in programs() if program.image)
+        texts = {"a.factor": b"USING: math prettyprint ; 1 2 + .\n", "votes.factor": votes.texts["a.factor"], "votes.txt": votes.given}
+        for name, text in texts.items():
+            with open(os.path.join(folder, name), "wb") as file:
+                file.write(text)
+        os.mkdir(os.path.join(folder, "bin"))
+        os.symlink(os.path.abspath(built), os.path.join(folder, "bin", "factorc"))
+        path = {**os.environ, "PATH": f"{folder}/bin:{os.environ['PATH']}"}
+        for page, command in commands():
+            ran = subprocess.run(command, shell=True, cwd=folder, env=path, stdin=subprocess.DEVNULL, capture_output=True, timeout=MOST_SECONDS, check=False)
+            if ran.returncode:
+                faults.append(f"{page}: {command} ends with status {ran.returncode}: {ran.stderr.decode()}")
+    return faults
+
+
 def unexplained():
     """The texts of notes that docs/REFUSALS.md doesn't have."""
     texts = [text.replace(b"\\n", b"").strip() for name in NOTES for text in NOTE.findall(read(name))]
@@ -194,7 +236,7 @@ def difference(got, program):
 def main():
     on_model = sys.argv[1:] == ["--model"]
     built = None if on_model else speed.program_or(speed.DEFAULT)
-    failed = unexplained() + misguided(built)
+    failed = unexplained() + misguided(built) + ([] if on_model else unfollowed(built))
     count = 0
     for program in [*programs(), *indented()]:
         count += 1
