@@ -236,12 +236,14 @@ PRIVATE>
 
 ! Joining and splitting
 
+USE: math.private
+
 <PRIVATE
 
-! The sequences in the places from `from` up to `to`, of which there is one, one behind the other. Both halves are made in the same way.
+! The sequences in the places from `from` up to `to`, of which there is one, one behind the other. Both halves of many are made in the same way.
 :: (concat) ( from to seq -- newseq )
-    to from - 3 < [
-        from seq nth to from - 1 > [ from 1 + seq nth append ] when
+    to from - 9 < [
+        from seq nth from 1 + to [ seq nth append ] (each-integer)
     ] [
         from to + 2 /i :> middle
         from middle seq (concat) middle to seq (concat) append
@@ -249,7 +251,9 @@ PRIVATE>
 
 ! The same, with `joint` between each two.
 :: (join) ( from to seq joint -- newseq )
-    to from - 1 = [ from seq nth ] [
+    to from - 9 < [
+        from seq nth from 1 + to [ [ joint append ] dip seq nth append ] (each-integer)
+    ] [
         from to + 2 /i :> middle
         from middle seq joint (join) joint append
         middle to seq joint (join) append

@@ -7,7 +7,7 @@
 ! Another code point is thrown. Words that take parts of a given string keep every character.
 
 IN: strings
-USING: arrays kernel math sequences ;
+USING: arrays kernel math math.private sequences ;
 
 <PRIVATE
 
@@ -76,12 +76,24 @@ PRIVATE>
 ! The string of `n` times this character.
 : <string> ( n ch -- string ) 1string <array> "" join ;
 
+<PRIVATE
+
+! The string of the characters in the places from `from` up to `to`. Both halves of many are made in the same way.
+:: (part>string) ( from to seq ascii -- str )
+    to from - 33 < [
+        "" from to [
+            seq nth dup ascii (fast-string-of) [ nip ] [ throw ] if* append
+        ] (each-integer)
+    ] [
+        from to + 2 /i :> middle
+        from middle seq ascii (part>string) middle to seq ascii (part>string) append
+    ] if ;
+
+PRIVATE>
+
 ! The string of these characters.
 :: >string ( seq -- str )
-    seq string? [ seq ] [
-        (begin) 0 (row) :> ascii
-        seq [ dup ascii (fast-string-of) [ nip ] [ throw ] if* ] map "" join
-    ] if ;
+    seq string? [ seq ] [ (begin) 0 seq length seq 0 (row) (part>string) ] if ;
 
 IN: sequences
 USING: arrays kernel math strings ;
