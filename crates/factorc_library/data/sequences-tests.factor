@@ -186,3 +186,6 @@ USING: grouping ;
 { "a" "b" "c" "d" "e" } "" join .
 { "a" "b" "c" "d" "e" } "·" join .
 { { 1 } { 2 } { 3 } } { } join .
+20 <iota> [ number>string ] map "," join .
+20 <iota> [ number>string ] map "" join .
+20 <iota> [ 1array ] map { } join .

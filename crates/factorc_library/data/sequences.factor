@@ -1,4 +1,4 @@
-! More words on sequences, by the names and effects that Factor has for them.
+! More words on sequences, by the names and effects that Factor has for them. It needs no other file.
 !
 ! What is made of several sequences is a string where all of them are strings, and otherwise an array, as `append` has it. What is made
 ! element by element is an array.

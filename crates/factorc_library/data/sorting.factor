@@ -1,4 +1,4 @@
-! Comparing values, and a stable sort, by the names and effects that Factor has for them.
+! Comparing values, and a stable sort, by the names and effects that Factor has for them. It needs no other file.
 !
 ! Integers are compared as numbers, and sequences element by element: of two that agree up to the end of the shorter one, that comes
 ! first. So strings are in the order of their code points. What is sorted is an array, in which values that compare as equal stand as

@@ -1,4 +1,4 @@
-! Vectors, which are sequences that grow, by the names and effects that Factor has for them.
+! Vectors, which are sequences that grow, by the names and effects that Factor has for them. It needs no other file.
 !
 ! A vector keeps its elements in an array with room for more. Where `push` finds no room, that array becomes twice as long, so n times
 ! `push` copy less than 2 n elements. A vector has at most 1,000,000 elements, as an array; one more is `length` in `append`. An element
