@@ -78,4 +78,4 @@ IN: text-tests
 1000 <iota> [ 26 mod 97 + ] map >string [ length . ] [ 999 swap nth . ] bi
 { 100 32 9 10 13 11 } [ blank? ] map .
 "日本 xyz ÿ" >upper .
-"the quick brown fox jumps over the lazy dog, again and again and again" >array >string .
+"the quick brown fox jumps over the lazy dog, again and again and again" [ ] map >string .
