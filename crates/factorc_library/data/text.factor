@@ -142,7 +142,7 @@ PRIVATE>
     dup last empty? [ but-last ] when ;
 
 IN: ascii
-USING: kernel math sequences strings strings.private ;
+USING: kernel math math.private sequences strings strings.private ;
 
 <PRIVATE
 
@@ -174,12 +174,21 @@ PRIVATE>
 
 <PRIVATE
 
-! The text with each character as the callable makes it. Strings of those that aren't known are parts of the text.
-:: (map-text) ( str quot: ( ch -- ch' ) -- newstr )
-    (begin) 0 (row) :> ascii
-    str length <iota> [
-        dup str nth quot call ascii (fast-string-of) [ nip ] [ str (nth-string) ] if*
-    ] map "" join ; inline
+! The text from place `from` up to `to` with each character as the callable makes it. Strings of those that aren't known are parts of the text.
+:: (map-part) ( from to str ascii quot: ( ch -- ch' ) -- newstr )
+    to from - 33 < [
+        "" from to [
+            dup str nth quot call ascii (fast-string-of) [ nip ] [ str (nth-string) ] if* append
+        ] (each-integer)
+    ] [
+        from to + 2 /i :> middle
+        from middle str ascii quot (map-part) :> begin
+        middle to str ascii quot (map-part) begin swap append
+    ] if ; inline recursive
+
+! The text with each character as the callable makes it.
+: (map-text) ( str quot: ( ch -- ch' ) -- newstr )
+    [ (begin) 0 over length rot 0 (row) ] dip (map-part) ; inline
 
 PRIVATE>
 
