@@ -90,7 +90,7 @@ fn nothing() -> AtomicU64 {
 }
 
 // A round in which nothing has begun.
-fn round() -> Round {
+fn new_round() -> Round {
     Round {
         begun: nothing(),
         late: nothing(),
@@ -107,8 +107,8 @@ fn gate(alloc: Global) -> Result<WordGate, Memory> {
         })?;
     }
     Ok(WordGate {
-        first: round(),
-        second: round(),
+        first: new_round(),
+        second: new_round(),
         told,
     })
 }
