@@ -5,6 +5,8 @@ import os
 import struct
 import subprocess
 
+import processes
+
 # What stands in the place of the C library's calls. It tells the number of allocations in the file that the first name tells, as they come, so also
 # where the program is ended by a signal; and at the program's end the greatest memory that the process had. Room of a list that was never
 # used is no memory, so that isn't told by the sizes of allocations. Several threads may allocate: which of their allocations has which number may differ
@@ -87,7 +89,7 @@ class Ran:
 
 
 class Allocations:
-    """The library, in a folder in which programs run."""
+    """The library, in a folder in which programs run, each for so many seconds of processor time at most."""
 
     def __init__(self, folder, seconds=60):
         self.folder = folder
@@ -102,13 +104,7 @@ class Allocations:
         with open(self.told, "wb") as file:
             file.write(bytes(TOLD.size))
         names = {"ALLOCATIONS_LIBRARY": self.library, "ALLOCATIONS_TOLD": self.told, "ALLOCATIONS_FIRST": str(first), "ALLOCATIONS_LAST": str(last)}
-        try:
-            ended = subprocess.run(
-                [*LITTLE_STACK, *words], cwd=self.folder, env={**os.environ, **names}, input=given, capture_output=True, timeout=self.seconds, check=False
-            )
-            status, output, note = ended.returncode, ended.stdout, ended.stderr
-        except subprocess.TimeoutExpired:
-            status, output, note = None, b"", b""
+        ended = processes.run([*LITTLE_STACK, *words], self.seconds, given, self.folder, {**os.environ, **names})
         with open(self.told, "rb") as file:
             calls, kibibytes = TOLD.unpack(file.read())
-        return Ran(status, output, note, calls, kibibytes << 10)
+        return Ran(ended.status, ended.output, ended.note, calls, kibibytes << 10)

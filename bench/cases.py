@@ -44,7 +44,8 @@ MOST_TOLD_TICKS = 2_000_000
 
 TICKS = re.compile(r"(\d+) ticks")
 
-ESCAPES = str.maketrans({"\n": "\\n", "\r": "\\r", "\t": "\\t", "\\": "\\\\"})
+# What is told of characters, in the order in which they are replaced.
+ESCAPES = [("\\", "\\\\"), ("\n", "\\n"), ("\r", "\\r"), ("\t", "\\t")]
 
 
 class Files:
@@ -325,9 +326,13 @@ def answer_of_session(stream, output, note):
     return told
 
 
+# How a line has each byte.
+SPELLED_BYTES = [b"%d" % byte for byte in range(256)]
+
+
 def numbers_of(numbers):
     """Numbers, as a line has them."""
-    return b" ".join(b"%d" % number for number in numbers)
+    return b" ".join(map(SPELLED_BYTES.__getitem__, numbers)) if type(numbers) is bytes else b" ".join(b"%d" % number for number in numbers)
 
 
 def place_of_fault(given):
@@ -391,10 +396,15 @@ def words_of(text):
 
 def told_bytes(what, given):
     """The line that tells of bytes, where there are any."""
+    if not given:
+        return []
     try:
-        return [f"  {what} {given.decode().translate(ESCAPES)}"] if given else []
+        told = given.decode()
     except UnicodeDecodeError:
         return [f"  {what} no text"]
+    for character, escape in ESCAPES:
+        told = told.replace(character, escape)
+    return [f"  {what} {told}"]
 
 
 def told_by(program, made):

@@ -30,7 +30,6 @@ import multiprocessing
 import os
 import random
 import re
-import subprocess
 import sys
 import tempfile
 from collections import Counter
@@ -39,6 +38,7 @@ import cases
 import examples
 import image_model
 import model
+import processes
 import speed
 from allocations import LITTLE_STACK, Allocations
 from examples import H, ends, not_expected
@@ -46,6 +46,7 @@ from examples import H, ends, not_expected
 TOP = os.path.realpath(os.path.join(os.path.dirname(os.path.abspath(__file__)), ".."))
 CASES = os.path.join(TOP, "crates", "fac_cases", "out", "fac_cases")
 
+# How long a run may take, by the processor's time.
 MOST_SECONDS = 60
 MOST_BYTES_A_BYTE, MOST_BYTES_A_BYTE_OF_IMAGE = 40, 10
 BASE = 1 << 20
@@ -492,11 +493,8 @@ def check_deep(checked):
         with open(os.path.join(checked.folder, "a"), "w", encoding="utf-8") as file:
             file.write(f"{H} {source}")
         words = [*LITTLE_STACK, checked.program, "run", "a"]
-        try:
-            ended = subprocess.run(words, cwd=checked.folder, stdin=subprocess.DEVNULL, capture_output=True, timeout=MOST_SECONDS, check=False)
-            got = ended.returncode, ended.stdout.decode(), ended.stderr.decode()
-        except subprocess.TimeoutExpired:
-            got = None, "", f"more than {MOST_SECONDS} seconds"
+        ended = processes.run(words, MOST_SECONDS, folder=checked.folder)
+        got = ended.status, ended.output.decode(), ended.note.decode()
         if got != (status, output, note):
             checked.failed.append(f"{about}: {got[0]}, {got[1][:80]!r}, {got[2][:80]!r}")
     print(f"deep: {len(DEEP)} programs", flush=True)

@@ -1,7 +1,7 @@
 #!/usr/bin/env python3
 """Compares the built factorc with the model of images in bench/image_model.py: `build`, `exec` and `list`, and on images that were damaged.
 
-    python3 bench/images.py [PROGRAM] [--cases CASES] [--self] [--mutations N] [--seed S] [--jobs J]
+    python3 bench/images.py [PROGRAM] [--cases CASES] [--self] [--mutations N] [--seed S] [--jobs J] [--only PART]
 
 PROGRAM is the built program, by default crates/factorc/out/factorc. With `--self` the models play the program: bench/model.py runs, and
 bench/plain_images.py builds what bench/image_model.py executes. So the models are compared with each other where there is no program.
@@ -16,7 +16,8 @@ It does this:
   few bytes a byte is changed to every value.
 - N times, 100,000 by default, an image is damaged at random, executed and listed so. The same seed S, 1 by default, gives the same images.
 
-Status, output and note have to be the model's. The last two are done by J processes, as many as there are processors by default. Answers
+Status, output and note have to be the model's. The last two are done by J processes, as many as there are processors by default; with `--only`
+one of them is left out, and that of `bytes` or of `mutations` stays. Answers
 that tell of memory aren't compared, and an image that makes the model's machine hold too much is left out; both are counted. The script ends
 with status 1 where an answer differs, or a run takes too long or is ended by a signal. Each such image is kept in a folder, which is
 named.
@@ -24,16 +25,18 @@ named.
 CASES is the built program of crates/fac_cases. Where it is told, it makes the calls on damaged images, some hundred in a process, in a tenth
 of the time. Then also what is left of the input and what is left on the stack is compared, the bytes of more images are changed to every
 value, and N is 1,000,000 by default.
+
+A run takes too long by the processor's time, so that this is no matter of what else the machine does.
 """
 
 import argparse
+import functools
 import glob
 import io
 import multiprocessing
 import os
 import random
 import resource
-import subprocess
 import sys
 import tempfile
 from collections import Counter
@@ -43,13 +46,15 @@ import image_model
 import library
 import model
 import plain_images
+import processes
 import speed
 from examples import H
 from image_model import CODES, Image
 
 TOP = os.path.realpath(os.path.join(os.path.dirname(os.path.abspath(__file__)), ".."))
 
-MOST_SECONDS = 20.0
+# How long a run may take, by the processor's time.
+MOST_SECONDS = 20
 MOST_TICKS = 2_000
 # The most ticks that the model follows of an image that was built.
 MOST_BUILT_TICKS = 20_000
@@ -87,13 +92,8 @@ class Built:
 
     def answer(self, words, given=b""):
         """The status, the output and the note of a command; a signal's number is negative, and None is a run that takes too long."""
-        try:
-            ended = subprocess.run(
-                [self.path, *words], cwd=self.folder, input=given, capture_output=True, timeout=MOST_SECONDS, check=False
-            )
-        except subprocess.TimeoutExpired:
-            return None, b"", b""
-        return ended.returncode, ended.stdout, ended.stderr
+        ended = processes.run([self.path, *words], MOST_SECONDS, given, self.folder)
+        return ended.status, ended.output, ended.note
 
     def read(self, name):
         """The bytes of a file in the folder; None where there is none."""
@@ -427,12 +427,18 @@ def changed(image, chance):
     return Image(image.texts, image.arrays, image.kinds, sets, templates, words, image.generics, pairs, code, start)
 
 
+@functools.cache
+def image_of(given):
+    """The image of the bytes of one with which damage begins."""
+    return image_model.know(given)
+
+
 def mutation(seed, number, images):
     """The damaged image with this number."""
     chance = random.Random(f"{seed} {number}")
     given = chance.choice(images[:BY_HERE] if chance.random() < 0.7 else images)
     if chance.random() < 0.5:
-        return image_model.encode(changed(image_model.decode(given), chance))
+        return image_model.encode(changed(image_of(given), chance))
     for _ in range(chance.choice([1, 1, 1, 2, 3])):
         given = damaged(given, images, chance)
         if not given:
@@ -716,6 +722,7 @@ def arguments():
     parser.add_argument("--mutations", type=int)
     parser.add_argument("--seed", type=int, default=1)
     parser.add_argument("--jobs", type=int, default=os.cpu_count())
+    parser.add_argument("--only", choices=["bytes", "mutations"])
     return parser.parse_args()
 
 
@@ -733,12 +740,15 @@ def main():
     images = [HALT, short, whole] + compare_built(program, report)
     most = SHORT_IN_CASES if words.cases else SHORT
     built = sorted(images[BY_HERE:], key=len)
+    if not report.failed:
+        for one in images:
+            image_of(one)
     small = images[:BY_HERE] + ([one for one in built if len(one) <= most] if words.cases else built[:1])
     with multiprocessing.Pool(words.jobs, begin, (path, words.cases)) as pool:
-        if len(report.failed) <= MOST_FAILURES:
+        if len(report.failed) <= MOST_FAILURES and words.only != "mutations":
             changed_bytes = chunks((given for one in small for given in each_byte(one, most)), 200)
             report.gather("each byte", pool.imap_unordered(work, changed_bytes))
-        if len(report.failed) <= MOST_FAILURES:
+        if len(report.failed) <= MOST_FAILURES and words.only != "bytes":
             count = words.mutations or (1_000_000 if words.cases else 100_000)
             tasks = ((words.seed, numbers, images) for numbers in chunks(range(count), 200))
             report.gather("mutations", pool.imap_unordered(mutations, tasks))

@@ -18,11 +18,10 @@ import collections
 import concurrent.futures
 import os
 import re
-import resource
-import subprocess
 import sys
 import tempfile
 
+import processes
 from allocations import Allocations
 
 MOST_RATIO = 4.6
@@ -48,7 +47,7 @@ KNOWN_BYTES = {
     "branches": 55,
     "branches-over-values": 43,
 }
-# So long a run may take, in seconds. A quadratic shape is ended by it.
+# So long a run may take, in seconds of processor time. A quadratic shape is ended by it.
 MOST_SECONDS = 300
 
 DEFAULT = os.path.join(os.path.dirname(os.path.abspath(__file__)), "..", "crates", "factorc", "out", "factorc")
@@ -439,23 +438,15 @@ SHAPES = [
 def instructions(program, path):
     """The status of a check, and its instructions. None where it takes too long."""
     command = ["valgrind", "--tool=callgrind", "--callgrind-out-file=/dev/null", program, "check", path]
-    try:
-        done = subprocess.run(command, stdout=subprocess.DEVNULL, stderr=subprocess.PIPE, timeout=MOST_SECONDS, check=False)
-    except subprocess.TimeoutExpired:
-        return None
-    counted = re.search(rb"Collected : (\d+)", done.stderr)
-    return (done.returncode, int(counted.group(1))) if counted else None
+    done = processes.run(command, MOST_SECONDS)
+    counted = re.search(rb"Collected : (\d+)", done.note)
+    return (done.status, int(counted.group(1))) if counted else None
 
 
 def milliseconds(program, path):
     """The status of a check, and its user time. None where it takes too long."""
-    before = resource.getrusage(resource.RUSAGE_CHILDREN).ru_utime
-    command = [program, "check", path]
-    try:
-        done = subprocess.run(command, stdout=subprocess.DEVNULL, stderr=subprocess.DEVNULL, timeout=MOST_SECONDS, check=False)
-    except subprocess.TimeoutExpired:
-        return None
-    return done.returncode, (resource.getrusage(resource.RUSAGE_CHILDREN).ru_utime - before) * 1000
+    done = processes.run([program, "check", path], MOST_SECONDS)
+    return None if done.status is None else (done.status, done.seconds * 1000)
 
 
 def measure(cost, program, folder, shape, n):
