@@ -32,8 +32,9 @@ VALUE = 16
 TEXT = 64
 OBJECT = 16
 
-# The most bytes of memory for each byte of source.
+# The most bytes of memory for each byte of source, and where tokens have one character and trees of some files stand in memory together.
 A_BYTE = 40
+A_BYTE_OF_SHORT_TOKENS = 45
 
 PAIR = "TUPLE: pair a b ;"
 TREE = """TUPLE: node left right ;
@@ -110,7 +111,7 @@ def several(folder):
     yield "twenty vocabularies in twenty files, checked", ["check", *names], f"checked {count} definitions\n", 3 * MIB + A_BYTE * size
     yield "twenty vocabularies in twenty files", ["run", *names], "", 3 * MIB + A_BYTE * size
     names, count = sums_in_files(folder, size)
-    yield "long sums in twenty files, checked", ["check", *names], f"checked {count} definitions\n", 3 * MIB + A_BYTE * size
+    yield "long sums in twenty files, checked", ["check", *names], f"checked {count} definitions\n", 3 * MIB + A_BYTE_OF_SHORT_TOKENS * size
 
 
 def peak_of(child):
