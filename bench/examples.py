@@ -1952,7 +1952,7 @@ EXAMPLES_OF_RECOVER = [
     ("[ 5 throw ] [ 1 + ] \\ recover execute .", 0, 10, "6\n", ""),
     ("[ 5 throw ] [ 1 + ] { recover } first execute( p q -- x )", 1, None, "", "error: wrong-values in execute(: recover\n"),
     ("\\ recover . \\ fault . fault new .", 0, 7, "recover\nfault\nT{ fault f f f }\n", ""),
-    ("GENERIC: k ( x -- ) M: fault k name>> . ; M: object k . ; [ 1 0 /i drop ] [ k ] recover [ 7 throw ] [ k ] recover", 0, 18, '"zero-divisor"\n7\n', ""),
+    ("GENERIC: k ( x -- ) M: fault k name>> . ; M: object k . ; [ 1 0 /i drop ] [ k ] recover [ 7 throw ] [ k ] recover", 0, 16, '"zero-divisor"\n7\n', ""),
     # a class with slots of these names has the accessors that are there
     ('TUPLE: person name age ; [ "ann" 5 person boa throw ] [ name>> . ] recover', 0, 10, '"ann"\n', ""),
     ("TUPLE: worse < fault more ; 1 2 3 4 worse boa fault? . 8 name>>", 1, None, "t\n", "error: not-tuple in accessors:name>>: 8\n"),

@@ -30,7 +30,7 @@ same (gives A) = refl
 same (names_local x m b ms) = refl
 same (expands w t b ms) = refl
 same (walks m b ms back) = refl
-same (forks l r b ms) = refl
+same (forks l r b ms ns) = refl
 same (again w b ms) = refl
 same (uses e is b ms) = refl
 
@@ -255,8 +255,8 @@ module _ (own : Option Signature) (go gone : Walk) (stays : (at : Literal) (d : 
   on_keeps (names_local x m b ms) p d next t n = counted_keeps p n _ _ (λ k. stays next d _ b ms k)
   on_keeps (expands w u b ms) p d next t n = unless_keeps (phrase_rule d) p _ _ (counted_keeps p n _ _ (λ k. and_then_keeps _ _ _ _ (phrase_keeps (first_of_word w) u p d b ms k) (λ A k'. rest_keeps A k' d next t)))
   on_keeps (walks m b ms back) p d next t n = unless_keeps (first_rule own m d b ms) p _ _ (counted_keeps p n _ _ (λ k. and_then_keeps _ _ _ _ (mark_keeps m p d b ms k) (λ A k'. rest_keeps (marks_back back A) k' d next t)))
-  on_keeps (forks l r b ms) p d next t n =
-      unless_keeps (first_rule own l d b ms) p _ _ (counted_keeps p n _ _ (λ k. and_then_keeps _ _ _ _ (mark_keeps l p d b ms k) (λ A k'. and_then_keeps _ _ _ _ (mark_keeps r p d b ms k') (λ B k''. and_then_keeps _ _ _ _ (keeps_itself (join A B p k'')) (λ C j. rest_keeps C j d next t)))))
+  on_keeps (forks l r b ms ns) p d next t n =
+      unless_keeps (first_rule own l d b ms) p _ _ (counted_keeps p n _ _ (λ k. and_then_keeps _ _ _ _ (mark_keeps l p d b ms k) (λ A k'. and_then_keeps _ _ _ _ (mark_keeps r p d b ns k') (λ B k''. and_then_keeps _ _ _ _ (keeps_itself (join A B p k'')) (λ C j. rest_keeps C j d next t)))))
   on_keeps (again w b ms) p d next t n = counted_keeps p n _ _ (λ k. and_then_keeps _ _ _ _ (stays next d (then (word w) p end) b ms k) (λ A k'. rest_keeps A k' d next t))
   on_keeps (uses e is b ms) p d next t n =
       unless_keeps (use_rule own (row_binding (outer_in e) (on b ms)) (effect_inputs e) is d) p _ _ (counted_keeps p n _ _ (λ k. and_then_keeps _ _ _ _ (use_keeps e is p d b ms k) (λ A k'. rest_keeps A k' d next t)))
@@ -267,7 +267,7 @@ module _ (own : Option Signature) (go gone : Walk) (stays : (at : Literal) (d : 
   below_keeps (names_local x m b ms) y h p d next t n = rw (sym h) (on_keeps (names_local x m b ms) p d next t n)
   below_keeps (expands w u b ms) y h p d next t n = rw (sym h) (on_keeps (expands w u b ms) p d next t n)
   below_keeps (walks m b ms back) y h p d next t n = rw (sym h) (on_keeps (walks m b ms back) p d next t n)
-  below_keeps (forks l r b ms) y h p d next t n = rw (sym h) (on_keeps (forks l r b ms) p d next t n)
+  below_keeps (forks l r b ms ns) y h p d next t n = rw (sym h) (on_keeps (forks l r b ms ns) p d next t n)
   below_keeps (again w b ms) y h p d next t n = rw (sym h) (on_keeps (again w b ms) p d next t n)
   below_keeps (uses e is b ms) y h p d next t n = rw (sym h) (on_keeps (uses e is b ms) p d next t n)
 
