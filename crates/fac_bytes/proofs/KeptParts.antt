@@ -4,7 +4,7 @@ use Rattle.std.specs.Prelude.{◌&&◌, nat_le, nat_lt}
 use Rattle.std.specs.List.{list_all}
 use Rattle.std.proofs.lemmas.Bool.{and_from, and_parts, ltb-true}
 use Rattle.fac_lang.specs.declared.core_table.CoreWord.{CoreWord}
-use Rattle.fac_lang.specs.declared.core_table.CoreWord.TheVariants.{Call, Dip, If, Execute, Boa, Cond}
+use Rattle.fac_lang.specs.declared.core_table.CoreWord.TheVariants.{Call, Dip, If, Execute, Boa, Recover, Cond}
 use Rattle.fac_lang.specs.CoreWords.{core_number}
 use Rattle.fac_lang.specs.Primitives.{built_count, is_built_primitive}
 use Rattle.fac_code.specs.declared.image.Action.{Action}
@@ -35,6 +35,7 @@ last_is_action Dip h = omega arith
 last_is_action If h = omega arith
 last_is_action Execute h = omega arith
 last_is_action Boa h = omega arith
+last_is_action Recover h = absurd (cc)
 last_is_action Cond h = absurd (cc)
 
 -- ---- tables
