@@ -13,7 +13,7 @@ use Rattle.fac_lang.specs.declared.program.Program.{Program}
 use Rattle.fac_lang.specs.declared.program.WordDef.{WordDef}
 use Rattle.fac_lang.specs.declared.program.Sort.{Sort}
 use Rattle.fac_lang.specs.declared.core_table.CoreWord.{CoreWord}
-use Rattle.fac_lang.specs.declared.core_table.CoreWord.TheVariants.{Call as c_call, Dip as c_dip, If as c_if, Execute as c_execute, Boa as c_boa, Cond as c_cond}
+use Rattle.fac_lang.specs.declared.core_table.CoreWord.TheVariants.{Call as c_call, Dip as c_dip, If as c_if, Execute as c_execute, Boa as c_boa, Recover as c_recover, Cond as c_cond}
 use Rattle.fac_lang.specs.declared.program.Sort.TheVariants.{Prim as prim_sort, Core as core_sort, Body as body, Past as past, Itself as itself, Class as class, Isa as isa, Getter as getter, Setter as setter, Putter as putter, Generic as generic, Method as method}
 use Rattle.fac_lang.specs.Phrases.{Literal, Phrase, quot, fry}
 use Rattle.fac_lang.proofs.SourcePrograms.{IsSessionProgram, IsElementOf, AreElementsOf, AreArraysOf, may_name}
@@ -35,7 +35,7 @@ use Rattle.fac_code.specs.declared.image.MethodRow.{MethodRow}
 use Rattle.fac_code.specs.declared.image.Tables.{Tables}
 use Rattle.fac_code.specs.declared.image.TemplateRow.{TemplateRow}
 use Rattle.fac_code.specs.declared.image.WordRow.{WordRow}
-use Rattle.fac_code.specs.References.{is_code, names_code, has_method, names_method, names_constant, elem_refers, arrays_refer, instr_refers, places_refer, pairs_refer, action_refers, word_refers, template_refers, kind_refers, set_refers, method_refers, generic_refers, tables_refer, refers}
+use Rattle.fac_code.specs.References.{is_code, names_faults, names_code, has_method, names_method, names_constant, elem_refers, arrays_refer, instr_refers, places_refer, pairs_refer, action_refers, word_refers, template_refers, kind_refers, set_refers, method_refers, generic_refers, tables_refer, refers}
 use Rattle.fac_generic.specs.Methods.{methods_in_order}
 use Rattle.fac_emit.specs.ProgramTexts.{own_texts, own_elements_texts, sort_texts, arrays_texts, program_texts, text_number}
 use Rattle.fac_emit.specs.ProgramTables.{generic_number, method_row, generics_from}
@@ -101,7 +101,7 @@ module _ (P : Program) (C : Closed) (heights : List (Option Height)) (built : Is
 
   sort_refers : (w : ℕ) (c : WordDef) (s : Sort) → slice_get C.program.words w ≡ Some c → c.sort ≡ s → ClosedAs P w s → Named (sort_texts C s) → instr_refers T (sort_instr C w s) ≡ true
   sort_refers w c (prim_sort k) e is h n = refl
-  sort_refers w c (core_sort k) e is h n = core_refers T k
+  sort_refers w c (core_sort k) e is h n = core_refers T faults k
   sort_refers w c (body t) e is h n = code_named w c (body t) e is (λ at. refl)
   sort_refers w c (past t) e is h n = refl
   sort_refers w c (method m g t) e is h n = code_named w c (method m g t) e is (λ at. refl)
@@ -214,6 +214,7 @@ module _ (P : Program) (C : Closed) (heights : List (Option Height)) (built : Is
   core_within c_if = refl
   core_within c_execute = refl
   core_within c_boa = refl
+  core_within c_recover = faults
   core_within c_cond = refl
 
   action_within : (at w : ℕ) (is_top : Bool) (c : WordDef) (s : Sort) (more : List Instr) → slice_get C.program.words w ≡ Some c → c.sort ≡ s → ClosedAs P w s → Named (sort_texts C s) → drop at code ≡ sort_code C is_top s ++ more → action_refers T (length code) (sort_action C w at s) ≡ true

@@ -17,6 +17,7 @@ ghost use Rattle.fac_emit.specs.inner.Parts.{AreParts, AreTables, PlacesWord, Pl
 
 use crate::arrays::arrays_of;
 use crate::dispatch::generics_of;
+use crate::emitter::FAULT_KIND;
 use crate::emission::Emission;
 use crate::emitter::{add_templates, add_word};
 use crate::tables::{kinds_of, pairs_of, sets_of};
@@ -35,6 +36,7 @@ fn action_of_core(core: CoreWord) -> Action
 {
     match core {
         CoreWord::Cond => Action::Itself,
+        CoreWord::Recover => Action::Recover(FAULT_KIND),
         _ => Action::Core(core),
     }
 }

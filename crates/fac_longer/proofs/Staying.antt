@@ -7,7 +7,7 @@ use Rattle.fac_lang.specs.declared.program.Sort.{Sort}
 use Rattle.fac_lang.specs.declared.program.Sort.TheVariants.{Prim as prim, Core as core, Body as body, Past as past, Itself as itself, Class as class, Isa as isa, Getter as getter, Setter as setter, Putter as putter, Generic as generic, Method as method}
 use Rattle.fac_lang.specs.Phrases.{Literal, Plain, int, yes, no, str, iota, wrd, arr, tup, Phrase, end, then, Item, lit, lit_arr, quot, word, bind, local, fry, hole, call_effect, execute_effect, next_method, made, next_after, held, known, Mark, any, lit_mark, cur_mark, com_mark, wrd_mark, par_mark}
 use Rattle.fac_lang.specs.declared.core_table.CoreWord.{CoreWord}
-use Rattle.fac_lang.specs.declared.core_table.CoreWord.TheVariants.{Call as c_call, Dip as c_dip, If as c_if, Execute as c_execute, Boa as c_boa, Cond as c_cond}
+use Rattle.fac_lang.specs.declared.core_table.CoreWord.TheVariants.{Call as c_call, Dip as c_dip, If as c_if, Execute as c_execute, Boa as c_boa, Cond as c_cond, Recover as c_recover}
 use Rattle.fac_lang.specs.Meaning.{sort_of, names}
 use Rattle.fac_base.specs.Signatures.{Signature, Inputs, no_inputs, value, quoted}
 use Rattle.fac_base.specs.Effects.{inputs_count}
@@ -63,6 +63,9 @@ module _ (P Q : Program) (F : GoesOn P Q) where
   core_below c_boa b (cur_mark m c ∷ ms) = tt
   core_below c_boa b (com_mark c d ∷ ms) = tt
   core_below c_boa b (par_mark k ∷ ms) = tt
+  core_below c_recover b [] = tt
+  core_below c_recover b (q ∷ []) = tt
+  core_below c_recover b (r ∷ l ∷ ms) = same (core_doing P c_recover b (r ∷ l ∷ ms))
   core_below c_cond b ms = tt
   core_below c_boa b (wrd_mark w ∷ ms) = makes_below w ((names P).tuple_class w) refl b ms
 
