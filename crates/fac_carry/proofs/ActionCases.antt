@@ -284,7 +284,7 @@ module _ (Y : Setting) where
     where
       by : (o : Option MethodRow) (o' : Option ℕ) → SameMethod P M o o' → A (word wd) (state_view T (v ∷ ms) w) ≡ meaning_enters P o' NoMethod wd (value_view T v) (state_view T ms w) → stepping s j ≡ enters_method M o NoMethod wd v (at F pc ms base R w) n →
           Follows Y (Some Ret) R base s j (left Y (l_phrase (alone wd) ∷ []) (state_view T (v ∷ ms) w) (suc n))
-      by None None same acted steps = fails_so Y F (Some Ret) (word wd) nowhere end [] R [] tt base base ms (state_view T (v ∷ ms) w) w pc n NoMethod v wd acted s j steps
+      by None None same acted steps = fails_so Y F (Some Ret) (word wd) nowhere end [] R [] tt base base ms (state_view T (v ∷ ms) w) w pc n NoMethod v wd ok.values.0 ok.objects acted s j steps
       by (Some m) (Some d) same acted steps =
           acted_runs wd R [] tt base (state_view T (v ∷ ms) w) (state_view T (v ∷ ms) w) (of_phrase (word_phrase P d)) [] tt acted n (λ G pc2 ms2 w2 m. refl) lv s j
           (λ live. step_before Y (Some Ret) R base s (at [] m.entry (v ∷ ms) base R w) j n _ steps (words d m.entry same R base (v ∷ ms) (values_view T (v ∷ ms)) w n lt (record { cells = tt; held = ok.held; values = ok.values; objects = ok.objects }) live lies_none))
@@ -359,11 +359,11 @@ module _ (Y : Setting) where
       tests v ms = ap (λ (u : Machine). popping1 u.stack u n (λ v s'. tested_call M q v s' n)) (leaves Y tail F pc (v ∷ ms) rs R w)
 
       unfit : (v : MValue) (ms : List MValue) (vs : List Value) → A (call_effect q) (state vs (V w)) ≡ error WrongValues (value_view T v) word_call (state (values_view T ms) (V w)) →
-          fetched M (Some (CallEffect q tail)) (at F pc (v ∷ ms) rs R w) (suc n) ≡ ends (failed (record { name = WrongValues; value = Some v; word = word_call }) (at F pc ms rs (entries Y tail F pc ++ R) w) n) →
+          fetched M (Some (CallEffect q tail)) (at F pc (v ∷ ms) rs R w) (suc n) ≡ ends (failed (record { name = WrongValues; value = Some v; word = word_call }) (at F pc ms rs (entries Y tail F pc ++ R) w) n) → Fine F rs (v ∷ ms) w →
           Follows Y last R base (at F pc (v ∷ ms) rs R w) (suc n) (left Y (l_phrase (then (call_effect q) p t) ∷ L1) (state vs (V w)) (suc n))
-      unfit v ms vs acted steps =
+      unfit v ms vs acted steps ok =
           let s = at F pc (v ∷ ms) rs R w in
-          fails_so Y F last (call_effect q) p t L1 R (entries Y tail F pc) (unguarded Y tail F pc) base rs ms (state vs (V w)) w pc n WrongValues v word_call acted s (suc n) (fetch Y s (suc n) (CallEffect q tail) e ∙ steps)
+          fails_so Y F last (call_effect q) p t L1 R (entries Y tail F pc) (unguarded Y tail F pc) base rs ms (state vs (V w)) w pc n WrongValues v word_call ok.values.0 ok.objects acted s (suc n) (fetch Y s (suc n) (CallEffect q tail) e ∙ steps)
 
       -- by whether it fits
       by : (b : Bool) (c : MCallable) (ms : List MValue) (vs : List Value) → A (call_effect q) (state vs (V w)) ≡ either b (runs (callable_view T c) (state_view T ms w) []) (error WrongValues (fun (callable_view T c)) word_call (state_view T ms w)) →
@@ -373,12 +373,12 @@ module _ (Y : Setting) where
           let s = at F pc (m_fun c ∷ ms) rs R w in
           g_entered Y f F tpl last (call_effect q) p t pc R (entries Y tail F pc) (unguarded Y tail F pc) base (m_fun c ∷ ms) ms rs vs L1 w n le (record { cells = tt; held = ok.held; values = ok.values.1; objects = ok.objects }) c ok.values.0
           [] acted (fetch Y s (suc n) (CallEffect q tail) e ∙ steps) (goes_back Y f F pc tail last t K rest R base rs L1 h ok.cells ok.held n (omega (arith, le))) lv
-      by false c ms vs acted steps ok lv = unfit (m_fun c) ms vs acted steps
+      by false c ms vs acted steps ok lv = unfit (m_fun c) ms vs acted steps ok
 
       one : (ms : List MValue) (vs : List Value) → vs ≡ values_view T ms → Fine F rs ms w → Live Y (l_phrase (then (call_effect q) p t) ∷ L1) (state vs (V w)) →
           Follows Y last R base (at F pc ms rs R w) (suc n) (left Y (l_phrase (then (call_effect q) p t) ∷ L1) (state vs (V w)) (suc n))
       one [] vs is ok lv = wrong_here Y (call_effect q) p t L1 (state vs (V w)) (rw is refl) lv
-      one (m_plain x ∷ ms) vs is ok lv = unfit (m_plain x) ms vs (rw is refl) (tests (m_plain x) ms)
+      one (m_plain x ∷ ms) vs is ok lv = unfit (m_plain x) ms vs (rw is refl) (tests (m_plain x) ms) ok
       one (m_fun c ∷ ms) vs is ok lv =
           let st' = state_view T ms w in
           let cv = callable_view T c in
@@ -396,11 +396,11 @@ module _ (Y : Setting) where
       tests v ms = ap (λ (u : Machine). popping1 u.stack u n (λ v s'. tested_word M q v (seen_word (m_seen v)) s' n)) (leaves Y tail F pc (v ∷ ms) rs R w)
 
       unfit : (v : MValue) (ms : List MValue) (vs : List Value) → A (execute_effect q) (state vs (V w)) ≡ error WrongValues (value_view T v) word_execute (state (values_view T ms) (V w)) →
-          fetched M (Some (ExecuteEffect q tail)) (at F pc (v ∷ ms) rs R w) (suc n) ≡ ends (failed (record { name = WrongValues; value = Some v; word = word_execute }) (at F pc ms rs (entries Y tail F pc ++ R) w) n) →
+          fetched M (Some (ExecuteEffect q tail)) (at F pc (v ∷ ms) rs R w) (suc n) ≡ ends (failed (record { name = WrongValues; value = Some v; word = word_execute }) (at F pc ms rs (entries Y tail F pc ++ R) w) n) → Fine F rs (v ∷ ms) w →
           Follows Y last R base (at F pc (v ∷ ms) rs R w) (suc n) (left Y (l_phrase (then (execute_effect q) p t) ∷ L1) (state vs (V w)) (suc n))
-      unfit v ms vs acted steps =
+      unfit v ms vs acted steps ok =
           let s = at F pc (v ∷ ms) rs R w in
-          fails_so Y F last (execute_effect q) p t L1 R (entries Y tail F pc) (unguarded Y tail F pc) base rs ms (state vs (V w)) w pc n WrongValues v word_execute acted s (suc n) (fetch Y s (suc n) (ExecuteEffect q tail) e ∙ steps)
+          fails_so Y F last (execute_effect q) p t L1 R (entries Y tail F pc) (unguarded Y tail F pc) base rs ms (state vs (V w)) w pc n WrongValues v word_execute ok.values.0 ok.objects acted s (suc n) (fetch Y s (suc n) (ExecuteEffect q tail) e ∙ steps)
 
       -- by whether it fits
       by : (b : Bool) (d : ℕ) (ms : List MValue) (vs : List Value) → A (execute_effect q) (state vs (V w)) ≡ either b (run_phrase (alone d) (state_view T ms w)) (error WrongValues (plain (wrd d)) word_execute (state_view T ms w)) →
@@ -409,19 +409,19 @@ module _ (Y : Setting) where
       by true d ms vs acted steps ok lv =
           let s = at F pc (m_plain (wrd d) ∷ ms) rs R w in
           g_executed f F tpl words actions tail last (execute_effect q) p t K pc rest R base ms rs vs L1 w n (omega (arith, le)) h d ok acted lv s (suc n) (fetch Y s (suc n) (ExecuteEffect q tail) e ∙ steps)
-      by false d ms vs acted steps ok lv = unfit (m_plain (wrd d)) ms vs acted steps
+      by false d ms vs acted steps ok lv = unfit (m_plain (wrd d)) ms vs acted steps ok
 
       one : (ms : List MValue) (vs : List Value) → vs ≡ values_view T ms → Fine F rs ms w → Live Y (l_phrase (then (execute_effect q) p t) ∷ L1) (state vs (V w)) →
           Follows Y last R base (at F pc ms rs R w) (suc n) (left Y (l_phrase (then (execute_effect q) p t) ∷ L1) (state vs (V w)) (suc n))
       one [] vs is ok lv = wrong_here Y (execute_effect q) p t L1 (state vs (V w)) (rw is refl) lv
-      one (m_fun c ∷ ms) vs is ok lv = unfit (m_fun c) ms vs (rw is refl) (tests (m_fun c) ms)
-      one (m_plain (int z) ∷ ms) vs is ok lv = unfit (m_plain (int z)) ms vs (rw is refl) (tests (m_plain (int z)) ms)
-      one (m_plain yes ∷ ms) vs is ok lv = unfit (m_plain yes) ms vs (rw is refl) (tests (m_plain yes) ms)
-      one (m_plain no ∷ ms) vs is ok lv = unfit (m_plain no) ms vs (rw is refl) (tests (m_plain no) ms)
-      one (m_plain (str cs) ∷ ms) vs is ok lv = unfit (m_plain (str cs)) ms vs (rw is refl) (tests (m_plain (str cs)) ms)
-      one (m_plain (iota i) ∷ ms) vs is ok lv = unfit (m_plain (iota i)) ms vs (rw is refl) (tests (m_plain (iota i)) ms)
-      one (m_plain (arr b) ∷ ms) vs is ok lv = unfit (m_plain (arr b)) ms vs (rw is refl) (tests (m_plain (arr b)) ms)
-      one (m_plain (tup b) ∷ ms) vs is ok lv = unfit (m_plain (tup b)) ms vs (rw is refl) (tests (m_plain (tup b)) ms)
+      one (m_fun c ∷ ms) vs is ok lv = unfit (m_fun c) ms vs (rw is refl) (tests (m_fun c) ms) ok
+      one (m_plain (int z) ∷ ms) vs is ok lv = unfit (m_plain (int z)) ms vs (rw is refl) (tests (m_plain (int z)) ms) ok
+      one (m_plain yes ∷ ms) vs is ok lv = unfit (m_plain yes) ms vs (rw is refl) (tests (m_plain yes) ms) ok
+      one (m_plain no ∷ ms) vs is ok lv = unfit (m_plain no) ms vs (rw is refl) (tests (m_plain no) ms) ok
+      one (m_plain (str cs) ∷ ms) vs is ok lv = unfit (m_plain (str cs)) ms vs (rw is refl) (tests (m_plain (str cs)) ms) ok
+      one (m_plain (iota i) ∷ ms) vs is ok lv = unfit (m_plain (iota i)) ms vs (rw is refl) (tests (m_plain (iota i)) ms) ok
+      one (m_plain (arr b) ∷ ms) vs is ok lv = unfit (m_plain (arr b)) ms vs (rw is refl) (tests (m_plain (arr b)) ms) ok
+      one (m_plain (tup b) ∷ ms) vs is ok lv = unfit (m_plain (tup b)) ms vs (rw is refl) (tests (m_plain (tup b)) ms) ok
       one (m_plain (wrd d) ∷ ms) vs is ok lv =
           let st' = state_view T ms w in
           let b = fits_in q (row_height (slice_get M.words d)) in

@@ -205,6 +205,8 @@ module _ (Y : Setting) where
         uncaught = tt;
         same = refl;
         world = refl;
+        whole_value = hg.0;
+        whole_objects = hg.1;
       })
 
   -- a list that is too short for it
@@ -272,10 +274,10 @@ module _ (Y : Setting) where
       one ∙ two ∙ three
 
   -- an item that fails with a value as a step fails, which left these entries
-  pub fails_so : (F : List MValue) (last : Option Instr) (i : Item) (p : Place) (t : Phrase) (L : List Left) (R own : List Entry) → HasNoGuard own → (base rs ms : List MValue) (st : State Value) (w : World MValue) (pc n : ℕ) (name : ErrorName) (v : MValue) (a : ℕ) →
+  pub fails_so : (F : List MValue) (last : Option Instr) (i : Item) (p : Place) (t : Phrase) (L : List Left) (R own : List Entry) → HasNoGuard own → (base rs ms : List MValue) (st : State Value) (w : World MValue) (pc n : ℕ) (name : ErrorName) (v : MValue) (a : ℕ) → whole.Whole P M v → whole.WholeObjects P M w.objects →
       A i st ≡ fails (record { name = name; value = Some (value_view T v); word = a }) (state (values_view T ms) (V w)) → (s : Machine) (k : ℕ) → stepping s k ≡ ends (failed (record { name = name; value = Some v; word = a }) (at F pc ms rs (own ++ R) w) n) →
       Follows Y last R base s k (left Y (l_phrase (then i p t) ∷ L) st (suc n))
-  fails_so F last i p t L R own none base rs ms st w pc n name v a acts s k e =
+  fails_so F last i p t L R own none base rs ms st w pc n name v a hv os acts s k e =
       subst (λ (r : Result). Follows Y last R base s k r) (sym (first_is Y i p t L st n (fails (record { name = name; value = Some (value_view T v); word = a }) (state (values_view T ms) (V w))) acts)) (record {
         stood = s;
         ticks = k;
@@ -288,6 +290,8 @@ module _ (Y : Setting) where
         uncaught = none;
         same = refl;
         world = refl;
+        whole_value = hv;
+        whole_objects = os;
       })
 
   pub g_prim : (f : ℕ) (F : List MValue) (last : Option Instr) (wd k : ℕ) (q : Primitive) (p : Place) (t : Phrase) (S S1 : List Sym) (K : List Task) (pc : ℕ) → sort_of P wd ≡ Some (prim_sort k) → prim_numbered k ≡ Some q →

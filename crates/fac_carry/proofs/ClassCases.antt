@@ -254,7 +254,7 @@ module _ (Y : Setting) where
       Follows Y last R base (at F pc (v ∷ ms) rs R w) (suc n) (left Y (l_phrase (then i p t) ∷ L) (state (values_view T (v ∷ ms)) (V w)) (suc n))
   dispatched f F tail last x i p t S K pc name g e calls rest R base rs v ms L w n le ok lv l h None None same acts steps =
       let s = at F pc (v ∷ ms) rs R w in
-      fails_so Y F last i p t L R (entries Y tail F pc) (unguarded Y tail F pc) base rs ms (state (values_view T (v ∷ ms)) (V w)) w pc n name v g acts s (suc n) (fetch Y s (suc n) x e ∙ steps)
+      fails_so Y F last i p t L R (entries Y tail F pc) (unguarded Y tail F pc) base rs ms (state (values_view T (v ∷ ms)) (V w)) w pc n name v g ok.values.0 ok.objects acts s (suc n) (fetch Y s (suc n) x e ∙ steps)
   dispatched f F tail last x i p t S K pc name g e calls rest R base rs v ms L w n le ok lv l h (Some r) (Some m) same acts steps =
       called_at Y f F tail last x i (word_phrase P m) p t [] r.entry S K pc tt e (calls m r.entry same) rest R base (v ∷ ms) rs (values_view T (v ∷ ms)) L w n le ok lv l h acts steps
   dispatched f F tail last x i p t S K pc name g e calls rest R base rs v ms L w n le ok lv l h None (Some m) same acts steps = absurd same

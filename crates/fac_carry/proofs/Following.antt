@@ -125,6 +125,8 @@ module _ (Y : Setting) where
     pub uncaught : HasNoGuard above
     pub same : error_view T error ≡ e
     pub world : V fallen.world ≡ w
+    pub whole_value : whole.OrWhole P M error.value
+    pub whole_objects : whole.WholeObjects P M fallen.world.objects
 
   -- the machine does what the meaning does; nothing is said where that is stuck
   abbrev pub Follows : Option Instr → List Entry → List MValue → Machine → ℕ → Result → Type 0
@@ -150,6 +152,8 @@ module _ (Y : Setting) where
     uncaught = h.uncaught;
     same = h.same;
     world = h.world;
+    whole_value = h.whole_value;
+    whole_objects = h.whole_objects;
   }
   way_before last R base s s' n n' (Spent st i) l h = (h.0, ends_after M s s' n n' _ l h.1, h.2)
   way_before last R base s s' n n' Stuck l h = tt
@@ -189,6 +193,8 @@ module _ (Y : Setting) where
         uncaught = no_guard_more h.above own h.uncaught none;
         same = h.same;
         world = h.world;
+        whole_value = h.whole_value;
+        whole_objects = h.whole_objects;
       }
   then_follows b last R own none base base' s n (Spent st i) go w h next = h
   then_follows b last R own none base base' s n Stuck go w h next = tt
