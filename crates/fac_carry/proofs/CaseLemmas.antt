@@ -24,8 +24,8 @@ use Rattle.fac_code.specs.ImageNames.{image_names}
 use Rattle.fac_code.specs.declared.image.Action.TheVariants as action
 use Rattle.fac_code.specs.declared.names.TrapWhy.TheVariants.{Kind as t_kind, Frame as t_frame}
 use Rattle.fac_store.specs.MachineValues.{MValue, m_plain, MCallable, machine_values, cells_at}
-use Rattle.fac_machine.specs.Machine.{Machine, Entry, failed, spent, Step, goes_on, ends, after, given as machine_given, does as machine_does, does_prim, word_with, or_trap, fetched, step}
-use Rattle.fac_machine.proofs.Leading.{leads_none}
+use Rattle.fac_machine.specs.Machine.{Machine, Entry, failed, spent, Step, goes_on, ends, after, given as machine_given, does as machine_does, does_prim, word_with, or_trap, fetched, tried}
+use Rattle.fac_machine.proofs.Leading.{HasNoGuard, leads_none}
 use Rattle.fac_carry.specs.MachineView.{Templates, value_view, values_view, world_view, gives_view}
 use Rattle.fac_carry.specs.WholeValues as whole
 use Rattle.fac_carry.specs.Symbols.{Sym, here, off, k_phrase, Task, do_phrase, Needs, heres, AllHere, ins, outs, count}
@@ -36,7 +36,7 @@ use Rattle.fac_carry.proofs.WholeValueLemmas.{pile_whole, cells_whole, made, mad
 use Rattle.fac_carry.proofs.SamePrimitives.{Same, prim_same}
 use Rattle.fac_carry.proofs.KeptPrimitives.{prim_keeps}
 use Rattle.fac_carry.specs.Setting.{Setting}
-use Rattle.fac_carry.proofs.Following.{HasNoGuard, owing, state, at, left, Follows, step_before, fetch, spent_here, Live, Go, Behind}
+use Rattle.fac_carry.proofs.Following.{owing, state, at, left, Follows, step_before, fetch, spent_here, Live, Go, Behind}
 use Rattle.fac_carry.proofs.Following.{first_is, owed_goes, owed_none, live_is, live_goes, wrong_here}
 
 module _ (Y : Setting) where
@@ -57,7 +57,7 @@ module _ (Y : Setting) where
   run = free A
 
   abbrev stepping : Machine → ℕ → Step
-  stepping = step M
+  stepping = tried M
 
   abbrev V : World MValue → World Value
   V = world_view T
@@ -203,6 +203,7 @@ module _ (Y : Setting) where
         above = [];
         entries = refl;
         uncaught = tt;
+        idle = refl;
         same = refl;
         world = refl;
         whole_value = hg.0;
@@ -288,6 +289,7 @@ module _ (Y : Setting) where
         above = own;
         entries = refl;
         uncaught = none;
+        idle = refl;
         same = refl;
         world = refl;
         whole_value = hv;
