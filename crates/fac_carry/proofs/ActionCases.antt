@@ -1,5 +1,5 @@
 -- What a word does by its action, and the steps of the cases that do that or test what they call.
-use Rattle.std.proofs.Common.{◌≡◌, ◌≢◌, ℕ, zero, suc, ◌+◌, ◌<◌, List, [], ◌∷◌, ◌++◌, length, Bool, true, false, Option, Some, None, refl, ap, sym, subst, ◌∙◌, arith}
+use Rattle.std.proofs.Common.{◌≡◌, ◌≢◌, ℕ, zero, suc, ◌+◌, ◌<◌, List, [], ◌∷◌, ◌++◌, length, Bool, true, false, Option, Some, None, refl, ap, sym, subst, ◌∙◌, arith, true≢false}
 use Rattle.std.proofs.lemmas.List.{length-map}
 use Rattle.std.proofs.lemmas.Option.{slice_get-map}
 use Rattle.std.specs.Prelude.{slice_get}
@@ -28,6 +28,7 @@ use Rattle.fac_lang.specs.Faults.{fault_kind}
 use Rattle.fac_lang.proofs.Laws.{within_call}
 use Rattle.fac_code.specs.declared.image.Instr.{Instr}
 use Rattle.fac_code.specs.declared.image.Instr.TheVariants.{Ret, Execute, CallEffect, ExecuteEffect}
+use Rattle.fac_code.specs.Code.{is_core_action}
 use Rattle.fac_code.specs.declared.image.Action.{Action}
 use Rattle.fac_code.specs.declared.image.Action.TheVariants as action
 use Rattle.fac_code.specs.declared.image.Image.{Image}
@@ -197,43 +198,44 @@ module _ (Y : Setting) where
   no_act wd st e lv = wrong_here Y (word wd) nowhere end [] st e lv
 
   -- From a step with n ticks that does a core word by its action.
-  core_acted : (f : ℕ) → Templated Y f → (n : ℕ) → n < f → (wd : ℕ) (o : CoreWord) → sort_of P wd ≡ Some (core_sort o) → (F : List MValue) (pc : ℕ) (R : List Entry) (base : List MValue) (w : World MValue) → Executes n F pc R base w →
+  core_acted : (f : ℕ) → Templated Y f → (n : ℕ) → n < f → (wd : ℕ) (o : CoreWord) → is_core_action o ≡ true → sort_of P wd ≡ Some (core_sort o) → (F : List MValue) (pc : ℕ) (R : List Entry) (base : List MValue) (w : World MValue) → Executes n F pc R base w →
       (ms : List MValue) (s : Machine) (j : ℕ) → stepping s j ≡ does_core M o (at F pc ms base R w) n → Fine F base ms w → Live Y (l_phrase (alone wd) ∷ []) (state_view T ms w) → Follows Y (Some Ret) R base s j (left Y (l_phrase (alone wd) ∷ []) (state_view T ms w) (suc n))
-  core_acted f tpl n lt wd c_cond es F pc R base w again ms s j e ok lv = no_act wd (state_view T ms w) (core_is Y wd c_cond (state_view T ms w) es) lv
-  core_acted f tpl n lt wd c_call es F pc R base w again [] s j e ok lv = no_act wd (state_view T [] w) (core_is Y wd c_call _ es) lv
-  core_acted f tpl n lt wd c_call es F pc R base w again (m_plain x ∷ ms) s j e ok lv = no_act wd (state_view T (m_plain x ∷ ms) w) (core_is Y wd c_call _ es) lv
-  core_acted f tpl n lt wd c_call es F pc R base w again (m_fun c ∷ ms) s j e ok lv =
+  core_acted f tpl n lt wd c_recover h es F pc R base w again ms s j e ok lv = absurd (true≢false (sym h))
+  core_acted f tpl n lt wd c_cond h es F pc R base w again ms s j e ok lv = no_act wd (state_view T ms w) (core_is Y wd c_cond (state_view T ms w) es) lv
+  core_acted f tpl n lt wd c_call h es F pc R base w again [] s j e ok lv = no_act wd (state_view T [] w) (core_is Y wd c_call _ es) lv
+  core_acted f tpl n lt wd c_call h es F pc R base w again (m_plain x ∷ ms) s j e ok lv = no_act wd (state_view T (m_plain x ∷ ms) w) (core_is Y wd c_call _ es) lv
+  core_acted f tpl n lt wd c_call h es F pc R base w again (m_fun c ∷ ms) s j e ok lv =
       acted_runs wd R [] tt base (state_view T (m_fun c ∷ ms) w) (state_view T ms w) (callable_view T c) [] tt (core_is Y wd c_call _ es) n (λ G pc2 ms2 w2 m. refl) lv s j
       (λ live. enters Y f tpl c ok.values.0 F pc R base ms w n lt (record { cells = tt; held = ok.held; values = ok.values.1; objects = ok.objects }) live s j (comes_tried M s j _ e))
-  core_acted f tpl n lt wd c_dip es F pc R base w again [] s j e ok lv = no_act wd (state_view T [] w) (core_is Y wd c_dip _ es) lv
-  core_acted f tpl n lt wd c_dip es F pc R base w again (q ∷ []) s j e ok lv = no_act wd (state_view T (q ∷ []) w) (core_is Y wd c_dip _ es) lv
-  core_acted f tpl n lt wd c_dip es F pc R base w again (m_plain y ∷ x ∷ ms) s j e ok lv = no_act wd (state_view T (m_plain y ∷ x ∷ ms) w) (core_is Y wd c_dip _ es) lv
-  core_acted f tpl n lt wd c_dip es F pc R base w again (m_fun c ∷ x ∷ ms) s j e ok lv =
+  core_acted f tpl n lt wd c_dip h es F pc R base w again [] s j e ok lv = no_act wd (state_view T [] w) (core_is Y wd c_dip _ es) lv
+  core_acted f tpl n lt wd c_dip h es F pc R base w again (q ∷ []) s j e ok lv = no_act wd (state_view T (q ∷ []) w) (core_is Y wd c_dip _ es) lv
+  core_acted f tpl n lt wd c_dip h es F pc R base w again (m_plain y ∷ x ∷ ms) s j e ok lv = no_act wd (state_view T (m_plain y ∷ x ∷ ms) w) (core_is Y wd c_dip _ es) lv
+  core_acted f tpl n lt wd c_dip h es F pc R base w again (m_fun c ∷ x ∷ ms) s j e ok lv =
       acted_runs wd R (put_back x ∷ []) (tt, tt) base (state_view T (m_fun c ∷ x ∷ ms) w) (state_view T ms w) (callable_view T c) (x ∷ []) (ok.values.1.0, tt) (core_is Y wd c_dip _ es) n
       (λ G pc2 ms2 w2 m. returns_free Y R (put_back x ∷ R) R G pc2 (x ∷ ms2) base w2 m) lv s j
       (λ live. enters Y f tpl c ok.values.0 F pc (put_back x ∷ R) base ms w n lt (record { cells = tt; held = ok.held; values = ok.values.1.1; objects = ok.objects }) live s j (comes_tried M s j _ e))
-  core_acted f tpl n lt wd c_if es F pc R base w again [] s j e ok lv = no_act wd (state_view T [] w) (core_is Y wd c_if _ es) lv
-  core_acted f tpl n lt wd c_if es F pc R base w again (q ∷ []) s j e ok lv = no_act wd (state_view T (q ∷ []) w) (core_is Y wd c_if _ es) lv
-  core_acted f tpl n lt wd c_if es F pc R base w again (q ∷ y ∷ []) s j e ok lv = no_act wd (state_view T (q ∷ y ∷ []) w) (core_is Y wd c_if _ es) lv
-  core_acted f tpl n lt wd c_if es F pc R base w again (q ∷ m_plain y ∷ x ∷ ms) s j e ok lv = no_act wd (state_view T (q ∷ m_plain y ∷ x ∷ ms) w) (core_is Y wd c_if _ es) lv
-  core_acted f tpl n lt wd c_if es F pc R base w again (m_plain q ∷ m_fun c ∷ x ∷ ms) s j e ok lv = no_act wd (state_view T (m_plain q ∷ m_fun c ∷ x ∷ ms) w) (core_is Y wd c_if _ es) lv
-  core_acted f tpl n lt wd c_if es F pc R base w again (m_fun d ∷ m_fun c ∷ x ∷ ms) s j e ok lv =
+  core_acted f tpl n lt wd c_if h es F pc R base w again [] s j e ok lv = no_act wd (state_view T [] w) (core_is Y wd c_if _ es) lv
+  core_acted f tpl n lt wd c_if h es F pc R base w again (q ∷ []) s j e ok lv = no_act wd (state_view T (q ∷ []) w) (core_is Y wd c_if _ es) lv
+  core_acted f tpl n lt wd c_if h es F pc R base w again (q ∷ y ∷ []) s j e ok lv = no_act wd (state_view T (q ∷ y ∷ []) w) (core_is Y wd c_if _ es) lv
+  core_acted f tpl n lt wd c_if h es F pc R base w again (q ∷ m_plain y ∷ x ∷ ms) s j e ok lv = no_act wd (state_view T (q ∷ m_plain y ∷ x ∷ ms) w) (core_is Y wd c_if _ es) lv
+  core_acted f tpl n lt wd c_if h es F pc R base w again (m_plain q ∷ m_fun c ∷ x ∷ ms) s j e ok lv = no_act wd (state_view T (m_plain q ∷ m_fun c ∷ x ∷ ms) w) (core_is Y wd c_if _ es) lv
+  core_acted f tpl n lt wd c_if h es F pc R base w again (m_fun d ∷ m_fun c ∷ x ∷ ms) s j e ok lv =
       let b = seen_no (m_seen x) in
       acted_runs wd R [] tt base (state_view T (m_fun d ∷ m_fun c ∷ x ∷ ms) w) (state_view T ms w) (callable_view T (branch b c d)) [] tt (core_is Y wd c_if _ es ∙ chosen Y x c d (values_view T ms) (V w)) n (λ G pc2 ms2 w2 m. refl) lv s j
       (λ live. enters Y f tpl (branch b c d) (branch_whole P M b c d ok.values.1.0 ok.values.0) F pc R base ms w n lt (record { cells = tt; held = ok.held; values = ok.values.1.1.1; objects = ok.objects }) live s j (comes_tried M s j _ e))
-  core_acted f tpl n lt wd c_execute es F pc R base w again [] s j e ok lv = no_act wd (state_view T [] w) (core_is Y wd c_execute _ es) lv
-  core_acted f tpl n lt wd c_execute es F pc R base w again (m_fun c ∷ ms) s j e ok lv = no_act wd (state_view T (m_fun c ∷ ms) w) (core_is Y wd c_execute _ es) lv
-  core_acted f tpl n lt wd c_execute es F pc R base w again (m_plain (int z) ∷ ms) s j e ok lv = no_act wd (state_view T (m_plain (int z) ∷ ms) w) (core_is Y wd c_execute _ es) lv
-  core_acted f tpl n lt wd c_execute es F pc R base w again (m_plain yes ∷ ms) s j e ok lv = no_act wd (state_view T (m_plain yes ∷ ms) w) (core_is Y wd c_execute _ es) lv
-  core_acted f tpl n lt wd c_execute es F pc R base w again (m_plain no ∷ ms) s j e ok lv = no_act wd (state_view T (m_plain no ∷ ms) w) (core_is Y wd c_execute _ es) lv
-  core_acted f tpl n lt wd c_execute es F pc R base w again (m_plain (str cs) ∷ ms) s j e ok lv = no_act wd (state_view T (m_plain (str cs) ∷ ms) w) (core_is Y wd c_execute _ es) lv
-  core_acted f tpl n lt wd c_execute es F pc R base w again (m_plain (iota i) ∷ ms) s j e ok lv = no_act wd (state_view T (m_plain (iota i) ∷ ms) w) (core_is Y wd c_execute _ es) lv
-  core_acted f tpl n lt wd c_execute es F pc R base w again (m_plain (arr b) ∷ ms) s j e ok lv = no_act wd (state_view T (m_plain (arr b) ∷ ms) w) (core_is Y wd c_execute _ es) lv
-  core_acted f tpl n lt wd c_execute es F pc R base w again (m_plain (tup b) ∷ ms) s j e ok lv = no_act wd (state_view T (m_plain (tup b) ∷ ms) w) (core_is Y wd c_execute _ es) lv
-  core_acted f tpl n lt wd c_execute es F pc R base w again (m_plain (wrd a) ∷ ms) s j e ok lv =
+  core_acted f tpl n lt wd c_execute h es F pc R base w again [] s j e ok lv = no_act wd (state_view T [] w) (core_is Y wd c_execute _ es) lv
+  core_acted f tpl n lt wd c_execute h es F pc R base w again (m_fun c ∷ ms) s j e ok lv = no_act wd (state_view T (m_fun c ∷ ms) w) (core_is Y wd c_execute _ es) lv
+  core_acted f tpl n lt wd c_execute h es F pc R base w again (m_plain (int z) ∷ ms) s j e ok lv = no_act wd (state_view T (m_plain (int z) ∷ ms) w) (core_is Y wd c_execute _ es) lv
+  core_acted f tpl n lt wd c_execute h es F pc R base w again (m_plain yes ∷ ms) s j e ok lv = no_act wd (state_view T (m_plain yes ∷ ms) w) (core_is Y wd c_execute _ es) lv
+  core_acted f tpl n lt wd c_execute h es F pc R base w again (m_plain no ∷ ms) s j e ok lv = no_act wd (state_view T (m_plain no ∷ ms) w) (core_is Y wd c_execute _ es) lv
+  core_acted f tpl n lt wd c_execute h es F pc R base w again (m_plain (str cs) ∷ ms) s j e ok lv = no_act wd (state_view T (m_plain (str cs) ∷ ms) w) (core_is Y wd c_execute _ es) lv
+  core_acted f tpl n lt wd c_execute h es F pc R base w again (m_plain (iota i) ∷ ms) s j e ok lv = no_act wd (state_view T (m_plain (iota i) ∷ ms) w) (core_is Y wd c_execute _ es) lv
+  core_acted f tpl n lt wd c_execute h es F pc R base w again (m_plain (arr b) ∷ ms) s j e ok lv = no_act wd (state_view T (m_plain (arr b) ∷ ms) w) (core_is Y wd c_execute _ es) lv
+  core_acted f tpl n lt wd c_execute h es F pc R base w again (m_plain (tup b) ∷ ms) s j e ok lv = no_act wd (state_view T (m_plain (tup b) ∷ ms) w) (core_is Y wd c_execute _ es) lv
+  core_acted f tpl n lt wd c_execute h es F pc R base w again (m_plain (wrd a) ∷ ms) s j e ok lv =
       acted_runs wd R [] tt base (state_view T (m_plain (wrd a) ∷ ms) w) (state_view T ms w) (of_phrase (alone a)) [] tt (core_is Y wd c_execute _ es) n (λ G pc2 ms2 w2 m. refl) lv s j
       (λ live. step_before Y (Some Ret) R base s (doing (acts a) F pc ms base R w) j n _ e (again a ms ok.values.0 (record { cells = ok.cells; held = ok.held; values = ok.values.1; objects = ok.objects }) live))
-  core_acted f tpl n lt wd c_boa es F pc R base w again ms s j e ok lv =
+  core_acted f tpl n lt wd c_boa h es F pc R base w again ms s j e ok lv =
       boa_done Y (back pc) F (Some Ret) wd nowhere end pc R base base [] w n (behind_action F pc R base (here ∷ []) n (all_more all_none)) es s j ms e ok lv
 
   -- likewise one that catches errors
@@ -274,7 +276,7 @@ module _ (Y : Setting) where
       isa_done Y (to_ret pc) F (Some Ret) wd c kinds nowhere end [] pc R base base [] w n (behind_action F pc R base (here ∷ []) n (all_more all_none)) es same s j ms (values_view T ms)
       (e ∙ back_does pc wd (m_isa Y kinds) F ms base R w n (λ s'. goes_on (after s') n)) ok lv (needed T 1 [] [] (needs_any 1) ms (values_view T ms) lies_none)
   acted_by f tpl words n lt wd none x (a_recover es) F pc R base w again ms s j e ok lv = recover_acted f tpl n lt wd es F pc R base w ms s j e ok lv
-  acted_by f tpl words n lt wd none x (a_core c es) F pc R base w again ms s j e ok lv = core_acted f tpl n lt wd c es F pc R base w again ms s j e ok lv
+  acted_by f tpl words n lt wd none x (a_core c h es) F pc R base w again ms s j e ok lv = core_acted f tpl n lt wd c h es F pc R base w again ms s j e ok lv
   acted_by f tpl words n lt wd none x (a_stuck y stuck) F pc R base w again ms s j e ok lv = no_act wd (state_view T ms w) (stuck fits Y.callable_height (state_view T ms w)) lv
   acted_by f tpl words n lt wd none x (a_code a code) F pc R base w again ms s j e ok lv =
       let st = state_view T ms w in

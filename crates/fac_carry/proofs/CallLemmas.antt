@@ -36,7 +36,7 @@ use Rattle.fac_carry.specs.Symbols.{Sym, Task, do_phrase, Empties, no_task, end_
 use Rattle.fac_carry.proofs.RunLaws.{free, spares, Stays, stays_phrase, stays_call, stays_caught, live_first, live_rest, live_tried, live_caught}
 use Rattle.fac_carry.proofs.SymbolicStacks.{Left, l_phrase, Lies, lies_none, Keeps, keeps_none, keeps_phrase, all_here}
 use Rattle.fac_carry.proofs.WholeValueLemmas.{pile_whole, kept_whole, branch_whole}
-use Rattle.fac_carry.proofs.KeptPrimitives.{object_added}
+use Rattle.fac_carry.proofs.KeptPrimitives.{fault_of_whole}
 use Rattle.fac_carry.proofs.SamePrimitives.{seen_same, map_more}
 use Rattle.fac_carry.specs.Setting.{Setting}
 use Rattle.fac_carry.proofs.Following.{state, at, left, Follows, way_before, step_before, fetch, spent_here, then_follows, Live, Go}
@@ -354,14 +354,6 @@ module _ (Y : Setting) where
   fault_view : (e : Error MValue) (w : World MValue) → made (error_view T e) (V w) ≡ (value_view T (machine_made e w).0, V (machine_made e w).1)
   fault_view e w = ap (λ (word : List ℕ). fault_of meaning_values fault_kind e.name (option_map (value_view T) e.value) word (V w)) (sym (Y.told e.word)) ∙ fault_of_view e.name e.value (image_told M e.word) w
 
-  -- It is whole where the error's value and the objects are.
-  fault_of_whole : (e : ErrorName) (v : Option MValue) (word : List ℕ) (w : World MValue) → whole.OrWhole P M v → whole.WholeObjects P M w.objects →
-      Whole (fault_of machine_values fault_kind e v word w).0 × whole.WholeObjects P M (fault_of machine_values fault_kind e v word w).1.objects
-  fault_of_whole Thrown (Some v) word w h os = (h, os)
-  fault_of_whole Thrown None word w h os = (tt, object_added P M w.objects (tuple fault_kind (m_plain (str (error_text Thrown)) ∷ m_plain no ∷ m_plain (str word) ∷ [])) os (tt, (tt, (tt, tt))))
-  fault_of_whole e (Some v) word w h os = (tt, object_added P M w.objects (tuple fault_kind (m_plain (str (error_text e)) ∷ v ∷ m_plain (str word) ∷ [])) os (tt, (h, (tt, tt))))
-  fault_of_whole e None word w h os = (tt, object_added P M w.objects (tuple fault_kind (m_plain (str (error_text e)) ∷ m_plain no ∷ m_plain (str word) ∷ [])) os (tt, (tt, (tt, tt))))
-
   -- A run under a guard: where it failed, the guard's callable runs on the values of before, with the error on them.
   caught_follows : (f : ℕ) → Templated Y f → (d : MCallable) → WholeCallable d → (R : List Entry) (base ms : List MValue) → AllWhole base → AllWhole ms → (s : Machine) (N n : ℕ) → n < f → (r : Result) → Within n r →
       ((m : ℕ) (x : Error Value) (st : State Value) → r ≡ Failed x st m → (k : ℕ) → run_callable run (callable_view T d) (after_error (values_view T ms) (made x st.world)) k ≢ Stuck) →
@@ -380,7 +372,7 @@ module _ (Y : Setting) where
   }
   caught_follows f tpl d hd R base ms hb hm s N n lt (Failed x st m) wi live h =
       let v = machine_made h.error h.fallen.world in
-      let hv = fault_of_whole h.error.name h.error.value (image_told M h.error.word) h.fallen.world h.whole_value h.whole_objects in
+      let hv = fault_of_whole P M fault_kind h.error.name h.error.value (image_told M h.error.word) h.fallen.world h.whole_value h.whole_objects in
       let there = at h.fallen.frame h.fallen.pc (v.0 ∷ ms) base R v.1 in
       let caught_there : step M h.stood h.ticks ≡ entering M d there m =
           ap (machine_caught M) h.fails ∙ ap (λ (es : List Entry). unwinding M es h.error h.fallen m) h.entries ∙ unwinds_to M h.above (guard ms base d fault_kind ∷ R) h.uncaught h.error h.fallen m ∙

@@ -9,7 +9,8 @@ use Rattle.fac_lang.specs.Faults.{name_without_word, text_by}
 use Rattle.fac_lang.specs.Meaning.{told_or, told_word, word_phrase}
 use Rattle.fac_code.specs.declared.image.Image.{Image}
 use Rattle.fac_code.specs.declared.image.WordRow.{WordRow}
-use Rattle.fac_code.specs.ImageNames.{text_of, tables_of}
+use Rattle.fac_code.specs.Images.{tables_of}
+use Rattle.fac_code.specs.ImageNames.{text_of}
 use Rattle.fac_machine.specs.Machine.{told_row, image_told}
 use Rattle.fac_carry.specs.MachineView.{template_phrases}
 use Rattle.fac_carry.specs.Carries.{Carries, image_full_name, full_name_of}

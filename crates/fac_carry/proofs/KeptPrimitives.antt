@@ -9,6 +9,10 @@ use Rattle.fac_lang.specs.Equality.{equal_pairs}
 use Rattle.fac_lang.specs.Printed.{Names, printed}
 use Rattle.fac_lang.specs.Procedures.{value_if, Procedure, leaves, answers, answers_array, answers_tuple, curries, composes, fails, looks, adds, opens, puts, compares, prints, asks, writes, reads, Gives, line_in, behind_line, places_from, picked, repeated, value_at, array_in, opened, opened_places, with_element, made_or, followed, by_inputs}
 use Rattle.fac_lang.specs.Primitives.{Primitive, prim_numbered, prim_fn}
+use Rattle.fac_lang.specs.ErrorTexts.{error_text}
+use Rattle.fac_lang.specs.Faults.{fault_of}
+use Rattle.fac_lang.specs.declared.error_name.ErrorName.{ErrorName}
+use Rattle.fac_lang.specs.declared.error_name.ErrorName.TheVariants.{Thrown}
 use Rattle.fac_code.specs.declared.image.Image.{Image}
 use Rattle.fac_store.specs.MachineValues.{MValue, m_plain, m_fun, m_seen, m_curry, m_compose, machine_values}
 use Rattle.fac_carry.specs.WholeValues.{Whole, OrWhole, AllWhole, WholeObject, WholeObjects, WholeGives, Keeps}
@@ -62,6 +66,14 @@ module _ (P : Program) (M : Image) where
   object_set [] a o h g = tt
   object_set (x ∷ os) zero o h g = (g, h.1)
   object_set (x ∷ os) (suc a) o h g = (h.0, object_set os a o h.1 g)
+
+  -- what an error comes to for a program that catches it, where its value is whole
+  pub fault_of_whole : (k : ℕ) (e : ErrorName) (v : Option MValue) (word : List ℕ) (w : World MValue) → OrWhole P M v → WholeObjects P M w.objects →
+      Whole P M (fault_of machine_values k e v word w).0 × WholeObjects P M (fault_of machine_values k e v word w).1.objects
+  fault_of_whole k Thrown (Some v) word w h os = (h, os)
+  fault_of_whole k Thrown None word w h os = (tt, object_added w.objects (tuple k (m_plain (str (error_text Thrown)) ∷ m_plain no ∷ m_plain (str word) ∷ [])) os (tt, (tt, (tt, tt))))
+  fault_of_whole k e (Some v) word w h os = (tt, object_added w.objects (tuple k (m_plain (str (error_text e)) ∷ v ∷ m_plain (str word) ∷ [])) os (tt, (h, (tt, tt))))
+  fault_of_whole k e None word w h os = (tt, object_added w.objects (tuple k (m_plain (str (error_text e)) ∷ m_plain no ∷ m_plain (str word) ∷ [])) os (tt, (tt, (tt, tt))))
 
   abbrev WholeArray : Option (List MValue) → Type 0
   WholeArray None = Unit {0}

@@ -17,6 +17,7 @@ use Rattle.fac_lang.specs.declared.core_table.CoreWord.{CoreWord}
 use Rattle.fac_lang.specs.declared.core_table.CoreWord.TheVariants.{Call as c_call, Dip as c_dip, If as c_if, Execute as c_execute, Boa as c_boa, Recover as c_recover}
 use Rattle.fac_lang.specs.Faults.{fault_kind}
 use Rattle.fac_lang.specs.Meaning.{sort_of, word_phrase, generic_of, act, is_top_phrase}
+use Rattle.fac_code.specs.Code.{is_core_action}
 use Rattle.fac_code.specs.declared.image.Instr.{Instr}
 use Rattle.fac_code.specs.declared.image.Instr.TheVariants.{Halt, Int, True, False, Text, Array, Word, Quot, Prim, Callw, Call, Dip, If, Execute, Recover, CallEffect, ExecuteEffect, Ret, Boa, Isa, Generic, Next, Fry, Bind, Local}
 use Rattle.fac_code.specs.declared.image.Action.{Action}
@@ -88,7 +89,7 @@ module _ (P : Program) (M : Image) where
         (x : Accessor) (k : ℕ) (s : List ℕ) → sort_of P w ≡ Some (accessor_sort x s) → slice_get M.texts k ≡ Some s → word_with (accessor_action x k) 0 M.words ≡ w → Acting w (accessor_action x k)
     a_isa : (c k : ℕ) → sort_of P w ≡ Some (isa c) → ((j : ℕ) → set_has (slice_get M.sets k) j ≡ has_kind P.classes c j) → Acting w (action.Isa k)
     a_recover : sort_of P w ≡ Some (core_sort c_recover) → Acting w (action.Recover fault_kind)
-    a_core : (c : CoreWord) → sort_of P w ≡ Some (core_sort c) → Acting w (action.Core c)
+    a_core : (c : CoreWord) → is_core_action c ≡ true → sort_of P w ≡ Some (core_sort c) → Acting w (action.Core c)
     a_stuck : (x : Action) → IsStuck P (word w) → Acting w x
     a_code : (a : ℕ) → HasCode w a → Acting w (action.Code a)
     a_generic : (n : ℕ) (r : GenericRow) → sort_of P w ≡ Some generic → slice_get M.generics n ≡ Some r → r.word ≡ w → ((k : ℕ) → SameMethod (method_for M.sets k r.methods) (pick P w k)) → Acting w (action.Generic n)

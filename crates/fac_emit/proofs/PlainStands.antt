@@ -131,11 +131,11 @@ module _ (P : Program) (C : Closed) (heights : List (Option Height)) (M : Image)
   accessor_acts x w s d at is = a_accessor x (text_number C s) s (sort_at P w d at ∙ ap Some is) (slot_of x w s d at is) (first_accessor C P M.words whole.words_differ does present slots x s w d at is)
 
   core_acts : (w : ℕ) (c : CoreWord) → sort_of P w ≡ Some (core_sort c) → Acting P M w (core_action c)
-  core_acts w c_call e = a_core c_call e
-  core_acts w c_dip e = a_core c_dip e
-  core_acts w c_if e = a_core c_if e
-  core_acts w c_execute e = a_core c_execute e
-  core_acts w c_boa e = a_core c_boa e
+  core_acts w c_call e = a_core c_call refl e
+  core_acts w c_dip e = a_core c_dip refl e
+  core_acts w c_if e = a_core c_if refl e
+  core_acts w c_execute e = a_core c_execute refl e
+  core_acts w c_boa e = a_core c_boa refl e
   core_acts w c_recover e = a_recover e
   core_acts w c_cond e = a_stuck action.Itself (λ fits callable_height st. ap (λ (o : Option Sort). sort_act P w o st) e)
 

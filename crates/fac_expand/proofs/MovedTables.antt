@@ -220,7 +220,7 @@ module _ (top : ℕ) (P : Program) (N M : Image) (h : IsMade top N M) where
   acts_moved w _ (a_accessor x k s es et e) = subst (Acting P M w) (accessor_stays x k) (a_accessor x k s es (text_moved k s et) (first_accessor x k w e))
   acts_moved w _ (a_isa c k es same) = a_isa c k es (set_moved k _ same)
   acts_moved w _ (a_recover es) = a_recover es
-  acts_moved w _ (a_core c es) = a_core c es
+  acts_moved w _ (a_core c h es) = a_core c h es
   acts_moved w _ (a_stuck x stuck) = a_stuck (moved_action M.start h.places x) stuck
   acts_moved w _ (a_code a code) = a_code (place_in M.start h.places a) (code_moved w a code)
   acts_moved w _ (a_generic n r es er ew same) = a_generic n (moved_generic M.start h.places r) es (generic_moved n r er) ew (picked_moved r.methods (pick P w) same)
