@@ -39,7 +39,7 @@ use Rattle.fac_code.specs.declared.names.TrapWhy.TheVariants.{Kind as t_kind}
 use Rattle.fac_store.specs.MachineValues.{MValue, m_plain, m_fun, MCallable, m_lit, m_cur, m_com, kept_list, m_seen, machine_values}
 use Rattle.fac_store.specs.CallableHeights.{height_there, callable_height}
 use Rattle.fac_machine.specs.Machine.{Machine, Entry, resume, put_back, enter, Job, instr, acts, spent, failed, Step, goes_on, ends, after, given as machine_given, does as machine_does, recovers, popping1, word_with, or_trap, branch, method_for, template_heights, fits_in, row_height, back, returning, enters_method, enters_if, tested_call, executes, executes_if, tested_word, does_core, does_action, fetched, tried}
-use Rattle.fac_machine.proofs.Leading.{HasNoGuard, leads_none, leads_tried, spent_tried, comes_tried}
+use Rattle.fac_machine.proofs.Leading.{HasNoGuard, leads_none, leads_tried, spent_tried}
 use Rattle.fac_carry.specs.Accessors.{Accessor, getting, setting, putting, accessor_action, accessor_ins, accessor_outs, accessor_fn}
 use Rattle.fac_carry.specs.MachineView.{Templates, value_view, callable_view, values_view, kept_view, world_view, state_view}
 use Rattle.fac_carry.specs.Stands.{PushesItself, HasCode, SameMethod, Acting, a_itself, a_prim, a_accessor, a_isa, a_recover, a_core, a_stuck, a_code, a_generic, HasAction}
@@ -206,14 +206,14 @@ module _ (Y : Setting) where
   core_acted f tpl n lt wd c_call h es F pc R base w again (m_plain x ∷ ms) s j e ok lv = no_act wd (state_view T (m_plain x ∷ ms) w) (core_is Y wd c_call _ es) lv
   core_acted f tpl n lt wd c_call h es F pc R base w again (m_fun c ∷ ms) s j e ok lv =
       acted_runs wd R [] tt base (state_view T (m_fun c ∷ ms) w) (state_view T ms w) (callable_view T c) [] tt (core_is Y wd c_call _ es) n (λ G pc2 ms2 w2 m. refl) lv s j
-      (λ live. enters Y f tpl c ok.values.0 F pc R base ms w n lt (record { cells = tt; held = ok.held; values = ok.values.1; objects = ok.objects }) live s j (comes_tried M s j _ e))
+      (λ live. enters Y f tpl c ok.values.0 F pc R base ms w n lt (record { cells = tt; held = ok.held; values = ok.values.1; objects = ok.objects }) live s j e)
   core_acted f tpl n lt wd c_dip h es F pc R base w again [] s j e ok lv = no_act wd (state_view T [] w) (core_is Y wd c_dip _ es) lv
   core_acted f tpl n lt wd c_dip h es F pc R base w again (q ∷ []) s j e ok lv = no_act wd (state_view T (q ∷ []) w) (core_is Y wd c_dip _ es) lv
   core_acted f tpl n lt wd c_dip h es F pc R base w again (m_plain y ∷ x ∷ ms) s j e ok lv = no_act wd (state_view T (m_plain y ∷ x ∷ ms) w) (core_is Y wd c_dip _ es) lv
   core_acted f tpl n lt wd c_dip h es F pc R base w again (m_fun c ∷ x ∷ ms) s j e ok lv =
       acted_runs wd R (put_back x ∷ []) (tt, tt) base (state_view T (m_fun c ∷ x ∷ ms) w) (state_view T ms w) (callable_view T c) (x ∷ []) (ok.values.1.0, tt) (core_is Y wd c_dip _ es) n
       (λ G pc2 ms2 w2 m. returns_free Y R (put_back x ∷ R) R G pc2 (x ∷ ms2) base w2 m) lv s j
-      (λ live. enters Y f tpl c ok.values.0 F pc (put_back x ∷ R) base ms w n lt (record { cells = tt; held = ok.held; values = ok.values.1.1; objects = ok.objects }) live s j (comes_tried M s j _ e))
+      (λ live. enters Y f tpl c ok.values.0 F pc (put_back x ∷ R) base ms w n lt (record { cells = tt; held = ok.held; values = ok.values.1.1; objects = ok.objects }) live s j e)
   core_acted f tpl n lt wd c_if h es F pc R base w again [] s j e ok lv = no_act wd (state_view T [] w) (core_is Y wd c_if _ es) lv
   core_acted f tpl n lt wd c_if h es F pc R base w again (q ∷ []) s j e ok lv = no_act wd (state_view T (q ∷ []) w) (core_is Y wd c_if _ es) lv
   core_acted f tpl n lt wd c_if h es F pc R base w again (q ∷ y ∷ []) s j e ok lv = no_act wd (state_view T (q ∷ y ∷ []) w) (core_is Y wd c_if _ es) lv
@@ -222,7 +222,7 @@ module _ (Y : Setting) where
   core_acted f tpl n lt wd c_if h es F pc R base w again (m_fun d ∷ m_fun c ∷ x ∷ ms) s j e ok lv =
       let b = seen_no (m_seen x) in
       acted_runs wd R [] tt base (state_view T (m_fun d ∷ m_fun c ∷ x ∷ ms) w) (state_view T ms w) (callable_view T (branch b c d)) [] tt (core_is Y wd c_if _ es ∙ chosen Y x c d (values_view T ms) (V w)) n (λ G pc2 ms2 w2 m. refl) lv s j
-      (λ live. enters Y f tpl (branch b c d) (branch_whole P M b c d ok.values.1.0 ok.values.0) F pc R base ms w n lt (record { cells = tt; held = ok.held; values = ok.values.1.1.1; objects = ok.objects }) live s j (comes_tried M s j _ e))
+      (λ live. enters Y f tpl (branch b c d) (branch_whole P M b c d ok.values.1.0 ok.values.0) F pc R base ms w n lt (record { cells = tt; held = ok.held; values = ok.values.1.1.1; objects = ok.objects }) live s j e)
   core_acted f tpl n lt wd c_execute h es F pc R base w again [] s j e ok lv = no_act wd (state_view T [] w) (core_is Y wd c_execute _ es) lv
   core_acted f tpl n lt wd c_execute h es F pc R base w again (m_fun c ∷ ms) s j e ok lv = no_act wd (state_view T (m_fun c ∷ ms) w) (core_is Y wd c_execute _ es) lv
   core_acted f tpl n lt wd c_execute h es F pc R base w again (m_plain (int z) ∷ ms) s j e ok lv = no_act wd (state_view T (m_plain (int z) ∷ ms) w) (core_is Y wd c_execute _ es) lv

@@ -27,8 +27,8 @@ use Rattle.fac_code.specs.declared.image.WordRow.{WordRow}
 use Rattle.fac_code.specs.declared.image.Action.TheVariants as action
 use Rattle.fac_code.specs.declared.names.TrapWhy.TheVariants.{Kind as t_kind}
 use Rattle.fac_store.specs.MachineValues.{MValue, m_plain, m_fun, MCallable, m_lit, m_cur, m_com, kept_list, m_seen, machine_values}
-use Rattle.fac_machine.specs.Machine.{Machine, Entry, resume, put_back, enter, guard, Job, Step, goes_on, or_trap, code_of, leaving, jumping, branch, entering, returning, unwinding, caught as machine_caught, waiting, image_told, enters_word, calls as machine_calls, ifs, fetched, tried, step}
-use Rattle.fac_machine.proofs.Leading.{HasNoGuard, leads_none, unwinds_to, Comes, comes_tried, comes_step}
+use Rattle.fac_machine.specs.Machine.{Machine, Entry, resume, put_back, enter, guard, instr, Step, goes_on, or_trap, code_of, leaving, jumping, branch, entering, returning, unwinding, caught as machine_caught, waiting, image_told, enters_word, calls as machine_calls, ifs, fetched, tried, step}
+use Rattle.fac_machine.proofs.Leading.{HasNoGuard, leads_on, leads_none, leads_step, spent_tried, unwinds_to}
 use Rattle.fac_carry.specs.MachineView.{Templates, value_view, callable_view, values_view, object_view, world_view, state_view, error_view}
 use Rattle.fac_carry.specs.Stands.{RunsPhrase, HasCode}
 use Rattle.fac_carry.specs.WholeValues as whole
@@ -224,16 +224,16 @@ module _ (Y : Setting) where
 
   -- A callable that is entered. What `compose` made leaves an entry for its second part, which is entered at the `ret` of the first.
   pub enters : (f : ℕ) → Templated Y f → (c : MCallable) → WholeCallable c → (F : List MValue) (pc : ℕ) (R : List Entry) (base ms : List MValue) (w : World MValue) (n : ℕ) → n < f → Fine [] base ms w →
-      ((m : ℕ) → run_callable run (callable_view T c) (state_view T ms w) m ≢ Stuck) → (s : Machine) (k : ℕ) → Comes M s k (entering M c (at F pc ms base R w) n) →
+      ((m : ℕ) → run_callable run (callable_view T c) (state_view T ms w) m ≢ Stuck) → (s : Machine) (k : ℕ) → stepping s k ≡ entering M c (at F pc ms base R w) n →
       Follows Y (Some Ret) R base s k (run_callable run (callable_view T c) (state_view T ms w) n)
   enters f tpl (m_lit q vs) h F pc R base ms w n lt ok lv s k e =
       let go = ap (λ o. or_trap o t_kind (at F pc ms base R w) n (λ u. goes_on (at (kept_list vs) u.entry ms base R w) n)) h.1 in
       let ok1 : Fine (kept_list vs) base ms w = record { cells = kept_whole P M vs h.3; held = ok.held; values = ok.values; objects = ok.objects } in
-      way_before Y (Some Ret) R base s (at (kept_list vs) h.0.entry ms base R w) k n _ (e.0 (at (kept_list vs) h.0.entry ms base R w) n go) (tpl q h.0 vs h.1 h.2 h.3 R base ms (values_view T ms) w n lt ok1 lv lies_none)
-  enters f tpl (m_cur v c) h F pc R base ms w zero lt ok lv s k e = (at F pc ms base R w, e.1 (at F pc ms base R w) refl, refl)
+      step_before Y (Some Ret) R base s (at (kept_list vs) h.0.entry ms base R w) k n _ (e ∙ go) (tpl q h.0 vs h.1 h.2 h.3 R base ms (values_view T ms) w n lt ok1 lv lies_none)
+  enters f tpl (m_cur v c) h F pc R base ms w zero lt ok lv s k e = (at F pc ms base R w, spent_tried M s k _ e, refl)
   enters f tpl (m_cur v c) h F pc R base ms w (suc n) lt ok lv s k e =
       enters f tpl c h.1 F pc R base (v ∷ ms) w n (omega (arith, lt)) (record { cells = tt; held = ok.held; values = (h.0, ok.values); objects = ok.objects }) (λ m. lv (suc m)) s k e
-  enters f tpl (m_com c d) h F pc R base ms w zero lt ok lv s k e = (at F pc ms base R w, e.1 (at F pc ms base R w) refl, refl)
+  enters f tpl (m_com c d) h F pc R base ms w zero lt ok lv s k e = (at F pc ms base R w, spent_tried M s k _ e, refl)
   enters f tpl (m_com c d) h F pc R base ms w (suc n) lt ok lv s k e =
       let st = state_view T ms w in
       let X = run_callable run (callable_view T c) st in
@@ -242,7 +242,7 @@ module _ (Y : Setting) where
       then_follows Y n (Some Ret) R (enter d ∷ []) (tt, tt) base base s k (X n) go (within_call run (spares A) n (callable_view T c) st n (omega arith))
       (enters f tpl c h.0 F pc (enter d ∷ R) base ms w n (omega (arith, lt)) ok (live_first X go live) s k e) (λ x j G pc2 ms2 w2 m lem ok2 is does.
       let ok3 : Fine [] base ms2 w2 = record { cells = tt; held = ok.held; values = ok2.values; objects = ok2.objects } in
-      enters f tpl d h.1 G pc2 R base ms2 w2 m (omega (arith, lem, lt)) ok3 (live_rest X go (stays_call A (callable_view T c) st) (stays_call A (callable_view T d)) live n m (state_view T ms2 w2) is) x j (comes_tried M x j (entering M d (at G pc2 ms2 base R w2) m) does))
+      enters f tpl d h.1 G pc2 R base ms2 w2 m (omega (arith, lem, lt)) ok3 (live_rest X go (stays_call A (callable_view T c) st) (stays_call A (callable_view T d)) live n m (state_view T ms2 w2) is) x j does)
 
   -- an instruction that runs a callable of the meaning, and the rest behind it
   pub g_ran : (last : Option Instr) (i : Item) (p : Place) (t : Phrase) (R own : List Entry) → HasNoGuard own → (base rs : List MValue) (L : List Left) (n : ℕ) (st st' : State Value) (c : Callable) (put : List MValue) → A i st ≡ runs c st' (values_view T put) →
@@ -261,7 +261,7 @@ module _ (Y : Setting) where
       Live Y (l_phrase (then i p t) ∷ L) (state vs (V w)) → Follows Y last R base (at F pc all rs R w) (suc n) (left Y (l_phrase (then i p t) ∷ L) (state vs (V w)) (suc n))
   g_entered f F tpl last i p t pc R own none base all ms rs vs L w n le ok c hc put acts e back lv =
       let s = at F pc all rs R w in
-      g_ran last i p t R own none base rs L n (state vs (V w)) (state_view T ms w) (callable_view T c) put acts back lv s (suc n) (λ live. enters f tpl c hc F pc (own ++ R) rs ms w n (omega (arith, le)) ok live s (suc n) (comes_tried M s (suc n) _ e))
+      g_ran last i p t R own none base rs L n (state vs (V w)) (state_view T ms w) (callable_view T c) put acts back lv s (suc n) (λ live. enters f tpl c hc F pc (own ++ R) rs ms w n (omega (arith, le)) ok live s (suc n) e)
 
   -- `call`, `dip` and `if` of values
   pub core_is : (wd : ℕ) (c : CoreWord) (st : State Value) → sort_of P wd ≡ Some (core_sort c) → A (word wd) st ≡ core_act P c st
@@ -373,17 +373,17 @@ module _ (Y : Setting) where
   caught_follows f tpl d hd R base ms hb hm s N n lt (Failed x st m) wi live h =
       let v = machine_made h.error h.fallen.world in
       let hv = fault_of_whole P M fault_kind h.error.name h.error.value (image_told M h.error.word) h.fallen.world h.whole_value h.whole_objects in
-      let there = at h.fallen.frame h.fallen.pc (v.0 ∷ ms) base R v.1 in
-      let caught_there : step M h.stood h.ticks ≡ entering M d there m =
-          ap (machine_caught M) h.fails ∙ ap (λ (es : List Entry). unwinding M es h.error h.fallen m) h.entries ∙ unwinds_to M h.above (guard ms base d fault_kind ∷ R) h.uncaught h.error h.fallen m ∙
-          ap (λ (j : Option Job). entering M d (record { pc = h.fallen.pc; job = j; stack = v.0 ∷ ms; retain = base; returns = R; frame = h.fallen.frame; world = v.1 }) m) h.idle in
+      let F = h.fallen.frame in
+      let pc = h.fallen.pc in
+      let s2 : Machine = record { pc = pc; job = Some (instr Ret); stack = v.0 ∷ ms; retain = base; returns = enter d ∷ R; frame = F; world = v.1 } in
+      let caught_there : step M h.stood h.ticks ≡ goes_on s2 m =
+          ap (machine_caught M) h.fails ∙ ap (λ (es : List Entry). unwinding M es h.error h.fallen m) h.entries ∙ unwinds_to M h.above (guard ms base d fault_kind ∷ R) h.uncaught h.error h.fallen m in
       let comes : made x st.world ≡ (value_view T v.0, V v.1) = ap (λ (e : Error Value). made e st.world) (sym h.same) ∙ ap (made (error_view T h.error)) (sym h.world) ∙ fault_view h.error h.fallen.world in
       let same : state_view T (v.0 ∷ ms) v.1 ≡ after_error (values_view T ms) (made x st.world) = ap (after_error (values_view T ms)) (sym comes) in
       let ok : Fine [] base (v.0 ∷ ms) v.1 = record { cells = tt; held = hb; values = (hv.0, hm); objects = hv.1 } in
-      way_before Y (Some Ret) R base s h.stood N h.ticks _ h.leads
-      (subst (λ (st2 : State Value). Follows Y (Some Ret) R base h.stood h.ticks (run_callable run (callable_view T d) st2 m)) same
-      (enters f tpl d hd h.fallen.frame h.fallen.pc R base (v.0 ∷ ms) v.1 m (omega (arith, wi, lt)) ok (λ k. subst (λ (st2 : State Value). run_callable run (callable_view T d) st2 k ≢ Stuck) (sym same) (live m x st refl k)) h.stood h.ticks
-      (comes_step M h.stood h.ticks (entering M d there m) caught_there)))
+      way_before Y (Some Ret) R base s s2 N m _ (leads_on M s h.stood s2 N h.ticks m h.leads (leads_step M h.stood s2 h.ticks m caught_there))
+      (subst (λ (st2 : State Value). Follows Y (Some Ret) R base s2 m (run_callable run (callable_view T d) st2 m)) same
+      (enters f tpl d hd F pc R base (v.0 ∷ ms) v.1 m (omega (arith, wi, lt)) ok (λ k. subst (λ (st2 : State Value). run_callable run (callable_view T d) st2 k ≢ Stuck) (sym same) (live m x st refl k)) s2 m refl))
   caught_follows f tpl d hd R base ms hb hm s N n lt (Spent st i) wi live h = h
   caught_follows f tpl d hd R base ms hb hm s N n lt Stuck wi live h = tt
 
@@ -397,7 +397,7 @@ module _ (Y : Setting) where
       let X = run_callable run (callable_view T c) st in
       let d' = callable_view T d in
       caught_follows f tpl d hd R rs ms ok.held ok.values s N n lt (X n) (within_call run (spares A) n (callable_view T c) st n (omega arith)) (λ m x st2 is. live_caught run made d' vs X go (stays_call A (callable_view T c) st) (stays_call A d') live n m x st2 is)
-      (enters f tpl c hc F pc (guard ms rs d fault_kind ∷ R) rs ms w n lt ok (live_tried run made d' vs X go live) s N (comes_tried M s N _ e))
+      (enters f tpl c hc F pc (guard ms rs d fault_kind ∷ R) rs ms w n lt ok (live_tried run made d' vs X go live) s N e)
 
   -- an item that tries a callable, and the rest behind it
   pub g_tried : (f : ℕ) → Templated Y f → (last : Option Instr) (i : Item) (p : Place) (t : Phrase) (F : List MValue) (pc : ℕ) (R own : List Entry) → HasNoGuard own → (base rs ms : List MValue) (L : List Left) (w : World MValue) (n : ℕ) → n < f → Fine [] rs ms w →

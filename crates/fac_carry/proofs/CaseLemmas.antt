@@ -203,7 +203,6 @@ module _ (Y : Setting) where
         above = [];
         entries = refl;
         uncaught = tt;
-        idle = refl;
         same = refl;
         world = refl;
         whole_value = hg.0;
@@ -289,7 +288,6 @@ module _ (Y : Setting) where
         above = own;
         entries = refl;
         uncaught = none;
-        idle = refl;
         same = refl;
         world = refl;
         whole_value = hv;

@@ -110,7 +110,6 @@ module _ (Y : Setting) where
     pub above : List Entry
     pub entries : fallen.returns ≡ above ++ R
     pub uncaught : HasNoGuard above
-    pub idle : fallen.job ≡ None
     pub same : error_view T error ≡ e
     pub world : V fallen.world ≡ w
     pub whole_value : whole.OrWhole P M error.value
@@ -138,7 +137,6 @@ module _ (Y : Setting) where
     above = h.above;
     entries = h.entries;
     uncaught = h.uncaught;
-    idle = h.idle;
     same = h.same;
     world = h.world;
     whole_value = h.whole_value;
@@ -180,7 +178,6 @@ module _ (Y : Setting) where
         above = h.above ++ own;
         entries = h.entries ∙ sym (append_assoc h.above own R);
         uncaught = no_guard_more h.above own h.uncaught none;
-        idle = h.idle;
         same = h.same;
         world = h.world;
         whole_value = h.whole_value;

@@ -211,7 +211,7 @@ module _ (R : Program) (M : Image) where
   unwind_fine (guard vs held c k ∷ es) e s n he hv h =
       let m = fault machine_values k (image_told M) e s.world in
       let hm = fault_of_whole R M k e.name e.value (image_told M e.word) s.world hv h.4 in
-      enter_fine c (record s { stack = m.0 ∷ vs; retain = held; returns = es; world = m.1 }) n ((hm.0, he.0.0), he.0.1, he.1, h.3, hm.1) he.0.2
+      record { by = (((hm.0, he.0.0), he.0.1, (he.0.2, he.1), h.3, hm.1), tt) }
 
   caught_fine : (x : Step) → FineStep x → FineStep (caught M x)
   caught_fine (goes_on s n) h = h
