@@ -9,6 +9,7 @@ use Rattle.fac_base.specs.declared.height.Height.{Height}
 use Rattle.fac_lang.specs.declared.phrase.Template.{Template}
 use Rattle.fac_lang.specs.declared.program.Lit.{Lit}
 use Rattle.fac_lang.specs.declared.program.Lit.TheVariants.{Int as l_int, True as l_yes, False as l_no, Str as l_str, Arr as l_arr, Wref as l_word, Quot as l_quot, Made as l_made}
+use Rattle.fac_lang.specs.declared.program.ClassDef.{ClassDef}
 use Rattle.fac_lang.specs.declared.program.Program.{Program}
 use Rattle.fac_lang.specs.declared.program.WordDef.{WordDef}
 use Rattle.fac_lang.specs.declared.program.Sort.{Sort}
@@ -18,7 +19,8 @@ use Rattle.fac_lang.specs.declared.program.Sort.TheVariants.{Prim as prim_sort, 
 use Rattle.fac_lang.specs.Phrases.{Literal, Phrase, quot, fry}
 use Rattle.fac_lang.proofs.SourcePrograms.{IsSessionProgram, IsElementOf, AreElementsOf, AreArraysOf, may_name}
 use Rattle.fac_lang.specs.Meaning.{sort_of, generic_of, array_method}
-use Rattle.fac_lang.specs.Whole.{IsWhole, sort_fits, names_earlier, each_numbered, arrays_in, arrays_named}
+use Rattle.fac_lang.specs.Faults.{fault_kind}
+use Rattle.fac_lang.specs.Whole.{IsWhole, has_faults, sort_fits, names_earlier, each_numbered, arrays_in, arrays_named}
 use Rattle.fac_locals.specs.declared.cell.Cell.{Cell}
 use Rattle.fac_locals.specs.Cells.{inner_cells, hole_count}
 use Rattle.fac_locals.specs.Literals.{Quoted, quoted_phrase, behind, first_of_word, first_of_literal, first_in_array, element_item, literal_numbered}
@@ -55,6 +57,7 @@ use Rattle.fac_emit.proofs.LiteralWords.{is_listed_in_array}
 use Rattle.fac_locals.proofs.RunningPhrases.{IsMethod, word_runs, literal_runs}
 use Rattle.fac_emit.proofs.TextLemmas.{AreAmong, both_among, first_element, text_below, word_named, template_named, all_arrays_named, body_among}
 use Rattle.fac_emit.proofs.TableNumbers.{order_same}
+use Rattle.fac_emit.proofs.FaultKinds.{faults_there}
 use Rattle.fac_emit.proofs.TableReferences.{sets_many, kinds_refer, sets_refer, pairs_refer_so}
 use Rattle.fac_emit.proofs.ClosedWords.{found_within, both_pass, first_true, one_passes, begins_within, core_refers, last_refers, word_doable, ClosedAs, closed_as}
 
@@ -64,6 +67,9 @@ module _ (P : Program) (C : Closed) (heights : List (Option Height)) (built : Is
 
   abbrev T : Tables
   T = program_tables C heights
+
+  faults : names_faults T.kinds fault_kind ≡ true
+  faults = faults_there C (subst (λ (cs : List ClassDef). has_faults cs ≡ true) (sym closes.classes) whole.faults)
 
   closed_many : (a : ℕ) (lss cs : List (List Lit)) → CloseArrays P a lss cs → length cs ≡ length lss
   closed_many a [] cs h = ap length h
