@@ -9,12 +9,14 @@ ends with status 1 then. What is built is built by bench/plain_images.py, and ex
 
 The models know nothing of devices that fail. Where an input or an output does, the model is asked with a budget of one tick, of two and so
 on: what comes to the output with one tick more is the next piece that is written, and where the input is asked for what can't be read, the
-ticks are those of the budget. So a fault is compared with what the program does in the ticks that are told. Cases that tell tokens are left out.
+ticks are those of the budget. So a fault is compared with what the program does in the ticks that are told. A session of the listener has no budget
+that can be told, and its model hands over each piece when it is written. Cases that tell tokens are left out, and those with more than 2,000,000 ticks.
 """
 
 import argparse
 import io
 import os
+import re
 import subprocess
 import sys
 
@@ -36,6 +38,11 @@ INPUT_FAULT, WRITE_FAULT = 9, 10
 
 # The ticks of a run in which a device fails are few.
 MOST_TICKS = 1_000
+
+# The model takes some seconds for so many ticks.
+MOST_TOLD_TICKS = 2_000_000
+
+TICKS = re.compile(r"(\d+) ticks")
 
 ESCAPES = str.maketrans({"\n": "\\n", "\r": "\\r", "\t": "\\t", "\\": "\\\\"})
 
@@ -117,6 +124,7 @@ class Sink:
         self.fails = fails
         self.writes = 0
         self.taken = b""
+        self.failed = False
 
     def write(self, piece):
         """Takes a piece."""
@@ -124,8 +132,10 @@ class Sink:
             return
         self.writes += 1
         if len(piece) > self.room - len(self.taken):
+            self.failed = True
             raise WriteFault
         if self.writes in self.fails:
+            self.failed = True
             self.taken += piece[: self.fails[self.writes]]
             raise WriteFault
         self.taken += piece
@@ -206,7 +216,7 @@ class Case:
 
     def answered(self):
         """What the model says that is to be told; None where the case is left out."""
-        if self.left_out:
+        if self.left_out or any(int(ticks) > MOST_TOLD_TICKS for ticks in TICKS.findall(self.told[0])):
             return None
         files = Files(dict(self.sources), self.fails)
         told = []
@@ -222,6 +232,9 @@ class Case:
         """What is to be told of one call."""
         before = len(files.asked)
         stream, output, note = Input(self.given, self.reads), Sink(self.room, self.output), Sink(self.room, self.note)
+        if words == ["listen"]:
+            answer = answer_of_session(stream, output, note)
+            return self.told_call(answer, [], stream, output, note)
         answer = None if self.output else answer_of(words, files, stream)
         if answer is None or len(answer.output.encode()) > self.room:
             del files.asked[before:]
@@ -233,6 +246,10 @@ class Case:
             note.write(answer.note.encode())
         except WriteFault:
             answer = model.Answer(WRITE_FAULT, "write fault", ticks=answer.ticks)
+        return self.told_call(answer, asked, stream, output, note)
+
+    def told_call(self, answer, asked, stream, output, note):
+        """What is to be told of a call with this answer, which asked for these files, by what it left of the input and what the sinks took."""
         loads = "".join(f", {one}" for one in asked)
         refused = ", refused" if answer.status not in (model.DONE, model.USAGE, INPUT_FAULT, WRITE_FAULT) else ""
         leaves = "" if answer.stack is None else "".join([", leaves", *[" " + text for text in answer.stack]])
@@ -259,6 +276,49 @@ class Case:
                 return answer, stream
             before = answer.output
         raise ValueError(f"{words} takes more than {MOST_TICKS} ticks, and a device fails")
+
+
+class Pieces(list):
+    """The pieces that a phrase writes, each of which a sink takes at once."""
+
+    def __init__(self, sink):
+        super().__init__()
+        self.sink = sink
+
+    def append(self, piece):
+        self.sink.write(piece.encode())
+        super().append(piece)
+
+
+def answer_of_session(stream, output, note):
+    """The model's answer to `listen`, with these devices, any of which may fail."""
+    session = model.Session(lambda: Pieces(output))
+    ticks = 0
+    told = model.Answer(model.DONE, "heard")
+    try:
+        while told.status == model.DONE and (taken := stream.readline(model.MOST_LINE_BYTES + 1)):
+            line = taken.removesuffix(b"\n")
+            if len(line) > model.MOST_LINE_BYTES:
+                told = model.Answer(model.SYNTAX, "line too long", "syntax: listener line too long\n")
+                continue
+            session.run = None
+            try:
+                note.write(session.line(line, stream, model.BUDGET).note.encode())
+            finally:
+                ticks += session.run.ticks if session.run else 0
+        if told.status == model.DONE and session.end_wanted is not None:
+            told = model.Answer(model.SYNTAX, "ended", session.end_wanted.note)
+    except InputFault:
+        told = fault("input", ticks)
+    except WriteFault:
+        # The note of a fault of the notes isn't written any more.
+        told = model.Answer(WRITE_FAULT, "write fault") if note.failed else fault("write", ticks)
+    try:
+        note.write(told.note.encode())
+    except WriteFault:
+        told = model.Answer(WRITE_FAULT, "write fault")
+    told.ticks = ticks
+    return told
 
 
 def numbers_of(numbers):

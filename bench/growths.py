@@ -4,12 +4,13 @@
     python3 bench/growths.py [PROGRAM] [--every K] [--jobs J]
 
 PROGRAM is the built program, by default crates/factorc/out/factorc. The program below, which has a tuple class, its maker, words with
-quotations and a `cond`, is run, built, and executed from its image; and another one that reads lines. Each command is counted first. Then
+quotations and a `cond`, is run, built, and executed from its image; another one reads lines; and a session has lines of all sorts. Each command is counted
+first. Then
 it is run once for each of its allocations, and that one is refused it; and once more so that all behind it are refused too. With `--every K` only
 each K-th is. J processes share the work, as many as there are processors by default.
 
-Each run has to end in the command's own answer, or in status 12 with its note; then what it wrote is a front of its output, and the image
-isn't there or is the whole one. The script ends with status 1 where a run ends otherwise, and tells the first such ones.
+Each run has to end in the command's own answer, or in status 12 with its note; then what it wrote is a front of its output, a session has told whole
+notes with which its own begin, and the image isn't there or is the whole one. The script ends with status 1 where a run ends otherwise, and tells the first such ones.
 """
 
 import argparse
@@ -19,6 +20,7 @@ import sys
 import tempfile
 from collections import Counter
 
+import model
 import speed
 from allocations import Allocations
 
@@ -37,6 +39,29 @@ PRINTED = b"ann: 125\nmid\n"
 READS = b"USING: io kernel prettyprint sequences ; { } [ readln dup ] [ suffix ] while drop reverse .\n"
 LINES = b"one\ntwo\n\nfour\n"
 
+# A session in which lines define, run, fail, are refused, wait, and read a line.
+SESSION = b"""TUPLE: account owner balance ; GENERIC: worth ( x -- n )
+M: account worth balance>> ; : both ( x y -- n ) [ worth ] bi@ + ;
+"ann" 50 account boa { "bob" }
+worth +
+M: array worth length ;
+both swap foo
+both [ 1
++ ] call readln
+forty
+length + 0 /i
+length + { 5 } dup first pick = .
+: over ( x -- )
+"""
+STACK = b"--- Data stack:\n"
+SESSION_OUTPUT = STACK + b'T{ account "ann" 50 }\n{ "bob" }\n' + STACK + b'52\n"forty"\nf\n' + STACK + b"57\n{ 5 }\n"
+SESSION_NOTES = b"""error: no-method in scratchpad:worth: { "bob" }
+name: listener token 3: unknown foo
+error: zero-divisor in math:/i
+syntax: listener token 7: end of the file
+"""
+MEMORY_NOTE = b"out of memory\n"
+
 # Commands with their input, their output, and what their note is where they aren't done.
 COMMANDS = [
     (["run", "bank"], b"", (0, PRINTED, b"")),
@@ -45,6 +70,7 @@ COMMANDS = [
     (["exec", "bank.image"], b"", (0, PRINTED, b"")),
     (["run", "reads"], LINES, (0, b'{ "four" "" "two" "one" }\n', b"")),
     (["exec", "reads.image"], LINES, (0, b'{ "four" "" "two" "one" }\n', b"")),
+    (["listen"], SESSION, (3, SESSION_OUTPUT, SESSION_NOTES)),
 ]
 
 STATE = {}
@@ -79,6 +105,12 @@ def count(number):
     return ended.calls, (ended.status, ended.output, ended.note), (ended.status, ended.output, ended.note) == wanted
 
 
+def notes_before(words, notes):
+    """What notes may have before the last one: nothing, or in a session whole ones."""
+    lines = notes.splitlines(True) if words == ["listen"] else []
+    return [b"".join(lines[:count]) for count in range(len(lines) + 1)]
+
+
 def refuse(task):
     """How a command ends where an allocation is refused, and all those behind it up to another: a word for the end, and what is wrong with it."""
     number, first, last = task
@@ -94,7 +126,8 @@ def refuse(task):
     fits = (
         ended.status == MEMORY
         and wanted[1].startswith(ended.output)
-        and ended.note == b"out of memory\n"
+        and ended.note.endswith(MEMORY_NOTE)
+        and ended.note.removesuffix(MEMORY_NOTE) in notes_before(words, wanted[2])
         and (not builds or saved("image") in (None, STATE["whole"]))
     )
     told = f"status {ended.status}, output {ended.output[-80:]!r}, note {ended.note[-80:]!r}"
@@ -111,6 +144,8 @@ def main():
     failed = []
     with tempfile.TemporaryDirectory() as folder, multiprocessing.Pool(words.jobs, begin, (program, folder)) as pool:
         for number, (command, _, _) in enumerate(COMMANDS):
+            if command == ["listen"] and "listen" not in model.BUILT:
+                continue
             calls, ended, is_right = pool.apply(count, (number,))
             if not is_right:
                 failed.append(f"{command} answers {ended} where nothing is refused")
