@@ -12,7 +12,8 @@ write what the file with its name and `.out` has, and to end with status 0 and w
 A listing of README.md and of docs/TUTORIAL.md is a block that begins with "```factor", perhaps with the names of files of the library that it needs behind
 that, and with the word `image` before them where it is built as an image too, which is executed then. It is run as `a.factor`, behind these.
 A block behind it that begins with "```input" is its input. The next block, which begins with "```text", has what it writes, with its note at
-the end, and behind that word `status=N` where it ends with another status than 0.
+the end, and behind that word `status=N` where it ends with another status than 0. A block that begins with "```listen", perhaps with such names too, has the
+lines of a session, which `PROGRAM listen` takes behind those of these files.
 
 An indented listing of docs/LANGUAGE.md is run as `a.factor`, behind all vocabularies where it uses none. Where the line behind it begins with "This prints",
 it has to write what stands between backticks in this sentence; otherwise it has to be accepted. PARTS are no programs by themselves.
@@ -50,7 +51,7 @@ LANGUAGE = "docs/LANGUAGE.md"
 # The words behind `factor`, the text, the input, the words behind `text`, and what is written. None of the texts has a line that ends a block.
 BLOCK = rb"((?:(?!```)[^\n]*\n)*)```\n"
 LISTING = re.compile(
-    rb"^```factor([^\n]*)\n" + BLOCK + rb"\n+(?:```input\n" + BLOCK + rb"\n+)?```text([^\n]*)\n" + BLOCK, re.MULTILINE
+    rb"^```(factor|listen)([^\n]*)\n" + BLOCK + rb"\n+(?:```input\n" + BLOCK + rb"\n+)?```text([^\n]*)\n" + BLOCK, re.MULTILINE
 )
 
 INDENTED = re.compile(r"\n\n((?:    [^\n]*\n|\n(?=    ))+)\n([^\n]*(?:\n[^\n]+)*)")
@@ -72,7 +73,7 @@ NOTE = re.compile(rb'codes "([^"]*)"')
 @dataclass
 class Program:
     """A program: what it is called here, the names of its files and their texts, the status and the text that it ends with, its input, and
-    whether it is built as an image too."""
+    whether it is built as an image too. A session has no names of files."""
 
     title: str
     names: list
@@ -106,13 +107,16 @@ def programs():
             elif folder == "examples" and name.endswith(".factor"):
                 yield stored([f"examples/{name}"])
     for page, number, found in ((page, *each) for page in (README, TUTORIAL) for each in enumerate(LISTING.finditer(read(page)), 1)):
-        library, text, given, status, wanted = found.groups()
+        sort, library, text, given, status, wanted = found.groups()
         names = library.decode().split()
         image = names[:1] == ["image"]
         names = names[image:]
         texts = {name: read(name) for name in names} | {"a.factor": text}
         status = int(status.partition(b"status=")[2] or 0)
-        yield Program(f"listing {number} of {page}", [*names, "a.factor"], texts, status, wanted, given or b"", image)
+        if sort == b"listen":
+            yield Program(f"listing {number} of {page}", [], {}, status, wanted, b"".join(texts.values()))
+        else:
+            yield Program(f"listing {number} of {page}", [*names, "a.factor"], texts, status, wanted, given or b"", image)
     for note, text in EXAMPLE.findall(read(REFUSALS)):
         yield Program(f"the example {text.decode()} of {REFUSALS}", ["a.factor"], {"a.factor": text}, STATUSES[note.partition(b":")[0]], note + b"\n")
 
@@ -160,6 +164,11 @@ def unexplained():
     return [f"{REFUSALS} has nothing on the note {text.decode()}" for text in texts if text not in read(REFUSALS)]
 
 
+def command_of(program):
+    """The words of the command that runs a program."""
+    return ["run", *program.names] if program.names else ["listen"]
+
+
 def run_built(built, program):
     """The status of the built program on these files, and what it writes, with its note at the end. Where an image is wanted too and the
     run ends as it should, these are of the image: of its build where that says anything, and else of its run."""
@@ -175,7 +184,7 @@ def run_built(built, program):
             found = subprocess.run(command, cwd=folder, input=program.given, capture_output=True, timeout=MOST_SECONDS, check=False)
             return found.returncode, found.stdout + found.stderr
 
-        ran = ended("run", *program.names)
+        ran = ended(*command_of(program))
         if not program.image or ran != (program.status, program.wanted):
             return ran
         saved = ended("build", *program.names, "-o", "a.image")
@@ -184,7 +193,7 @@ def run_built(built, program):
 
 def run_model(program):
     """The same of the model."""
-    answer = model.answer(["run", *program.names], program.texts, given=program.given)
+    answer = model.answer(command_of(program), program.texts, given=program.given)
     return answer.status, answer.output.encode() + answer.note.encode()
 
 
