@@ -1,5 +1,5 @@
 -- The words of a closed program have the names of those of the program for which it stands.
-use Rattle.std.proofs.Common.{◌≡◌, ℕ, zero, suc, List, [], ◌∷◌, refl, ap, ◌∙◌}
+use Rattle.std.proofs.Common.{◌≡◌, ℕ, zero, suc, List, [], ◌∷◌, ap, ◌∙◌}
 use Rattle.std.specs.Prelude.{slice_get}
 use Rattle.fac_base.specs.declared.name.Name.{Name}
 use Rattle.fac_lang.specs.declared.phrase.Template.{Template}

@@ -1,4 +1,10 @@
 pub mod SourceLemmas
+pub mod KnownLemmas
 pub mod ClosedNameLemmas
-pub mod JudgedLemmas
+pub mod MeaningLemmas
 pub mod ImageLemmas
+pub mod RunLemmas
+pub mod ToldLemmas
+pub mod PhraseLemmas
+pub mod GoOnLemmas
+pub mod SessionLemmas

@@ -1,4 +1,10 @@
 pub mod TextSources
+pub mod KnownTexts
 pub mod JudgedPrograms
+pub mod TextMeanings
 pub mod TextImages
+pub mod MachineTexts
+pub mod StackTexts
+pub mod StandingSessions
+pub mod Replies
 pub mod inner

@@ -28,6 +28,7 @@ fn asked_effects<R: Threads + Sync, G>(
 }
 
 // The image of a closed program whose templates have these effects.
+#[tactic(auto, using(crate::proofs::ImageLemmas::if_image))]
 fn image_with(alloc: Global, closed: &Closed, heights: &[Option<Height>]) -> Result<Image, Memory>
     requires stands { StandsForWhole closed.now }
     requires effects { AreEffectsIfAsked closed.now heights.now }

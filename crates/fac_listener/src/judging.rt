@@ -40,13 +40,12 @@ fn refusal_of<R: Threads + Sync, G: Gate + Sync>(
     ensures { IfOk result (λ refusal. OfEach closed.now (λ P. verdict P closed.now.start ≡ refusal_if refusal)) }
 {
     first_refusal_is_verdict();
-    match check_words(workers, closed) {
-        Err(_) => Err(Memory),
-        Ok(verdicts) => Ok(first_refused(&verdicts)),
-    }
+    let verdicts = check_words(workers, closed)?;
+    Ok(first_refused(&verdicts))
 }
 
 // The answer on a program that is refused so. The name of the word is taken from this program, which has the same names.
+#[tactic(auto, using(crate::proofs::MeaningLemmas::refused_by))]
 fn refused(alloc: Global, program: &Program, refusal: Refusal) -> Judged
     ensures { (P : Source) (count : ℕ) → SameNames P program.now → verdict P count ≡ Some (refusal_seen refusal) → IsJudged P count result }
 {
