@@ -66,7 +66,7 @@ BEFORE_INSTEAD = f"{ALL[:-2]} assocs hashtables math.functions vectors ; TUPLE: 
 REFUSALS = "docs/REFUSALS.md"
 EXAMPLE = re.compile(rb"^- `([^`\n]+)` of\s+`([^`\n]+)`", re.MULTILINE)
 STATUSES = {b"error": 1, b"syntax": 3, b"name": 4, b"check": 5}
-NOTES = ["crates/fac_notes/specs/NoteRows.antt", "crates/fac_notes/specs/Notes.antt", "crates/fac_tool/specs/ToldNotes.antt"]
+NOTES = [f"crates/{name}.antt" for name in ("fac_notes/specs/NoteRows", "fac_notes/specs/Notes", "fac_tool/specs/ToldNotes", "fac_listen/specs/SessionNotes")]
 NOTE = re.compile(rb'codes "([^"]*)"')
 
 
