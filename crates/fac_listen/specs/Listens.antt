@@ -76,9 +76,25 @@ pub record CutBetween (source : List ℕ → Source) (s : Session) (input left :
   pub output : Grows before.output.taken now.output.taken front.output
   pub cut : CutBehind front before now notes_before notes_now heard
 
--- the ending of a session that a fault or want of memory cuts short in a line
-abbrev pub EndsCut : ℕ → ℕ → NotesTold → NotesTold → Heard → Type 0
-EndsCut status ticks before now heard = EndsToldIfMemory (fault_note status ticks) (bare status ticks) before now heard ⊎ EndsTold memory_note (bare NO_MEMORY ticks) before now heard
+-- what cuts a session short in a line
+pub data Cause : Type 0 where
+  by_input : Cause
+  by_output : Cause
+  by_memory : Cause
+
+abbrev pub InputFailed : Cause → Type 0
+InputFailed by_input = Unit {0}
+InputFailed _ = ⊥
+
+abbrev pub OutputFailed : Cause → Type 0
+OutputFailed by_output = Unit {0}
+OutputFailed _ = ⊥
+
+-- the ending of such a session
+abbrev pub EndsCut : Cause → ℕ → NotesTold → NotesTold → Heard → Type 0
+EndsCut by_input ticks before now heard = EndsToldIfMemory (fault_note INPUT_FAULT ticks) (bare INPUT_FAULT ticks) before now heard
+EndsCut by_output ticks before now heard = EndsToldIfMemory (fault_note WRITE_FAULT ticks) (bare WRITE_FAULT ticks) before now heard
+EndsCut by_memory ticks before now heard = EndsTold memory_note (bare NO_MEMORY ticks) before now heard
 
 -- The session was cut short in a line, with so many ticks of its phrase. The output of the lines before it was written, and of its own as much as `IsCutShort` says.
 pub record CutInLine (source : List ℕ → Source) (s : Session) (input left : List ℕ) (before now : DevicesTold) (notes_before notes_now : NotesTold) (heard : Heard) : Type 0 where
@@ -93,9 +109,9 @@ pub record CutInLine (source : List ℕ → Source) (s : Session) (input left : 
   pub cut : IsCutShort (meant front.session.known (length front.session.stack) (source (behind_waiting front.session.waiting bytes))) front.session rest ticks written now.output
   pub between : NotesTold
   pub noted : AreNoted (notes_for front.told) notes_before between
-  pub status : ℕ
-  pub ends : EndsCut status (min (front.ticks + ticks) most_ticks) between notes_now heard
-  pub counts : DevicesCount before now (status ≡ INPUT_FAULT) (status ≡ WRITE_FAULT)
+  pub cause : Cause
+  pub ends : EndsCut cause (min (front.ticks + ticks) most_ticks) between notes_now heard
+  pub counts : DevicesCount before now (InputFailed cause) (OutputFailed cause)
 
 -- memory was wanted before the first line
 pub record NoSession (input left : List ℕ) (before now : DevicesTold) (notes_before notes_now : NotesTold) (heard : Heard) : Type 0 where

@@ -16,7 +16,7 @@ use Rattle.fac_listener.specs.Replies.{IsCutShort}
 use Rattle.fac_listener.specs.StandingSessions.{has_ended}
 use Rattle.fac_listen.specs.Devices.{DevicesTold, DevicesStand, DevicesCount}
 use Rattle.fac_listen.specs.Fronts.{Front, with_last}
-use Rattle.fac_listen.specs.Listens.{CutByInput, CutByMemory, EndsCut, notes_for}
+use Rattle.fac_listen.specs.Listens.{Cause, EndsCut, InputFailed, OutputFailed, notes_for}
 use Rattle.fac_listen.specs.SessionNotes.{NotesTold, AreNoted, EndsByLine, EndsTold, EndsToldIfMemory, bare, refused, fault_note, memory_note, too_long_note}
 use Rattle.fac_listen.specs.declared.heard.Heard.{Heard}
 use Rattle.fac_listen.specs.declared.hearing.Hearing.{Hearing}
@@ -44,9 +44,9 @@ pub record NoteEnds (f : Front) (b : Behind) (left : List ℕ) (before now : Dev
 pub record LineEnds (source : List ℕ → Source) (f : Front) (bytes input left : List ℕ) (before now : DevicesTold) (notes_before notes_now : NotesTold) (heard : Heard) : Type 0 where
   pub ticks : ℕ
   pub cut : IsCutShort (meant f.session.known (length f.session.stack) (source (behind_waiting f.session.waiting bytes))) f.session input ticks before.output now.output
-  pub status : ℕ
-  pub ends : EndsCut status (min (f.ticks + ticks) most_ticks) notes_before notes_now heard
-  pub counts : DevicesCount before now (status ≡ INPUT_FAULT) (status ≡ WRITE_FAULT)
+  pub cause : Cause
+  pub ends : EndsCut cause (min (f.ticks + ticks) most_ticks) notes_before notes_now heard
+  pub counts : DevicesCount before now (InputFailed cause) (OutputFailed cause)
 
 -- a line with these bytes was taken, with this input behind it
 abbrev pub TakesLine : (List ℕ → Source) → Front → List ℕ → List ℕ → List ℕ → DevicesTold → DevicesTold → NotesTold → NotesTold → Hearing → Option Heard → Type 0
