@@ -36,6 +36,8 @@ ANYWHERE = {
     "bench/hostile.py": "hostile sources and images",
     "bench/images.py": "images of cases",
     "bench/speed.py": "sources to measure",
+    "bench/typed.py": "programs to compare",
+    "bench/compare.py": "programs to compare",
     "bench/shapes.py": "sources to measure",
     "bench/programs.py": "programs to measure",
     "bench/rows.py": "this script",
