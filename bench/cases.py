@@ -221,7 +221,7 @@ class Case:
 
     def answered(self):
         """What the model says that is to be told; None where the case is left out."""
-        if self.left_out or any(int(ticks) > MOST_TOLD_TICKS for ticks in TICKS.findall(self.told[0])):
+        if self.left_out or any(int(ticks) > MOST_TOLD_TICKS for line in self.told[:1] for ticks in TICKS.findall(line)):
             return None
         files = Files(dict(self.sources), self.fails)
         told = []
