@@ -25,5 +25,6 @@ pub use fac_notes::{ByteFault, Report};
 pub use laws::{
     every_text_is_a_source, exec_after_build_is_run, one_source, saved_code_runs_as_its_source,
 };
-pub use telling::tell_no_words;
+pub use loading::load_all;
+pub use telling::{tell, tell_no_words};
 pub use tool::factor_top;

@@ -1,0 +1,5 @@
+pub mod GivenLemmas
+pub mod CheckedLemmas
+pub mod ExplainedLemmas
+pub mod IdleLemmas
+pub mod VerdictLemmas
