@@ -1,5 +1,5 @@
 -- What `check` answers on texts that are called by their numbers.
-use Rattle.std.proofs.Common.{◌≡◌, ◌≤◌, ◌<◌, ℕ, suc, ◌+◌, ◌^◌, List, [], ◌∷◌, ◌++◌, Bool, true, false, None, Some, IfSome, IsSomeAnd, Result, Ok, Err, ◌⊎◌, inl, inr, length, map, refl, sym, ap, subst, ◌∙◌, arith, length-append}
+use Rattle.std.proofs.Common.{◌≡◌, ◌≤◌, ◌<◌, ℕ, suc, ◌+◌, ◌^◌, List, [], ◌∷◌, ◌++◌, Bool, true, false, None, Some, IfSome, IfOk, IsSomeAnd, Result, Ok, Err, ◌⊎◌, inl, inr, length, map, refl, sym, ap, subst, ◌∙◌, arith, length-append}
 use Rattle.std.specs.Prelude.{codes}
 use Rattle.std.specs.List.{concat, list_all}
 use Rattle.std.specs.declared.option.Option.{Option}
@@ -23,7 +23,7 @@ use Rattle.fac_tool.specs.SeenObjects.{SinkSeen, InputSeen, input_seen, output_s
 use Rattle.fac_explainer.specs.CheckAnswers.{IsCheckedAs, check_answer}
 use Rattle.fac_explainer.specs.inner.GivenTexts.{number_name, names_from, numbered_texts, AreNumbered}
 use Rattle.fac_explainer.specs.inner.Steps.{ChecksGiven, IsSettled, given_files, silent_sink}
-use Rattle.fac_explainer.proofs.GivenLemmas.{names_are, are_names, held_are}
+use Rattle.fac_explainer.proofs.GivenLemmas.{names_are, are_names, held_are, texts_again}
 
 -- an ending that isn't settled
 unsettled : (ended : Ended) (status : ℕ) → ended.status ≡ status → 0 < status → ended.refusal ≡ None → IsSettled ended → ⊥
@@ -157,3 +157,14 @@ checked_given given texts words ended numbered are checks settled =
     ap (λ (ps : List (List ℕ × List ℕ)). map (bytes_of ps) (names_from 1 texts)) numbered.are ∙ held_are 1 texts (omega (arith, numbered.few)) in
     let answers = subst (λ (ws : List (List ℕ)). AnswersBy (command_of ws) (given_files held checks.after) (input_seen checks.before checks.now) (output_seen checks.before checks.now) silent_sink ended) names checks.answers in
     of_names texts held checks.after _ _ ended found numbered.within answers settled
+
+pub given_checks :
+    {E : Type 0} (given : List (List ℕ × List ℕ)) (words : List (List ℕ)) (ended : Ended) (r : Result (Option Report) E) → AreNumbered given (map (λ pair. pair.1) given) → words ≡ codes "check" ∷ map (λ pair. pair.0) given → ChecksGiven words (bytes_of given) ended →
+    IfOk r (λ refusal. (refusal ≡ ended.refusal) × IsSettled ended) → IfOk r (IsCheckedAs (map (λ pair. pair.1) given))
+given_checks given words ended (Err fault) numbered are checks settled = tt
+given_checks given words ended (Ok refusal) numbered are checks settled =
+    subst (IsCheckedAs (map (λ pair. pair.1) given)) (sym settled.0) (checked_given given (map (λ pair. pair.1) given) words ended numbered are checks settled.1)
+
+-- and of these texts before they were numbered
+pub checked_again : {E : Type 0} (given : List (List ℕ × List ℕ)) (texts : List (List ℕ)) (r : Result (Option Report) E) → given ≡ numbered_texts 1 texts → IfOk r (IsCheckedAs (map (λ pair. pair.1) given)) → IfOk r (IsCheckedAs texts)
+checked_again given texts r e checked = subst (λ (ts : List (List ℕ)). IfOk r (IsCheckedAs ts)) (texts_again given texts e) checked

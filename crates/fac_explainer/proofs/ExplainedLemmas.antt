@@ -1,7 +1,6 @@
 -- What is told of a refusal: it is never empty, and there is one.
-use Rattle.std.proofs.Common.{◌≡◌, ◌<◌, ℕ, ◌+◌, List, [], ◌∷◌, ◌++◌, Bool, true, false, None, Some, Result, Ok, Err, length, inl, inr, refl, sym, ap, subst, ◌∙◌, arith, length-append}
+use Rattle.std.proofs.Common.{◌≡◌, ◌<◌, ℕ, ◌+◌, List, [], ◌∷◌, ◌++◌, Bool, true, false, None, Some, Result, Ok, Err, length, map, inl, inr, refl, sym, ap, subst, ◌∙◌, arith, length-append}
 use Rattle.std.specs.Prelude.{codes, nat_le}
-use Rattle.std.specs.List.{concat}
 use Rattle.std.specs.declared.option.Option.{Option}
 use Rattle.fac_source.specs.declared.token.Token.{Token}
 use Rattle.fac_token.specs.declared.fault.TokenFault.{TokenFault}
@@ -28,8 +27,9 @@ use Rattle.fac_explainer.specs.Homes.{AreHomes, none, holds, lacks, HomesWhere, 
 use Rattle.fac_explainer.specs.Explanations.{IsTold, IsExplanation, OneExplanation, explanation, nothing}
 use Rattle.fac_explainer.specs.CheckAnswers.{OneRefusal, IsCheckedAs, check_answer}
 use Rattle.fac_explainer.specs.Explains.{ExplainsTexts}
-use Rattle.fac_explainer.specs.inner.GivenTexts.{numbered_texts, AreNumbered}
+use Rattle.fac_explainer.specs.inner.GivenTexts.{numbered_texts}
 use Rattle.fac_explainer.specs.inner.Steps.{Explained, Writes}
+use Rattle.fac_explainer.proofs.GivenLemmas.{texts_again}
 
 -- its last byte is a line break
 last_byte : (a b c : List ℕ) → 0 < length (a ++ (b ++ c ++ codes "\n"))
@@ -45,6 +45,17 @@ some_bytes names texts (Some why) out is =
     let all = numbered_names names in
     let text = text_in texts (file_of why) in
     subst (λ (xs : List ℕ). 0 < length xs) (sym is.2.2) (last_byte (place_text (file_name all (file_of why)) place ++ line_of all why) (picture why text place) (sentence why (token_text text place) ++ hint is.2.0))
+
+-- what is told of texts that were numbered
+pub explained_again :
+    (names texts : List (List ℕ)) (given : List (List ℕ × List ℕ)) (refusal : Option Report) (text : List ℕ) → given ≡ numbered_texts 1 texts → IsCheckedAs (map (λ pair. pair.1) given) refusal → IsTold names (map (λ pair. pair.1) given) refusal text →
+    Explained names texts refusal text
+explained_again names texts given refusal text e checked is = subst (λ (ts : List (List ℕ)). Explained names ts refusal text) (texts_again given texts e) (record { checked = checked; is = is })
+
+-- it was written, whole or a front of it
+pub explains : (names texts : List (List ℕ)) (refusal : Option Report) (text : List ℕ) (out : SinkSeen) (ended : Ended) → Explained names texts refusal text → Writes text refusal out ended → ExplainsTexts names texts out ended
+explains names texts refusal text out ended is (inl whole) = inl (record { refusal = refusal; checked = is.checked; ends = inl (record { text = text; is = is.is; written = whole.written; count = whole.count; ends = whole.ends }) })
+explains names texts refusal text out ended is (inr part) = inl (record { refusal = refusal; checked = is.checked; ends = inr (record { text = text; is = is.is; front = part.front; rose = part.rose; ends = part.ends }) })
 
 -- a file with tokens has no fault
 no_fault : OneAnswer → (text : List ℕ) (spots : List Spot) (fault : TokenFault) → HasSpots text spots → IsNotMemory (Err fault) → Tokenizes 0 text (Err fault) → ⊥

@@ -2,4 +2,5 @@ pub mod GivenLemmas
 pub mod CheckedLemmas
 pub mod ExplainedLemmas
 pub mod IdleLemmas
+pub mod HomeLemmas
 pub mod VerdictLemmas

@@ -1,5 +1,5 @@
 //! The refusal of texts: what `check` answers on them.
-ghost use Rattle.std.specs.Prelude.{◌≡◌, ◌≤◌, ◌∷◌, length, map, codes, string_bytes, IfOk};
+ghost use Rattle.std.specs.Prelude.{◌≡◌, ◌≤◌, ◌∷◌, ◌++◌, [], length, map, codes, string_bytes, IfOk, OnOk};
 ghost use Rattle.std.specs.List.{concat};
 ghost use Rattle.fac_tool.specs.Answer.{limit};
 ghost use Rattle.fac_io.specs.Names.{bytes_of};
@@ -17,14 +17,22 @@ use fac_tool::{Ended, Report, factor_top};
 use std::alloc::Global;
 use std::thread::Threads;
 
+// Puts a word behind others.
+fn add_word(alloc: Global, words: &mut Vec<String>, word: &str) -> Result<(), Memory>
+    ensures { OnOk result (map string_bytes words.new.items ≡ map string_bytes words.old.items ++ word.now ∷ []) }
+{
+    words.push(String::from_str(alloc, word)?)?;
+    Ok(())
+}
+
 // The words of a command line that checks texts of these names.
 fn words_of(alloc: Global, given: &[(Text, Bytes)]) -> Result<Vec<String>, Memory>
     ensures { IfOk result (λ words. map string_bytes words.items ≡ codes "check" ∷ map (λ pair. pair.0) given.now) }
 {
     let mut words = Vec::new(alloc);
-    words.push(String::from_str(alloc, "check")?)?;
+    add_word(alloc, &mut words, "check")?;
     for text in given {
-        words.push(String::from_str(alloc, text.0.as_str())?)?;
+        add_word(alloc, &mut words, text.0.as_str())?;
     }
     Ok(words)
 }
@@ -65,6 +73,7 @@ fn refusal_of(ended: Ended) -> Result<Option<Report>, Memory>
 }
 
 /// The refusal of texts that are numbered. None where they are accepted.
+#[tactic(auto, using(crate::proofs::CheckedLemmas::given_checks))]
 pub fn check_given<R: Threads + Sync, G: Gate + Sync>(
     workers: &Workers<'_, R, G>,
     given: &List<(Text, Bytes)>,
@@ -78,6 +87,7 @@ pub fn check_given<R: Threads + Sync, G: Gate + Sync>(
 }
 
 /// The refusal of texts. None where they are accepted.
+#[tactic(auto, using(crate::proofs::GivenLemmas::numbered_again, crate::proofs::CheckedLemmas::checked_again))]
 pub fn check_texts<R: Threads + Sync, G: Gate + Sync>(
     workers: &Workers<'_, R, G>,
     texts: List<Bytes>,

@@ -49,6 +49,7 @@ fn are_files(words: &[String]) -> bool
 }
 
 // The refusal of files with these names and texts, explained.
+#[tactic(auto, using(crate::proofs::GivenLemmas::numbered_again, crate::proofs::ExplainedLemmas::explained_again))]
 fn explained<R: Threads + Sync, G: Gate + Sync>(
     workers: &Workers<'_, R, G>,
     names: &[String],
@@ -77,6 +78,7 @@ fn write<K: Sink>(explanation: Explanation, out: &mut K) -> Ended
 }
 
 // Explains what `check` says of texts.
+#[tactic(auto, using(crate::proofs::ExplainedLemmas::some_bytes, crate::proofs::ExplainedLemmas::explains, crate::proofs::IdleLemmas::unwritten))]
 fn explain_texts<R: Threads + Sync, G: Gate + Sync, K: Sink>(
     workers: &Workers<'_, R, G>,
     names: &[String],
@@ -93,6 +95,7 @@ fn explain_texts<R: Threads + Sync, G: Gate + Sync, K: Sink>(
 }
 
 // Loads files, and explains what `check` says of them.
+#[tactic(auto, using(crate::proofs::IdleLemmas::unwritten))]
 fn work<R: Threads + Sync, G: Gate + Sync, F: Files, K: Sink>(
     workers: &Workers<'_, R, G>,
     names: &[String],
@@ -144,6 +147,7 @@ fn tell_usage<N: Sink>(notes: &mut N) -> Ended
 /// of `check`: the place, the note, the line with marks below the token, and a sentence; and where there is none, that there is nothing to explain.
 /// It is one write, before that of the note. What the refusal is says `IsCheckedAs`, by the definition of what `check` answers, and what is written
 /// says `IsTold`, of the same texts. Want of memory may be answered at any point; a fault only where the object that was handed in counted one.
+#[tactic(auto, using(crate::proofs::IdleLemmas::idle))]
 pub fn explain_top<R: Threads + Sync, G: Gate + Sync, F: Files, K: Sink, N: Sink>(
     workers: &Workers<'_, R, G>,
     words: &[String],

@@ -80,6 +80,7 @@ fn add_text(
 }
 
 /// Texts with their names, numbered from 1 on.
+#[tactic(auto, using(crate::proofs::GivenLemmas::one_more_given, crate::proofs::GivenLemmas::all_given))]
 pub fn numbered(alloc: Global, texts: List<Bytes>) -> Result<List<(Text, Bytes)>, Memory>
     ensures { IfOk result (λ given. given ≡ numbered_texts 1 texts) }
 {

@@ -1,7 +1,7 @@
 //! The vocabularies of the language that hold a word of a name.
-ghost use Rattle.std.specs.Prelude.{◌≡◌, ◌∷◌, [], map, IfOk};
+ghost use Rattle.std.specs.Prelude.{◌≡◌, ◌∷◌, [], map, IfOk, OnOk};
 ghost use Rattle.fac_explainer.specs.Homes.{AreHomes, HasHomes, IsWithHomes, bringing as bringing_text, vocabularies};
-ghost use Rattle.fac_explainer.specs.inner.Steps.{AcceptsTexts};
+ghost use Rattle.fac_explainer.specs.inner.Steps.{AcceptsTexts, AddsHome};
 
 use crate::checking::check_texts;
 use fac_base::limits::MOST_SOURCE_BYTES;
@@ -65,6 +65,22 @@ fn holds<R: Threads + Sync, G: Gate + Sync>(
     is_accepted(workers, text)
 }
 
+// Puts a vocabulary behind others, where it holds a word of this name.
+fn add_home<R: Threads + Sync, G: Gate + Sync>(
+    workers: &Workers<'_, R, G>,
+    homes: &mut List<Text>,
+    vocab: &str,
+    name: &Text,
+) -> Result<(), Memory>
+    ensures { OnOk result (AddsHome name.now vocab.now homes.old homes.new) }
+{
+    if holds(workers, vocab, name)? {
+        homes.push(Text::from_str(workers.alloc, vocab)?)
+    } else {
+        Ok(())
+    }
+}
+
 // Those of vocabularies that hold a word of this name.
 fn homes_among<R: Threads + Sync, G: Gate + Sync>(
     workers: &Workers<'_, R, G>,
@@ -75,9 +91,7 @@ fn homes_among<R: Threads + Sync, G: Gate + Sync>(
 {
     let mut homes = List::new(workers.alloc);
     for vocab in vocabs {
-        if holds(workers, vocab, name)? {
-            homes.push(Text::from_str(workers.alloc, vocab)?)?;
-        }
+        add_home(workers, &mut homes, vocab, name)?;
     }
     Ok(homes)
 }

@@ -15,6 +15,7 @@ use fac_tool::{ByteFault, Report};
 use std::alloc::Global;
 
 // The text of a file that was given under a number.
+#[tactic(auto, using(crate::proofs::GivenLemmas::text_here, crate::proofs::GivenLemmas::no_text_here))]
 fn given_text(given: &List<(Text, Bytes)>, file: u32) -> &[u8]
     requires { 1 ≤ file }
     ensures { result.now ≡ text_in (map (λ pair. pair.1) given.now) file }

@@ -13,6 +13,7 @@ use Rattle.fac_tool.specs.declared.ended.Ended.{Ended}
 use Rattle.fac_tool.specs.Answers.{Answers}
 use Rattle.fac_tool.specs.SeenObjects.{SinkSeen, FilesSeen, input_seen, output_seen}
 use Rattle.fac_explainer.specs.CheckAnswers.{IsCheckedAs}
+use Rattle.fac_explainer.specs.Homes.{bringing}
 use Rattle.fac_explainer.specs.Explanations.{IsTold}
 use Rattle.fac_explainer.specs.Explains.{told, bare}
 
@@ -65,3 +66,8 @@ Writes text refusal out ended = WritesWhole text refusal out ended ⊎ WritesFro
 abbrev pub AcceptsTexts : List (List ℕ) → Bool → Type 0
 AcceptsTexts texts true = IsCheckedAs texts None
 AcceptsTexts texts false = (why : Report) × IsCheckedAs texts (Some why)
+
+-- a vocabulary was put behind others where it holds a word of this name
+abbrev pub AddsHome : List ℕ → List ℕ → List (List ℕ) → List (List ℕ) → Type 0
+AddsHome name vocab homes now =
+    (IsCheckedAs (bringing vocab name ∷ []) None × (now ≡ homes ++ vocab ∷ [])) ⊎ ((why : Report) × IsCheckedAs (bringing vocab name ∷ []) (Some why) × (now ≡ homes))
