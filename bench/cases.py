@@ -146,6 +146,7 @@ class Case:
         self.output = {}
         self.note = {}
         self.room = ROOM
+        self.workers = 1
         self.fronts = None
         self.left_out = False
         self.told = []
@@ -186,14 +187,17 @@ class Case:
             (self.output if name == b"output" else self.note)[int(number)] = int(count)
         elif name == b"room":
             self.room = int(text)
+        elif name == b"workers":
+            self.workers = int(text)
         elif name == b"fronts":
             self.fronts = text.decode()
-        elif name not in (b"about", b"workers"):
+        elif name != b"about":
             self.left_out = True
 
     def lines(self):
         """The lines of this case, with the empty one behind them. Its files are handed over byte for byte, `a` as the first one."""
         told = [] if self.room == ROOM else [b"@room %d" % self.room]
+        told += [] if self.workers == 1 else [b"@workers %d" % self.workers]
         for number, words in enumerate([self.words, *self.others]):
             told.append(b"@then " * (number > 0) + b"@words " * (number == 0) + b" ".join(word.encode() or b"''" for word in words))
         told += [b"@codes " + numbers_of(self.given)] if self.given else []

@@ -2,6 +2,7 @@
 """Compares the built factorc with the model of the language in bench/model.py, on programs made at random.
 
     python3 bench/compare.py [PROGRAM] [--seconds N] [--seed S] [--built NAME,NAME,..] [--kinds NAME,NAME,..]
+    python3 bench/compare.py --workers N,N,.. [--cases CASES] [--seconds N] [--seed S] [--kinds NAME,NAME,..]
 
 PROGRAM is the built program, by default crates/factorc/out/factorc. First the model alone has to answer worked examples, which
 are written by hand, and the program has to answer them as the model does. Then each kind of case has its share of the N seconds,
@@ -12,6 +13,9 @@ many depends on the time.
 `--built` says what the program can do, by the names of model.PIECES and of what is in them: a program that was built from a part of
 the language is compared with a model of that part. By default it is what model.BUILT says. `--kinds` names the kinds that are
 wanted.
+
+With `--workers` no model is asked. CASES, by default the program of crates/fac_cases, makes the calls of each case with each of these numbers of
+workers, and what it tells of them has to be the same: the answer of the case, and where files are run what `list` tells of their image.
 
 Some cases are run with a small budget too. A program that takes more ticks than the model is given is run with that budget, or is
 left out and counted where commands have no budget, as `listen`. Answers that tell of sinks that fail, or of memory, aren't compared.
@@ -24,6 +28,7 @@ The files of each such case are kept in a folder, which is named.
 import argparse
 import os
 import random
+import re
 import subprocess
 import sys
 import tempfile
@@ -31,6 +36,7 @@ import time
 from collections import Counter
 from dataclasses import dataclass
 
+import cases
 import examples
 import model
 import speed
@@ -54,6 +60,11 @@ MOST_SECONDS = 20.0
 MOST_FAILURES = 10
 # The share of runs that are tried with a small budget.
 SMALL_BUDGETS = 0.15
+
+CASES = os.path.join(os.path.dirname(os.path.abspath(__file__)), "..", "crates", "fac_cases", "out", "fac_cases")
+# So many cases are answered in one process, and so many bytes of an output are told.
+BATCH = 20
+ROOM = 1_000_000
 
 
 @dataclass
@@ -175,6 +186,87 @@ class Comparison:
         tally.failed.append(f"{tally.name}: {path} {case.words} {told}")
 
 
+def case_of(made):
+    """A case as one of fac_cases, with a budget. Where it runs files, their image is listed too. None where its words can't stand in a line."""
+    command = model.read_words(made.words)
+    runs = command is not None and command.name == "run"
+    if runs and command.budget > MOST_TICKS:
+        made = with_budget(made, command, MOST_TICKS)
+    names = [*made.words, *made.files]
+    if command is None or command.name not in ("run", "check", "build") or any(not name or set(name) & set(" \n\r") for name in names):
+        return None
+    case = cases.Case()
+    case.room, case.words, case.given, case.sources = ROOM, made.words, made.given, made.files
+    if runs:
+        case.others = [["build", *command.files, "-o", "i"], ["list", "i"]]
+    return case
+
+
+class WorkersComparison:
+    """Compares what one program tells of cases with several numbers of workers. The lines of a case in which two differ are kept in a folder."""
+
+    def __init__(self, program, counts, seed):
+        self.program = program
+        self.counts = counts
+        self.seed = seed
+        self.kept = None
+
+    def compare(self, kind, seconds):
+        """Compares cases of a kind for so many seconds, and at least a batch of them."""
+        tally = tally_of(kind.__name__)
+        chance = random.Random(f"{self.seed} {tally.name}")
+        end = time.monotonic() + seconds
+        while tally.compared + tally.left_out == 0 or time.monotonic() < end:
+            if len(tally.failed) >= MOST_FAILURES:
+                break
+            drawn = [kind(chance) for _ in range(BATCH)]
+            made = [case_of(one if isinstance(one, Case) else run_of(one)) for one in drawn]
+            tally.left_out += sum(case is None for case in made)
+            self.compare_batch([case for case in made if case is not None], tally)
+        return tally
+
+    def answers(self, made, count):
+        """What the program tells of each of these cases with so many workers, and its status. It is asked for each alone where it doesn't tell of all."""
+        for case in made:
+            case.workers = count
+        told, status = cases.told_by(self.program, made)
+        if status == 0 and len(told) == len(made):
+            return [(lines, status) for lines in told]
+        alone = [cases.told_by(self.program, [case]) for case in made]
+        return [(told[0] if told else [], status) for told, status in alone]
+
+    def compare_batch(self, made, tally):
+        """Compares cases."""
+        for case, *told in zip(made, *[self.answers(made, count) for count in self.counts]):
+            tally.compared += 1
+            lines, status = told[0]
+            found = re.match("  status ([0-9]+), ", lines[0]) if lines else None
+            tally.statuses[int(found[1]) if found else -1] += 1
+            if found is None or status != 0 or any(other != told[0] for other in told):
+                self.fail(case, tally)
+
+    def fail(self, case, tally):
+        """Keeps a case, and tallies it."""
+        self.kept = self.kept or tempfile.mkdtemp(prefix="compare-")
+        path = os.path.join(self.kept, f"{tally.name}-{self.seed}-{tally.compared}")
+        case.workers = self.counts[-1]
+        with open(path, "wb") as file:
+            file.write(case.lines())
+        tally.failed.append(f"{tally.name}: {path} {case.words} is answered otherwise with another number of workers")
+
+
+def compare_workers(words, kinds):
+    """Compares what is told with several numbers of workers, and gives the status."""
+    comparison = WorkersComparison(speed.built(words.cases), words.workers, words.seed)
+    shares = sum(share for _, share in kinds)
+    print(f"{'cases':<16}{'compared':>9}{'left out':>10}  statuses")
+    tallies = [comparison.compare(kind, words.seconds * share / shares) for kind, share in kinds]
+    for tally in [*tallies, together(tallies)]:
+        told = ", ".join(f"{status} {count} times" for status, count in sorted(tally.statuses.items()))
+        print(f"{tally.name:<16}{tally.compared:>9}{tally.left_out:>10}  {told}")
+    return speed.finish([line for tally in tallies for line in tally.failed])
+
+
 def write_files(folder, files):
     """Writes files into a folder."""
     for name, source in files.items():
@@ -215,21 +307,25 @@ def arguments():
     parser.add_argument("--seed", type=int, default=1)
     parser.add_argument("--built", type=lambda names: names.split(","))
     parser.add_argument("--kinds", type=lambda names: names.split(","))
+    parser.add_argument("--workers", type=lambda counts: [int(count) for count in counts.split(",")])
+    parser.add_argument("--cases", default=CASES)
     return parser.parse_args()
 
 
 def main():
     words = arguments()
-    program = speed.built(words.program)
     if words.built is not None:
         model.build(words.built)
+    kinds = [(kind, share) for kind, share, needs in ALL_KINDS if model.BUILT.issuperset(needs)]
+    if words.kinds is not None:
+        kinds = [(kind, share) for kind, share in kinds if kind.__name__ in words.kinds]
+    if words.workers is not None:
+        return compare_workers(words, kinds)
+    program = speed.built(words.program)
     failed = examples.wrong_examples()
     print(f"{len(list(examples.all_examples()))} worked examples, of which the model answers {len(failed)} otherwise")
     if failed:
         return speed.finish(failed)
-    kinds = [(kind, share) for kind, share, needs in ALL_KINDS if model.BUILT.issuperset(needs)]
-    if words.kinds is not None:
-        kinds = [(kind, share) for kind, share in kinds if kind.__name__ in words.kinds]
     shares = sum(share for _, share in kinds)
     print(f"{'cases':<16}{'compared':>9}{'left out':>10}  answers")
     tallies = []

@@ -24,6 +24,8 @@ pub mod ReferenceLemmas
 pub mod SmallTests
 pub mod SpellableImages
 pub mod EmitLemmas
+pub mod CodeLists
+pub mod Crossings
 pub mod CodedItems
 pub mod NumberLemmas
 pub mod PromisedLemmas

@@ -5,4 +5,5 @@ pub mod Coded
 pub mod NumberedWords
 pub mod OwnRows
 pub mod Dispatch
+pub mod Pieces
 pub mod Promised

@@ -1,5 +1,5 @@
 //! The compiler: the code of the templates and the words is linked to an image.
-ghost use Rattle.std.specs.Prelude.{◌≡◌, ℕ, true, nat_le, Some, IfOk, OnOk};
+ghost use Rattle.std.specs.Prelude.{◌≡◌, ℕ, [], true, nat_le, Some, IfOk, OnOk};
 ghost use Rattle.std.specs.List.{list_all};
 ghost use Rattle.fac_base.specs.declared.limits.TheConstants.{MOST_EFFECT_NAMES};
 ghost use Rattle.fac_lang.specs.declared.program.Program.{Program as Source};
@@ -9,25 +9,29 @@ ghost use Rattle.fac_classes.specs.ClassKinds.{CanBeBuilt};
 ghost use Rattle.fac_generic.specs.Methods.{HasMethods, MethodLaws};
 ghost use Rattle.fac_bytes.specs.Spellable.{IsSpellable};
 ghost use Rattle.fac_emit.specs.CarriedPrograms.{AgreesEach, ClosesWhole, StandsForEach};
-ghost use Rattle.fac_emit.specs.ProgramCode.{core_action, word_row, program_words, program_generics, IsPlain};
+ghost use Rattle.fac_emit.specs.ProgramCode.{core_action, word_code, word_row, program_words, program_generics, IsPlain};
 ghost use Rattle.fac_emit.specs.inner.Coded.{has_few_inputs, array_is_coded};
 ghost use Rattle.fac_emit.specs.inner.NumberedWords.{numbered_action};
+ghost use Rattle.fac_emit.specs.inner.Pieces.{word_codes};
 ghost use Rattle.fac_emit.specs.inner.Promised.{declared_height, promised_height, height_where};
 ghost use Rattle.fac_emit.specs.inner.Parts.{AreParts, AreTables, PlacesWord, PlacesWords};
 
 use crate::arrays::arrays_of;
 use crate::dispatch::generics_of;
 use crate::emission::Emission;
-use crate::emitter::{add_templates, add_word};
+use crate::emitter::code_length;
+use crate::pieces::codes_of_words;
+use crate::placing::{add_code, add_templates, code_numbered};
 use crate::tables::{kinds_of, pairs_of, sets_of};
 use crate::word_rows::place_of;
 use fac_base::{Effect, Height, List, Memory, Text};
 use fac_code::{Action, Elem, GenericRow, Image, Instr, KindRow, TemplateRow, WordRow};
 use fac_generic::{methods_are_lawful, tables as method_tables};
-use fac_lang::{CoreWord, Sort, WordDef};
+use fac_lang::{CoreWord, Sort, Template, WordDef};
 use fac_locals::Closed;
+use fac_par::{Gate, Workers};
 use fac_texts::SharedTexts;
-use std::alloc::Global;
+use std::thread::Threads;
 
 // What a core word does. No run does `cond`.
 fn action_of_core(core: CoreWord) -> Action
@@ -132,50 +136,117 @@ struct Parts {
     words: List<WordRow>,
 }
 
-// Adds the code of a word, and its row.
+// Adds this code of a word, and its row.
 fn place_word(
     emission: &Emission<'_>,
     parts: &mut Parts,
     number: u32,
     word: &WordDef,
+    own: &[Instr],
 ) -> Result<(), Memory>
     requires sort { sort_of emission.now.program number ≡ Some word.now.sort }
     requires few { has_few_inputs word.now ≡ true }
+    requires own { own.now ≡ word_code emission.now number word.now }
     ensures { OnOk result (PlacesWord emission.now number word.now parts.old parts.new) }
 {
     let place = parts.code.len();
     parts.words.push(row_of(emission, number, place, word))?;
-    let is_top = number == emission.program().top;
-    add_word(emission, &mut parts.code, is_top, &word.sort)
+    add_code(emission.alloc(), &mut parts.code, own)
 }
 
-// Adds the code and the rows of the words.
-fn add_words(emission: &Emission<'_>, parts: &mut Parts) -> Result<(), Memory>
-    requires { list_all has_few_inputs emission.now.program.words ≡ true }
+// Adds these lists, which are the code of the words, and the words' rows.
+fn place_words(
+    emission: &Emission<'_>,
+    parts: &mut Parts,
+    codes: &List<List<Instr>>,
+) -> Result<(), Memory>
+    requires few { list_all has_few_inputs emission.now.program.words ≡ true }
+    requires codes { codes.now ≡ word_codes emission.now }
     ensures { OnOk result (PlacesWords emission.now parts.old parts.new) }
 {
     let program = emission.program();
     let _count = program.words.len();
     let mut number = 0u32;
     for word in program.words.as_slice() {
-        place_word(emission, parts, number, word)?;
+        let own = code_numbered(codes, number);
+        place_word(emission, parts, number, word, own)?;
         number += 1;
     }
     Ok(())
 }
 
+// Adds the code of the words, which these workers make, and their rows. The gate is told of each word by its number.
+fn add_words<R: Threads + Sync, G: Gate + Sync>(
+    workers: &Workers<'_, R, G>,
+    emission: &Emission<'_>,
+    parts: &mut Parts,
+) -> Result<(), Memory>
+    requires { list_all has_few_inputs emission.now.program.words ≡ true }
+    ensures { OnOk result (PlacesWords emission.now parts.old parts.new) }
+{
+    let codes = codes_of_words(workers, emission)?;
+    place_words(emission, parts, &codes)
+}
+
+// How many instructions the code of templates has, or the most that a number can tell.
+fn length_of_templates(templates: &[Template]) -> u32 {
+    let mut length = 0u32;
+    for template in templates {
+        length = length.saturating_add(code_length(&template.body));
+    }
+    length
+}
+
+// How many the code of a word of this sort has.
+fn length_of_sort(sort: &Sort) -> u32 {
+    match sort {
+        Sort::Body(phrase) => code_length(phrase),
+        Sort::Method { body, .. } => code_length(body),
+        _ => 0,
+    }
+}
+
+// How many that of words has, or the most that a number can tell.
+fn length_of_words(words: &[WordDef]) -> u32 {
+    let mut length = 0u32;
+    for word in words {
+        length = length.saturating_add(length_of_sort(&word.sort));
+    }
+    length
+}
+
+// No code, with room for that of a closed program.
+fn room_for_code(emission: &Emission<'_>) -> Result<List<Instr>, Memory>
+    ensures { IfOk result (λ code. code ≡ []) }
+{
+    let templates = length_of_templates(emission.templates().as_slice());
+    let words = length_of_words(emission.program().words.as_slice());
+    List::with_room(emission.alloc(), templates.saturating_add(words))
+}
+
 // The code of a closed program, that of its templates, which have these effects, first and then that of its words.
-fn parts_of(emission: &Emission<'_>, heights: &[Option<Height>]) -> Result<Parts, Memory>
+fn parts_of<R: Threads + Sync, G: Gate + Sync>(
+    workers: &Workers<'_, R, G>,
+    emission: &Emission<'_>,
+    heights: &[Option<Height>],
+) -> Result<Parts, Memory>
     requires { (P : Source) × ClosesWhole P emission.now }
     ensures { IfOk result (AreParts emission.now heights.now) }
 {
+    let code = room_for_code(emission)?;
     let mut parts = Parts {
-        code: List::new(emission.alloc()),
+        code,
         templates: List::new(emission.alloc()),
         words: List::new(emission.alloc()),
     };
-    add_templates(emission, &mut parts.code, &mut parts.templates, heights)?;
-    add_words(emission, &mut parts)?;
+    add_templates(
+        workers,
+        emission,
+        &mut parts.code,
+        &mut parts.templates,
+        heights,
+    )?;
+    add_words(workers, emission, &mut parts)?;
     Ok(parts)
 }
 
@@ -267,7 +338,11 @@ fn image_of(
 }
 
 // The image of a closed program, whose templates have these effects.
-fn plain_image(alloc: Global, closed: &Closed, heights: &[Option<Height>]) -> Result<Image, Memory>
+fn plain_image<R: Threads + Sync, G: Gate + Sync>(
+    workers: &Workers<'_, R, G>,
+    closed: &Closed,
+    heights: &[Option<Height>],
+) -> Result<Image, Memory>
     requires closed { (P : Source) × ClosesWhole P closed.now × MethodLaws P }
     requires coded { list_all array_is_coded closed.now.program.arrays ≡ true }
     requires classes { CanBeBuilt closed.now.program }
@@ -275,8 +350,8 @@ fn plain_image(alloc: Global, closed: &Closed, heights: &[Option<Height>]) -> Re
     ensures plain { IfOk result (IsPlain closed.now heights.now) }
     ensures spellable { IfOk result IsSpellable }
 {
-    let emission = Emission::new(alloc, closed)?;
-    let parts = parts_of(&emission, heights)?;
+    let emission = Emission::new(workers.alloc, closed)?;
+    let parts = parts_of(workers, &emission, heights)?;
     let tables = tables_of(&emission, &parts.words)?;
     Ok(image_of(&emission, heights, parts, tables))
 }
@@ -286,9 +361,15 @@ fn plain_image(alloc: Global, closed: &Closed, heights: &[Option<Height>]) -> Re
 /// the literal arrays before the first item. Its code stands for the phrases of that program, item by
 /// item, and is plain: the code of the templates and behind it that of the words, each in their order, with the texts of the program, each
 /// once and word by word in the order in which they are met, the literal arrays, a row for each template, word, kind and generic, the kinds
-/// of each class, and the words of classes with their kinds; it starts at the top-level phrase. It has a spelling as bytes. Want of memory is
-/// the one error, also where there are more kinds or texts than numbers for them, or where a text has 2^32 bytes or more.
-pub fn compile(alloc: Global, closed: &Closed, heights: &[Option<Height>]) -> Result<Image, Memory>
+/// of each class, and the words of classes with their kinds; it starts at the top-level phrase. It has a spelling as bytes. The code is made by
+/// these workers, and is the same for every number of them and every gate. The piece of a word has the word's number, and the gate is told of no
+/// template. Want of memory is the one error, also where there are more kinds or texts than numbers for them, or where a text has 2^32 bytes or
+/// more.
+pub fn compile<R: Threads + Sync, G: Gate + Sync>(
+    workers: &Workers<'_, R, G>,
+    closed: &Closed,
+    heights: &[Option<Height>],
+) -> Result<Image, Memory>
     requires { (P : Source) × ClosesWhole P closed.now }
     ensures agrees { IfOk result (AgreesEach closed.now heights.now) }
     ensures stands { IfOk result (StandsForEach closed.now) }
@@ -296,5 +377,5 @@ pub fn compile(alloc: Global, closed: &Closed, heights: &[Option<Height>]) -> Re
     ensures spellable { IfOk result IsSpellable }
 {
     methods_are_lawful();
-    plain_image(alloc, closed, heights)
+    plain_image(workers, closed, heights)
 }

@@ -1,16 +1,16 @@
 //! The plain code of words and templates.
-ghost use Rattle.std.specs.Prelude.{◌≡◌, ◌++◌, ◌∷◌, [], slice_get, OnOk};
+ghost use Rattle.std.specs.Prelude.{◌≡◌, ◌++◌, [], slice_get, IfOk, OnOk};
 ghost use Rattle.fac_lang.specs.PhraseView.{what_item, items_phrase};
-ghost use Rattle.fac_store.specs.CallableHeights.{height_there};
 ghost use Rattle.fac_carry.specs.Stands.{making};
 ghost use Rattle.fac_emit.specs.ProgramCode.{core_instr, word_instr, made_instr, item_instr, tailed, before, phrase_code, last_instr, sort_code};
-ghost use Rattle.fac_emit.specs.inner.AddedTemplates.{AddsTemplate, AddsTemplates};
 ghost use Rattle.fac_emit.specs.inner.NumberedWords.{numbered_instr};
+ghost use Rattle.fac_emit.specs.inner.Pieces.{found_template_code, found_word_code};
 
 use crate::emission::Emission;
-use fac_base::{Duplicate, Height, List, Memory};
-use fac_code::{Instr, TemplateRow};
+use fac_base::{List, Memory};
+use fac_code::Instr;
 use fac_lang::{CoreWord, Item, Phrase, Sort, Template, What};
+use std::alloc::Global;
 
 // The instruction of a core word. `cond` stands nowhere but in a phrase that nothing can do.
 fn instr_of_core(core: CoreWord) -> Instr
@@ -159,55 +159,42 @@ fn add_phrase(
     code.push(last)
 }
 
-// The effect of the template with this number.
-fn height_of(heights: &[Option<Height>], template: u32) -> Option<Height>
-    ensures { result ≡ height_there (slice_get heights.now template) }
-{
-    match heights.get(template as usize) {
-        Some(height) => *height,
-        None => None,
+/// How many instructions the code of a phrase has, or the most that a number can tell.
+pub fn code_length(phrase: &Phrase) -> u32 {
+    match u32::try_from(phrase.items.len()) {
+        Ok(items) => items.saturating_add(1),
+        Err(_) => u32::MAX,
     }
 }
 
-// Adds a template with this effect: its code and its row.
-fn add_template(
-    emission: &Emission<'_>,
-    code: &mut List<Instr>,
-    rows: &mut List<TemplateRow>,
-    height: Option<Height>,
-    template: &Template,
-) -> Result<(), Memory>
-    ensures { OnOk result (AddsTemplate emission.now height template.now code.old code.new rows.old rows.new) }
+// No code, with room for that of a phrase.
+fn room_for(alloc: Global, phrase: &Phrase) -> Result<List<Instr>, Memory>
+    ensures { IfOk result (λ code. code ≡ []) }
 {
-    let entry = code.len();
-    let cells = template.captures.copy(emission.alloc())?;
-    rows.push(TemplateRow {
-        entry,
-        cells,
-        holes: template.holes,
-        height,
-    })?;
-    add_phrase(emission, code, &template.body, Instr::Ret)
+    List::with_room(alloc, code_length(phrase))
 }
 
-/// Adds the code of the templates, and their rows with these effects, in their order.
-pub fn add_templates(
+// The code of a phrase.
+fn code_of_phrase(
     emission: &Emission<'_>,
-    code: &mut List<Instr>,
-    rows: &mut List<TemplateRow>,
-    heights: &[Option<Height>],
-) -> Result<(), Memory>
-    ensures { OnOk result (AddsTemplates emission.now heights.now code.old code.new rows.old rows.new) }
+    phrase: &Phrase,
+    last: Instr,
+) -> Result<List<Instr>, Memory>
+    ensures { IfOk result (λ code. code ≡ phrase_code emission.now last phrase.now) }
 {
-    let templates = emission.templates();
-    let _count = templates.len();
-    let mut number = 0u32;
-    for template in templates.as_slice() {
-        let height = height_of(heights, number);
-        add_template(emission, code, rows, height, template)?;
-        number += 1;
+    let mut code = room_for(emission.alloc(), phrase)?;
+    add_phrase(emission, &mut code, phrase, last)?;
+    Ok(code)
+}
+
+/// The code of the template with this number.
+pub fn code_of_template(emission: &Emission<'_>, number: u32) -> Result<List<Instr>, Memory>
+    ensures { IfOk result (λ code. code ≡ found_template_code emission.now (slice_get emission.now.templates number)) }
+{
+    match emission.templates().get(number as usize) {
+        Some(template) => code_of_phrase(emission, &template.body, Instr::Ret),
+        None => Ok(List::new(emission.alloc())),
     }
-    Ok(())
 }
 
 // The instruction behind the last item of a word's phrase.
@@ -217,18 +204,28 @@ fn last(is_top: bool) -> Instr
     if is_top { Instr::Halt } else { Instr::Ret }
 }
 
-/// Adds the code of a word of this sort, where it runs a phrase.
-pub fn add_word(
+// The code of a word of this sort, where it runs a phrase.
+fn code_of_sort(
     emission: &Emission<'_>,
-    code: &mut List<Instr>,
     is_top: bool,
     sort: &Sort,
-) -> Result<(), Memory>
-    ensures { OnOk result (code.new ≡ code.old ++ sort_code emission.now is_top sort.now) }
+) -> Result<List<Instr>, Memory>
+    ensures { IfOk result (λ code. code ≡ sort_code emission.now is_top sort.now) }
 {
     match sort {
-        Sort::Body(phrase) => add_phrase(emission, code, phrase, last(is_top)),
-        Sort::Method { body, .. } => add_phrase(emission, code, body, last(is_top)),
-        _ => Ok(()),
+        Sort::Body(phrase) => code_of_phrase(emission, phrase, last(is_top)),
+        Sort::Method { body, .. } => code_of_phrase(emission, body, last(is_top)),
+        _ => Ok(List::new(emission.alloc())),
+    }
+}
+
+/// The code of the word with this number, where it runs a phrase.
+pub fn code_of_word(emission: &Emission<'_>, number: u32) -> Result<List<Instr>, Memory>
+    ensures { IfOk result (λ code. code ≡ found_word_code emission.now number (slice_get emission.now.program.words number)) }
+{
+    let program = emission.program();
+    match program.words.get(number as usize) {
+        Some(word) => code_of_sort(emission, number == program.top, &word.sort),
+        None => Ok(List::new(emission.alloc())),
     }
 }

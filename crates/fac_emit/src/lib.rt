@@ -8,6 +8,8 @@ mod dispatch;
 mod emission;
 mod emitter;
 mod numbers;
+mod pieces;
+mod placing;
 mod sequence;
 mod tables;
 mod texts;

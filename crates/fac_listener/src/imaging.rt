@@ -8,8 +8,7 @@ use fac_check::effects;
 use fac_code::Image;
 use fac_emit::{asks_effects, compile};
 use fac_locals::Closed;
-use fac_par::Workers;
-use std::alloc::Global;
+use fac_par::{Gate, Workers};
 use std::thread::Threads;
 
 // The effects of a program's templates where it asks for any, and none where it doesn't.
@@ -28,16 +27,20 @@ fn asked_effects<R: Threads + Sync, G>(
 }
 
 // The image of a closed program whose templates have these effects.
-fn image_with(alloc: Global, closed: &Closed, heights: &[Option<Height>]) -> Result<Image, Memory>
+fn image_with<R: Threads + Sync, G: Gate + Sync>(
+    workers: &Workers<'_, R, G>,
+    closed: &Closed,
+    heights: &[Option<Height>],
+) -> Result<Image, Memory>
     requires stands { StandsForWhole closed.now }
     requires effects { AreEffectsIfAsked closed.now heights.now }
     ensures { IfOk result (IsMadeOf closed.now) }
 {
-    compile(alloc, closed, heights)
+    compile(workers, closed, heights)
 }
 
-/// The image of a closed program. Want of memory is the one error.
-pub fn image_of<R: Threads + Sync, G>(
+/// The image of a closed program, which these workers make. The gate is told of each word by its number. Want of memory is the one error.
+pub fn image_of<R: Threads + Sync, G: Gate + Sync>(
     workers: &Workers<'_, R, G>,
     closed: &Closed,
 ) -> Result<Image, Memory>
@@ -45,5 +48,5 @@ pub fn image_of<R: Threads + Sync, G>(
     ensures { IfOk result (IsMadeOf closed.now) }
 {
     let heights = asked_effects(workers, closed)?;
-    image_with(workers.alloc, closed, heights.as_slice())
+    image_with(workers, closed, heights.as_slice())
 }

@@ -6,7 +6,7 @@
 //! - `lines`: a source in memory is cut into lines, also at the most bytes of a line and behind a read that fails.
 //! - `marks`: the checker's marks that no program of today makes.
 //! - `pieces`: work in pieces comes in the order of its list, and threads do it.
-//! - `gates`: the top call has words checked in pieces, and threads do that.
+//! - `gates`: the top call has words checked, and their code made, in pieces, and threads do both.
 //! - `sizes`: a value of the machine takes 16 bytes.
 //!
 //! Integers, the machine, and the tool with all that it stands on are tested by programs: `fac_number_cases`, `fac_image_cases` and

@@ -1,5 +1,6 @@
 -- Texts whose forms go to the names, one behind the other.
-use Rattle.std.proofs.Common.{◌≡◌, ◌+◌, ℕ, List, [], ◌∷◌, ◌++◌, Result, Ok, Err, cond, refl, sym, ap, subst, ◌∙◌, arith}
+use Rattle.std.proofs.Common.{◌≡◌, ◌+◌, ℕ, suc, List, [], ◌∷◌, ◌++◌, length, Result, Ok, Err, cond, refl, sym, ap, subst, ◌∙◌, append_assoc, arith}
+use Rattle.std.proofs.lemmas.List.{append-nil, length-append}
 use Rattle.std.proofs.lemmas.List.Sums.{sum_by-append, sum_by_push}
 use Rattle.std.specs.List.{count_by}
 use Rattle.fac_source.specs.declared.token.Token.{Token}
@@ -11,6 +12,10 @@ use Rattle.fac_parse.specs.declared.reader.ParseFault.{ParseFault}
 use Rattle.fac_parse.specs.declared.reader.ParseFault.TheVariants as parse
 use Rattle.fac_parse.specs.declared.parser.Parser.{Parser}
 use Rattle.fac_parse.specs.Handed.{HandsOut}
+use Rattle.fac_parse.specs.Trees.{AreForms, IsWellFormed, Parses, Reads}
+use Rattle.fac_trees.specs.declared.text_tree.TextTree.{TextTree}
+use Rattle.fac_trees.specs.declared.text_tree.TextTree.TheVariants as trees
+use Rattle.fac_trees.specs.TextTrees.{AreTreesOf, IsTreeOf, texts_in}
 use Rattle.fac_names.specs.declared.resolver.Resolver.{Resolver}
 use Rattle.fac_names.specs.TakenForms.{HasTaken}
 use Rattle.fac_prelude.specs.PreludeText.{prelude_text}
@@ -22,7 +27,7 @@ use Rattle.fac_notes.specs.Sources.{Source, no_tokens, no_tree, tree}
 use Rattle.fac_tool.specs.Answer.{Sources, together, come_to, answer_on, is_definition, definitions_in}
 use Rattle.fac_tool.specs.Sources.{token_fault, IsReadAs, AreReadAs, EverySource}
 use Rattle.fac_tool.specs.inner.StepEnds.{bare, reported, fault_ending, tree_ending, EndsEarly, EndsFile, ReadSoFar, EndsRead}
-use Rattle.fac_tool.specs.inner.FormsTaken.{LastGrows, FileAdds, TakesSome, FileTaken, TakesFile, TextsTaken}
+use Rattle.fac_tool.specs.inner.FormsTaken.{LastGrows, FileAdds, AddsFile, HandsOn, TakesSome, FileTaken, TakesFile, TakenUpTo, TakesPart, TextsTaken, TakesTexts}
 use Rattle.fac_tool.proofs.EarlyEnds.{no_memory, is_refused}
 
 -- one text comes to something
@@ -78,18 +83,6 @@ pub adds_file :
     FileAdds [] before begun → TakesFile file text count (λ forms. LastGrows [] forms begun now) r → TakesFile file text count (λ forms. FileAdds forms before now) r
 adds_file file text count before begun now (Ok sum) begins taken = record { forms = taken.forms; is_read = taken.is_read; given = λ files h. taken.given files (begins files h); counts = taken.counts }
 adds_file file text count before begun now (Err ended) begins ends = ends
-
--- what those from this number on come to decides
-abbrev pub Onward : List (List ℕ) → List (List ℕ) → ℕ → List (List Form) → Type 0
-Onward texts left file before = (sources : List Source) → AreReadAs file left sources → ReadSoFar texts file before sources
-
--- files were taken up to those of the texts that are left: the prelude and some behind it
-pub record TakenUpTo (texts left : List (List ℕ)) (file count : ℕ) (resolver : Resolver) : Type 0 where
-  pub prelude : List Form
-  pub files : List (List Form)
-  pub taken : HasTaken (prelude ∷ files) resolver
-  pub onward : Onward texts left file (prelude ∷ files)
-  pub counts : count ≡ definitions_in files
 
 -- memory was wanted before the first file
 pub wanted_for_texts : EverySource → (texts : List (List ℕ)) (ended : Ended) → ended ≡ bare 12 0 → EndsRead texts ended
@@ -154,3 +147,220 @@ all_taken texts left file count resolver e so_far =
       taken = so_far.taken;
       counts = so_far.counts;
     }
+
+-- What comes next.
+
+-- from texts to those that are left of them: whatever comes behind, all between were taken
+abbrev pub TakenBetween : List (List ℕ) → List (List ℕ) → ℕ → ℕ → ℕ → ℕ → Resolver → Resolver → Type 0
+TakenBetween part left first count file sum before now = (texts rest : List (List ℕ)) → TakenUpTo texts (part ++ rest) (first + 1) count before → TakenUpTo texts (left ++ rest) (file + 1) sum now
+
+-- one of them more
+pub more_between :
+    (part left next : List (List ℕ)) (first count file sum more : ℕ) (text : List ℕ) (before between now : Resolver) →
+    left ≡ text ∷ next → TakenBetween part left first count file sum before between → FileTaken (file + 1) text sum (λ forms. FileAdds forms between now) more → TakenBetween part next first count (file + 1) more before now
+more_between part left next first count file sum more text before between now e so_far adds texts rest start =
+    goes_on texts (left ++ rest) (next ++ rest) (file + 1) sum more text between now (ap (λ (ts : List (List ℕ)). ts ++ rest) e) (so_far texts rest start) adds
+
+-- or one of them ends the work
+pub ends_between :
+    EverySource → (part left next : List (List ℕ)) (first count file sum : ℕ) (text : List ℕ) (before between now : Resolver) (ended : Ended) →
+    left ≡ text ∷ next → TakenBetween part left first count file sum before between → EndsFile (file + 1) text ended → TakesPart first part count before now (Err ended)
+ends_between law part left next first count file sum text before between now ended e so_far ends texts rest start =
+    ends_texts law texts (left ++ rest) (next ++ rest) (file + 1) sum text between ended (ap (λ (ts : List (List ℕ)). ts ++ rest) e) (so_far texts rest start) ends
+
+-- or none is left
+pub done_between :
+    (part left : List (List ℕ)) (first count file sum : ℕ) (before now : Resolver) →
+    left ≡ [] → file ≡ first + length part → TakenBetween part left first count file sum before now → TakesPart first part count before now (Ok sum)
+done_between part left first count file sum before now e at so_far texts rest start =
+    subst (λ (n : ℕ). TakenUpTo texts rest (n + 1) sum now) at (subst (λ (ts : List (List ℕ)). TakenUpTo texts (ts ++ rest) (file + 1) sum now) e (so_far texts rest start))
+
+-- memory was wanted
+pub wanted_between : EverySource → (part : List (List ℕ)) (first count : ℕ) (before now : Resolver) (ended : Ended) → ended ≡ bare 12 0 → TakesPart first part count before now (Err ended)
+wanted_between law part first count before now ended e texts rest start = wanted_for_texts law texts ended e
+
+-- a part of them
+pub part_between :
+    (all part left : List (List ℕ)) (first count file sum more : ℕ) (before between now : Resolver) →
+    TakenBetween all (part ++ left) first count file sum before between → TakesPart file part sum between now (Ok more) → TakenBetween all left first count (file + length part) more before now
+part_between all part left first count file sum more before between now so_far takes texts rest start =
+    takes texts (left ++ rest) (subst (λ (ts : List (List ℕ)). TakenUpTo texts ts (file + 1) sum between) (append_assoc part left rest) (so_far texts rest start))
+
+pub part_ends :
+    (all part left : List (List ℕ)) (first count file sum : ℕ) (before between now : Resolver) (ended : Ended) →
+    TakenBetween all (part ++ left) first count file sum before between → TakesPart file part sum between now (Err ended) → TakesPart first all count before now (Err ended)
+part_ends all part left first count file sum before between now ended so_far takes texts rest start =
+    takes texts (left ++ rest) (subst (λ (ts : List (List ℕ)). TakenUpTo texts ts (file + 1) sum between) (append_assoc part left rest) (so_far texts rest start))
+
+-- What texts come to.
+
+pub tree_ends : EverySource → (file : ℕ) (text : List ℕ) (fault : ParseFault) (ended : Ended) (tokens : List Token) → Tokenizes file text (Ok tokens) → Parses tokens (Err fault) → ended ≡ tree_ending file fault → EndsFile file text ended
+tree_ends law file text (parse.Syntax at why) ended tokens are none e = record { source = no_tree at why; is_read = (tokens, are, none); ends = λ on before sources. is_refused (report.Syntax file at why) ended refl e }
+tree_ends law file text parse.Memory ended tokens are none e = wanted_for_text law file text ended e
+
+are_forms : (forms : List Form) → IsWellFormed forms → AreForms forms
+are_forms [] h = tt
+are_forms (form ∷ forms) h = (h.0, are_forms forms h.2)
+
+-- the forms of a tree are forms
+pub tree_forms : (file : ℕ) (come : TextTree) (forms : List Form) → come ≡ trees.Forms forms → (text : List ℕ) × IsTreeOf file text come → AreForms forms
+tree_forms file come forms e there =
+    let comes : IsTreeOf file there.0 (trees.Forms forms) = subst (λ (t : TextTree). IsTreeOf file there.0 t) e there.1 in
+    are_forms forms comes.2.fits
+
+-- a file has no tokens
+pub tree_no_tokens : EverySource → (file : ℕ) (come : TextTree) (fault : TokenFault) (ended : Ended) → come ≡ trees.NoTokens fault → ended ≡ fault_ending file fault → (text : List ℕ) → IsTreeOf file text come → EndsFile file text ended
+tree_no_tokens law file come fault ended e is text h =
+    let comes : IsTreeOf file text (trees.NoTokens fault) = subst (λ (t : TextTree). IsTreeOf file text t) e h in
+    has_no_tokens law file text fault ended comes.0 is
+
+-- or they have no tree
+pub tree_no_tree : EverySource → (file : ℕ) (come : TextTree) (fault : ParseFault) (ended : Ended) → come ≡ trees.NoTree fault → ended ≡ tree_ending file fault → (text : List ℕ) → IsTreeOf file text come → EndsFile file text ended
+tree_no_tree law file come fault ended e is text h =
+    let comes : IsTreeOf file text (trees.NoTree fault) = subst (λ (t : TextTree). IsTreeOf file text t) e h in
+    tree_ends law file text fault ended comes.0 comes.1 comes.2 is
+
+-- or its forms were taken
+pub tree_taken :
+    (file count sum : ℕ) (come : TextTree) (forms : List Form) (before now : Resolver) → come ≡ trees.Forms forms → (sum ≡ count + count_by is_definition forms) × FileAdds forms before now →
+    (text : List ℕ) → IsTreeOf file text come → FileTaken file text count (λ given. FileAdds given before now) sum
+tree_taken file count sum come forms before now e adds text h =
+    let comes : IsTreeOf file text (trees.Forms forms) = subst (λ (t : TextTree). IsTreeOf file text t) e h in
+    record { forms = forms; is_read = (comes.0, comes.1, comes.2); given = adds.1; counts = adds.0 }
+
+-- a file was begun, and its forms were handed on
+pub whole_adds :
+    {E : Type 0} → (forms : List Form) (count : ℕ) (before begun now : Resolver) (r : Result ℕ E) →
+    FileAdds [] before begun → HandsOn forms count begun now r → AddsFile forms count before now r
+whole_adds forms count before begun now (Ok sum) begins hands = (hands.0, λ files h. hands.1 [] files (begins files h))
+whole_adds forms count before begun now (Err fault) begins hands = tt
+
+-- of the texts of some trees these are left, with those trees
+pub record TreesLeft (part : List (List ℕ)) (left : List TextTree) (first count file sum : ℕ) (before now : Resolver) : Type 0 where
+  pub texts : List (List ℕ)
+  pub are : AreTreesOf (file + 1) texts left
+  pub taken : TakenBetween part texts first count file sum before now
+  pub all : file + length texts ≡ first + length part
+
+-- the first of them
+pub record FirstTree (file : ℕ) (texts : List (List ℕ)) (come : TextTree) (next : List TextTree) : Type 0 where
+  pub text : List ℕ
+  pub rest : List (List ℕ)
+  pub is : texts ≡ text ∷ rest
+  pub comes : IsTreeOf file text come
+  pub others : AreTreesOf (file + 1) rest next
+
+pub first_tree : (file : ℕ) (texts : List (List ℕ)) (left next : List TextTree) (come : TextTree) → left ≡ come ∷ next → AreTreesOf file texts left → FirstTree file texts come next
+first_tree file texts left next come e are = of_first texts (subst (λ (ts : List TextTree). AreTreesOf file texts ts) e are)
+  where
+    of_first : (texts : List (List ℕ)) → AreTreesOf file texts (come ∷ next) → FirstTree file texts come next
+    of_first [] h = absurd h
+    of_first (text ∷ rest) h = record { text = text; rest = rest; is = refl; comes = h.0; others = h.1 }
+
+-- as many texts as trees
+pub trees_length : (file : ℕ) (texts : List (List ℕ)) (given : List TextTree) → AreTreesOf file texts given → length given ≡ length texts
+trees_length file [] [] are = refl
+trees_length file [] (come ∷ given) are = absurd are
+trees_length file (text ∷ texts) [] are = absurd are
+trees_length file (text ∷ texts) (come ∷ given) are = ap suc (trees_length (file + 1) texts given are.1)
+
+-- no text is left where no tree is
+pub none_left : (file : ℕ) (texts : List (List ℕ)) (left : List TextTree) → left ≡ [] → AreTreesOf file texts left → texts ≡ []
+none_left file texts left e are = of_none texts (subst (λ (ts : List TextTree). AreTreesOf file texts ts) e are)
+  where
+    of_none : (texts : List (List ℕ)) → AreTreesOf file texts [] → texts ≡ []
+    of_none [] h = refl
+    of_none (text ∷ rest) h = absurd h
+
+-- at the start all are left
+pub same_between : (part left : List (List ℕ)) (first count : ℕ) (resolver : Resolver) → left ≡ part → TakenBetween part left first count first count resolver resolver
+same_between part left first count resolver e texts rest start = subst (λ (ts : List (List ℕ)). TakenUpTo texts (ts ++ rest) (first + 1) count resolver) (sym e) start
+
+pub trees_begin :
+    (given left : List TextTree) (first count : ℕ) (resolver : Resolver) → left ≡ given →
+    (part : List (List ℕ)) → AreTreesOf (first + 1) part given → TreesLeft part left first count first count resolver resolver
+trees_begin given left first count resolver e part are =
+    record { texts = part; are = subst (λ (ts : List TextTree). AreTreesOf (first + 1) part ts) (sym e) are; taken = same_between part part first count resolver refl; all = refl }
+
+-- the file of the first tree is taken
+pub trees_more :
+    (part : List (List ℕ)) (left next : List TextTree) (come : TextTree) (first count file sum more : ℕ) (before between now : Resolver) →
+    left ≡ come ∷ next → TreesLeft part left first count file sum before between →
+    ((text : List ℕ) → IsTreeOf (file + 1) text come → TakesFile (file + 1) text sum (λ forms. FileAdds forms between now) (Ok more)) → TreesLeft part next first count (file + 1) more before now
+trees_more part left next come first count file sum more before between now e so_far takes =
+    let top = first_tree (file + 1) so_far.texts left next come e so_far.are in
+    record {
+      texts = top.rest;
+      are = top.others;
+      taken = more_between part so_far.texts top.rest first count file sum more top.text before between now top.is so_far.taken (takes top.text top.comes);
+      all = omega (arith, ap length top.is, so_far.all);
+    }
+
+-- some text comes to the first tree
+pub tree_there :
+    (part : List (List ℕ)) (left next : List TextTree) (come : TextTree) (first count file sum : ℕ) (before now : Resolver) →
+    left ≡ come ∷ next → TreesLeft part left first count file sum before now → (text : List ℕ) × IsTreeOf (file + 1) text come
+tree_there part left next come first count file sum before now e so_far =
+    let top = first_tree (file + 1) so_far.texts left next come e so_far.are in
+    (top.text, top.comes)
+
+-- or it ends the work
+pub trees_end :
+    EverySource → (part : List (List ℕ)) (left next : List TextTree) (come : TextTree) (first count file sum : ℕ) (before between now : Resolver) (ended : Ended) →
+    left ≡ come ∷ next → TreesLeft part left first count file sum before between → ((text : List ℕ) → IsTreeOf (file + 1) text come → EndsFile (file + 1) text ended) →
+    TakesPart first part count before now (Err ended)
+trees_end law part left next come first count file sum before between now ended e so_far ends =
+    let top = first_tree (file + 1) so_far.texts left next come e so_far.are in
+    ends_between law part so_far.texts top.rest first count file sum top.text before between now ended top.is so_far.taken (ends top.text top.comes)
+
+-- or all were taken
+pub trees_done :
+    (part : List (List ℕ)) (left : List TextTree) (first count file sum : ℕ) (before now : Resolver) →
+    left ≡ [] → TreesLeft part left first count file sum before now → TakesPart first part count before now (Ok sum)
+trees_done part left first count file sum before now e so_far =
+    let none : so_far.texts ≡ [] = none_left (file + 1) so_far.texts left e so_far.are in
+    let none_left_length : length so_far.texts ≡ 0 = ap length none in
+    let at : file ≡ first + length part = omega (arith, none_left_length, so_far.all) in
+    done_between part so_far.texts first count file sum before now none at so_far.taken
+
+-- Parts.
+
+-- the first of the parts that are left is taken
+pub parts_more :
+    (all : List (List ℕ)) (left next : List (List (List ℕ))) (part : List (List ℕ)) (first count file sum more added : ℕ) (before between now : Resolver) →
+    left ≡ part ∷ next → added ≡ length part → TakenBetween all (texts_in left) first count file sum before between → TakesPart file part sum between now (Ok more) →
+    TakenBetween all (texts_in next) first count (file + added) more before now
+parts_more all left next part first count file sum more added before between now e at so_far takes =
+    let cut = subst (λ (ts : List (List ℕ)). TakenBetween all ts first count file sum before between) (ap (λ (ps : List (List (List ℕ))). texts_in ps) e) so_far in
+    subst (λ (n : ℕ). TakenBetween all (texts_in next) first count (file + n) more before now) (sym at) (part_between all part (texts_in next) first count file sum more before between now cut takes)
+
+-- or it ends the work
+pub parts_end :
+    (all : List (List ℕ)) (left next : List (List (List ℕ))) (part : List (List ℕ)) (first count file sum : ℕ) (before between now : Resolver) (ended : Ended) →
+    left ≡ part ∷ next → TakenBetween all (texts_in left) first count file sum before between → TakesPart file part sum between now (Err ended) → TakesPart first all count before now (Err ended)
+parts_end all left next part first count file sum before between now ended e so_far ends =
+    let cut = subst (λ (ts : List (List ℕ)). TakenBetween all ts first count file sum before between) (ap (λ (ps : List (List (List ℕ))). texts_in ps) e) so_far in
+    part_ends all part (texts_in next) first count file sum before between now ended cut ends
+
+-- so many texts are left behind the first part
+pub parts_length : (left next : List (List (List ℕ))) (part : List (List ℕ)) → left ≡ part ∷ next → length (texts_in left) ≡ length part + length (texts_in next)
+parts_length left next part e = ap (λ (ps : List (List (List ℕ))). length (texts_in ps)) e ∙ length-append part (texts_in next)
+
+-- or all were taken
+pub parts_done :
+    (all : List (List ℕ)) (left : List (List (List ℕ))) (file sum : ℕ) (before now : Resolver) →
+    left ≡ [] → file + length (texts_in left) ≡ length all → TakenBetween all (texts_in left) 0 0 file sum before now → TakesPart 0 all 0 before now (Ok sum)
+parts_done all left file sum before now e at so_far =
+    let none : texts_in left ≡ [] = ap (λ (ps : List (List (List ℕ))). texts_in ps) e in
+    let none_left_length : length (texts_in left) ≡ 0 = ap length none in
+    let whole : file ≡ 0 + length all = omega (arith, none_left_length, at) in
+    done_between all (texts_in left) 0 0 file sum before now none whole so_far
+
+-- behind the prelude the texts are taken, however they are cut into parts
+pub begun_parts :
+    (texts all : List (List ℕ)) (before now : Resolver) (r : Result ℕ Ended) →
+    all ≡ texts → TakenUpTo texts texts 1 0 before → TakesPart 0 all 0 before now r → TakesTexts texts now r
+begun_parts texts all before now (Ok sum) e begun takes =
+    all_taken texts [] (0 + length all + 1) sum now refl (takes texts [] (subst (λ (ts : List (List ℕ)). TakenUpTo texts ts 1 0 before) (sym (append-nil all ∙ e)) begun))
+begun_parts texts all before now (Err ended) e begun takes =
+    takes texts [] (subst (λ (ts : List (List ℕ)). TakenUpTo texts ts 1 0 before) (sym (append-nil all ∙ e)) begun)

@@ -1,5 +1,5 @@
 -- The loads of a command's files.
-use Rattle.std.specs.Prelude.{◌≡◌, ◌≤◌, ◌<◌, ◌⊎◌, ◌+◌, ℕ, List, [], ◌∷◌, ◌++◌, length, map, None, Some, IfSome, IsSomeAnd}
+use Rattle.std.specs.Prelude.{◌≡◌, ◌≤◌, ◌<◌, ◌⊎◌, ◌+◌, ℕ, List, [], ◌∷◌, ◌++◌, length, map, None, Some, Result, Ok, Err, IfSome, IsSomeAnd}
 use Rattle.std.specs.List.{concat}
 use Rattle.fac_io.specs.declared.files.Asked.TheVariants.{Load}
 use Rattle.fac_io.specs.Faults.{Rose}
@@ -8,6 +8,7 @@ use Rattle.fac_notes.specs.declared.status.TheConstants.{FILE_FAULT, TOO_LONG, N
 use Rattle.fac_notes.specs.declared.report.Report.TheVariants as report
 use Rattle.fac_tool.specs.declared.ended.Ended.{Ended}
 use Rattle.fac_tool.specs.SeenObjects.{FilesSeen}
+use Rattle.fac_tool.specs.Answer.{limit}
 use Rattle.fac_tool.specs.Ends.{IsBare}
 
 -- the loads of these names, in this order, gave these texts, which have at most so many bytes together
@@ -63,3 +64,8 @@ pub record LoadTooLong (names : List (List ℕ)) (limit : ℕ) (files : FilesSee
 -- how the loads end the call
 abbrev pub LoadsEnd : List (List ℕ) → ℕ → FilesSeen → Ended → Type 0
 LoadsEnd names limit files ended = NotLoaded names files ended ⊎ (LoadFails names limit files ended ⊎ LoadTooLong names limit files ended)
+
+-- the loads of all files of a command: their texts, or how they end the call
+abbrev pub LoadsAll : List (List ℕ) → FilesSeen → Result (List (List ℕ)) Ended → Type 0
+LoadsAll names files (Ok texts) = LoadsGive names limit files texts
+LoadsAll names files (Err ended) = LoadsEnd names limit files ended

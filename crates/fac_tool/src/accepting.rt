@@ -56,17 +56,17 @@ fn end_names(alloc: Global, resolver: Resolver) -> Result<Program, Ended>
 }
 
 // The program of the prelude and of texts, where no names were taken yet.
-fn name_texts(
-    alloc: Global,
+fn name_texts<R: Threads + Sync, G>(
+    workers: &Workers<'_, R, G>,
     texts: List<Bytes>,
     mut resolver: Resolver,
 ) -> Result<NamedProgram, Ended>
     requires { HasTaken [] resolver }
     ensures { ReadsProgram texts result }
 {
-    match take_texts(alloc, texts, &mut resolver) {
+    match take_texts(workers, texts, &mut resolver) {
         Err(ended) => Err(ended),
-        Ok(definitions) => match end_names(alloc, resolver) {
+        Ok(definitions) => match end_names(workers.alloc, resolver) {
             Err(ended) => Err(ended),
             Ok(program) => Ok(NamedProgram {
                 program,
@@ -77,13 +77,16 @@ fn name_texts(
 }
 
 // The program of the prelude and of the texts of a command's files.
-fn read_program(alloc: Global, texts: List<Bytes>) -> Result<NamedProgram, Ended>
+fn read_program<R: Threads + Sync, G>(
+    workers: &Workers<'_, R, G>,
+    texts: List<Bytes>,
+) -> Result<NamedProgram, Ended>
     ensures { ReadsProgram texts result }
 {
     every_text_is_a_source();
-    match Resolver::new(alloc) {
+    match Resolver::new(workers.alloc) {
         Err(_) => Err(bare(NO_MEMORY, 0)),
-        Ok(resolver) => name_texts(alloc, texts, resolver),
+        Ok(resolver) => name_texts(workers, texts, resolver),
     }
 }
 
@@ -148,7 +151,7 @@ pub fn accepted_program<R: Threads + Sync, G: Gate + Sync>(
     let NamedProgram {
         program,
         definitions,
-    } = read_program(workers.alloc, texts)?;
+    } = read_program(workers, texts)?;
     let closed = close_program(workers.alloc, program)?;
     let checked = check_closed(workers, closed)?;
     Ok(Accepted {

@@ -22,7 +22,7 @@ use fac_emit::{asks_effects, compile};
 use fac_expand::{Extent, Use, expand};
 use fac_lang::{Program, WordDef};
 use fac_locals::Closed;
-use fac_par::Workers;
+use fac_par::{Gate, Workers};
 use std::alloc::Global;
 use std::thread::Threads;
 
@@ -103,7 +103,11 @@ fn uses_of(alloc: Global, program: &Program) -> Result<List<Use>, Memory>
 }
 
 // The plain code of an accepted program with these effects of its templates. The program is given back.
-fn plain_code(alloc: Global, checked: Checked, heights: &[Option<Height>]) -> Result<Plain, Memory>
+fn plain_code<R: Threads + Sync, G: Gate + Sync>(
+    workers: &Workers<'_, R, G>,
+    checked: Checked,
+    heights: &[Option<Height>],
+) -> Result<Plain, Memory>
     requires { (P : Source) × StandsForSafe checked.closed P }
     ensures agrees { IfOk result (λ plain. AgreesEach checked.closed heights.now plain.image) }
     ensures stands { IfOk result (λ plain. StandsForEach checked.closed plain.image) }
@@ -111,15 +115,15 @@ fn plain_code(alloc: Global, checked: Checked, heights: &[Option<Height>]) -> Re
     ensures spellable { IfOk result (λ plain. IsSpellable plain.image) }
     ensures uses { IfOk result (λ plain. UsesAre checked.closed.program plain.uses) }
 {
-    let image = compile(alloc, &checked.closed, heights)?;
-    let uses = uses_of(alloc, &checked.closed.program)?;
+    let image = compile(workers, &checked.closed, heights)?;
+    let uses = uses_of(workers.alloc, &checked.closed.program)?;
     Ok(Plain { image, uses })
 }
 
 // The image of an accepted program with these effects of its templates, where all code is expanded with direct phrases in place. The program is given back before
 // its code is expanded.
-fn image_with(
-    alloc: Global,
+fn image_with<R: Threads + Sync, G: Gate + Sync>(
+    workers: &Workers<'_, R, G>,
     checked: Checked,
     heights: &[Option<Height>],
     extent: Extent,
@@ -133,13 +137,13 @@ fn image_with(
 {
     safe_programs_are_not_stuck();
     let top = checked.closed.program.top;
-    let plain = plain_code(alloc, checked, heights)?;
+    let plain = plain_code(workers, checked, heights)?;
     let Plain { image, uses } = plain;
-    expand(alloc, image, top, uses.as_slice(), extent)
+    expand(workers.alloc, image, top, uses.as_slice(), extent)
 }
 
 // The image of an accepted program, with the effects of all of its templates, and with its direct phrases in place.
-fn whole_image<R: Threads + Sync, G>(
+fn whole_image<R: Threads + Sync, G: Gate + Sync>(
     workers: &Workers<'_, R, G>,
     checked: Checked,
 ) -> Result<Image, Memory>
@@ -148,11 +152,11 @@ fn whole_image<R: Threads + Sync, G>(
     ensures spellable { IfOk result IsSpellable }
 {
     let heights = effects(workers, &checked.closed)?;
-    image_with(workers.alloc, checked, heights.as_slice(), Extent::All)
+    image_with(workers, checked, heights.as_slice(), Extent::All)
 }
 
 // The image of an accepted program, with the effects of its templates where a run asks for any.
-fn image_to_run<R: Threads + Sync, G>(
+fn image_to_run<R: Threads + Sync, G: Gate + Sync>(
     workers: &Workers<'_, R, G>,
     checked: Checked,
 ) -> Result<Image, Memory>
@@ -161,12 +165,12 @@ fn image_to_run<R: Threads + Sync, G>(
     ensures spellable { IfOk result IsSpellable }
 {
     let heights = asked_effects(workers, &checked.closed)?;
-    image_with(workers.alloc, checked, heights.as_slice(), Extent::Reached)
+    image_with(workers, checked, heights.as_slice(), Extent::Reached)
 }
 
 /// The image of an accepted program, which carries it, has the effects of its callables in its rows and its direct phrases in place, and its bytes. Want of memory is the one error, also where
 /// the image would have more bytes than one may have. What the program took is given back when its image is made.
-pub fn link<R: Threads + Sync, G>(
+pub fn link<R: Threads + Sync, G: Gate + Sync>(
     workers: &Workers<'_, R, G>,
     checked: Checked,
 ) -> Result<Linked, Memory>
@@ -183,7 +187,7 @@ pub fn link<R: Threads + Sync, G>(
 
 /// An image of an accepted program that is only run, with no bytes: its templates have no effects where the run asks for none. Want of
 /// memory is the one error, also where the image would have more bytes than one may have. What the program took is given back.
-pub fn link_to_run<R: Threads + Sync, G>(
+pub fn link_to_run<R: Threads + Sync, G: Gate + Sync>(
     workers: &Workers<'_, R, G>,
     checked: Checked,
 ) -> Result<Image, Memory>

@@ -2,7 +2,8 @@
 ghost use Rattle.std.specs.Prelude.{◌≡◌, ◌≤◌, ◌+◌, length, map, string_bytes};
 ghost use Rattle.std.specs.List.{concat};
 ghost use Rattle.fac_tool.specs.SeenObjects.{files_seen};
-ghost use Rattle.fac_tool.specs.inner.StepEnds.{LoadsOne, LoadsOnly, LoadsNext, LoadsAll};
+ghost use Rattle.fac_tool.specs.Loads.{LoadsAll};
+ghost use Rattle.fac_tool.specs.inner.StepEnds.{LoadsOne, LoadsOnly, LoadsNext};
 
 use crate::ended::{bare, reported};
 use crate::{Ended, Report};

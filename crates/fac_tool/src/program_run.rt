@@ -20,7 +20,7 @@ use fac_io::{Sink, Source as Reader};
 use fac_lines::Channels;
 use fac_machine::runs_have_one_end;
 use fac_notes::status::NO_MEMORY;
-use fac_par::Workers;
+use fac_par::{Gate, Workers};
 use fac_vm::Machine;
 use std::alloc::Global;
 use std::thread::Threads;
@@ -44,7 +44,7 @@ fn run_carried<S: Reader, K: Sink>(
 
 // A fresh machine for an accepted program, which is given back before.
 #[tactic(auto, using(crate::proofs::StopLemmas::made_fresh))]
-fn machine_of<R: Threads + Sync, G>(
+fn machine_of<R: Threads + Sync, G: Gate + Sync>(
     workers: &Workers<'_, R, G>,
     checked: Checked,
 ) -> Result<Machine, Memory>
@@ -58,7 +58,7 @@ fn machine_of<R: Threads + Sync, G>(
 }
 
 /// Compiles an accepted program and runs it over channels with this budget of ticks. Of the program its image alone is there while it runs.
-pub fn run_program<R: Threads + Sync, G, S: Reader, K: Sink>(
+pub fn run_program<R: Threads + Sync, G: Gate + Sync, S: Reader, K: Sink>(
     workers: &Workers<'_, R, G>,
     checked: Checked,
     budget: u64,
@@ -77,7 +77,7 @@ pub fn run_program<R: Threads + Sync, G, S: Reader, K: Sink>(
 // The two commands that run have one clause, each with its answer.
 
 /// Likewise, and then writes this where the run is done.
-pub fn run_and_write<R: Threads + Sync, G, S: Reader, K: Sink>(
+pub fn run_and_write<R: Threads + Sync, G: Gate + Sync, S: Reader, K: Sink>(
     workers: &Workers<'_, R, G>,
     checked: Checked,
     behind: Behind,

@@ -1,16 +1,17 @@
 //! The steps of every command from the texts of its files to their names. Each file is read form by form, and its forms go to the names at once, so no tree
-//! stands in memory.
-ghost use Rattle.std.specs.Prelude.{◌≡◌, ◌<◌, List as Items, ℕ, Ok, [], IfOk, IfSome};
+//! stands in memory. Where there are two workers or more, the files of one part of the texts are read at once, and only their trees stand in memory.
+ghost use Rattle.std.specs.Prelude.{◌≡◌, ◌<◌, ◌+◌, ◌^◌, List as Items, ℕ, Ok, [], length, IfOk, IfSome};
 ghost use Rattle.fac_source.specs.declared.token.Token.{Token as TokenSeen};
 ghost use Rattle.fac_source.specs.declared.tree.Form.{Form as FormSeen};
 ghost use Rattle.fac_token.specs.Tokens.{Tokenizes};
 ghost use Rattle.fac_parse.specs.Trees.{AreForms};
 ghost use Rattle.fac_parse.specs.Handed.{HasHandedOut, calls_left};
 ghost use Rattle.fac_names.specs.TakenForms.{HasTaken};
+ghost use Rattle.fac_trees.specs.TextTrees.{AreTreesOf, IsTreeOf, texts_in};
 ghost use Rattle.fac_prelude.specs.PreludeText.{prelude_text};
 ghost use Rattle.fac_notes.specs.declared.report.Report.TheVariants.{Bytes as bytes_report};
 ghost use Rattle.fac_tool.specs.inner.StepEnds.{fault_ending, tree_ending, reported as reported_ending};
-ghost use Rattle.fac_tool.specs.inner.FormsTaken.{HasTokens, HandsOn, TakesNext, TakesFile, TakesTexts, LastGrows, FileAdds};
+ghost use Rattle.fac_tool.specs.inner.FormsTaken.{HasTokens, HandsOn, AddsFile, TakesNext, TakesFile, TakesPart, TakesTexts, LastGrows, FileAdds};
 
 use crate::definitions::definitions_of;
 use crate::ended::{bare, reported};
@@ -18,10 +19,13 @@ use crate::{ByteFault, Ended, Report, every_text_is_a_source};
 use fac_base::{Bytes, List, Memory, Queue};
 use fac_names::Resolver;
 use fac_notes::status::NO_MEMORY;
+use fac_par::Workers;
 use fac_parse::{ParseFault, Parser};
 use fac_source::{Form, Token};
 use fac_token::{TokenFault, tokens};
+use fac_trees::{TextTree, parts_of, trees_of};
 use std::alloc::Global;
+use std::thread::Threads;
 
 // The ending by a fault of bytes.
 fn byte_fault(file: u32, at: u64, why: ByteFault) -> Ended
@@ -172,26 +176,169 @@ fn take_prelude(alloc: Global, resolver: &mut Resolver) -> Result<u64, Ended>
     take_file(alloc, 0, tokens, 0, resolver)
 }
 
+// Gives the forms of a whole file to the names, and adds its definitions to a number.
+fn take_whole(
+    alloc: Global,
+    forms: List<Form>,
+    count: u64,
+    resolver: &mut Resolver,
+) -> Result<u64, Memory>
+    requires { AreForms forms }
+    ensures { AddsFile forms count resolver.old resolver.new result }
+{
+    resolver.begin_file(alloc)?;
+    hand_on(alloc, forms, count, resolver)
+}
+
+// Gives a file whose text comes to this to the names, and adds its definitions to a number.
+fn take_tree(
+    alloc: Global,
+    file: u32,
+    tree: TextTree,
+    count: u64,
+    resolver: &mut Resolver,
+) -> Result<u64, Ended>
+    requires { (text : Items ℕ) × IsTreeOf file text tree }
+    ensures { (text : Items ℕ) → IsTreeOf file text tree → TakesFile file text count (λ forms. FileAdds forms resolver.old resolver.new) result }
+{
+    every_text_is_a_source();
+    match tree {
+        TextTree::NoTokens(fault) => Err(no_tokens(file, fault)),
+        TextTree::NoTree(fault) => Err(no_tree(file, fault)),
+        TextTree::Forms(forms) => match take_whole(alloc, forms, count, resolver) {
+            Err(_) => Err(bare(NO_MEMORY, 0)),
+            Ok(sum) => Ok(sum),
+        },
+    }
+}
+
+// Gives the files of these texts to the names, one behind the other, where the last file before them has this number, and adds their definitions to a number. Each
+// text is given back to memory before its forms are read.
+fn take_in_turn(
+    alloc: Global,
+    before: u32,
+    texts: List<Bytes>,
+    count: u64,
+    resolver: &mut Resolver,
+) -> Result<u64, Ended>
+    requires { before + length texts < 2 ^ 32 }
+    ensures { TakesPart before texts count resolver.old resolver.new result }
+{
+    every_text_is_a_source();
+    let mut left = Queue::new(texts.into_vec());
+    let mut file = before;
+    let mut sum = count;
+    'texts: while let Some(text) = left.take() {
+        file += 1;
+        match take_text(alloc, file, text, sum, resolver) {
+            Err(ended) => return Err(ended),
+            Ok(more) => sum = more,
+        }
+    }
+    Ok(sum)
+}
+
+// The same of what texts come to.
+fn take_trees(
+    alloc: Global,
+    before: u32,
+    trees: List<TextTree>,
+    count: u64,
+    resolver: &mut Resolver,
+) -> Result<u64, Ended>
+    requires short { before + length trees < 2 ^ 32 }
+    requires come { (texts : Items (Items ℕ)) × AreTreesOf (before + 1) texts trees }
+    ensures { (texts : Items (Items ℕ)) → AreTreesOf (before + 1) texts trees → TakesPart before texts count resolver.old resolver.new result }
+{
+    every_text_is_a_source();
+    let mut left = Queue::new(trees.into_vec());
+    let mut file = before;
+    let mut sum = count;
+    'trees: while let Some(tree) = left.take() {
+        file += 1;
+        match take_tree(alloc, file, tree, sum, resolver) {
+            Err(ended) => return Err(ended),
+            Ok(more) => sum = more,
+        }
+    }
+    Ok(sum)
+}
+
+// What texts come to that are read at once, and which are given back to memory.
+fn read_at_once<R: Threads + Sync, G>(
+    workers: &Workers<'_, R, G>,
+    before: u32,
+    texts: List<Bytes>,
+) -> Result<List<TextTree>, Memory>
+    requires { before + length texts < 2 ^ 32 }
+    ensures { IfOk result (AreTreesOf (before + 1) texts) }
+{
+    trees_of(workers, before, texts.as_slice())
+}
+
+// Gives the files of these texts to the names, where the last file before them has this number, and adds their definitions to a number. Several of them are read
+// at once.
+fn take_part<R: Threads + Sync, G>(
+    workers: &Workers<'_, R, G>,
+    before: u32,
+    texts: List<Bytes>,
+    count: u64,
+    resolver: &mut Resolver,
+) -> Result<u64, Ended>
+    requires { before + length texts < 2 ^ 32 }
+    ensures { TakesPart before texts count resolver.old resolver.new result }
+{
+    every_text_is_a_source();
+    if workers.count < 2 || texts.len() < 2 {
+        return take_in_turn(workers.alloc, before, texts, count, resolver);
+    }
+    match read_at_once(workers, before, texts) {
+        Err(_) => Err(bare(NO_MEMORY, 0)),
+        Ok(trees) => take_trees(workers.alloc, before, trees, count, resolver),
+    }
+}
+
+// Gives the files of texts in parts to the names, behind the prelude. How many definitions they have.
+fn take_parts<R: Threads + Sync, G>(
+    workers: &Workers<'_, R, G>,
+    parts: List<List<Bytes>>,
+    resolver: &mut Resolver,
+) -> Result<u64, Ended>
+    requires { length (texts_in parts) < 2 ^ 32 }
+    ensures { TakesPart 0 (texts_in parts) 0 resolver.old resolver.new result }
+{
+    let mut left = Queue::new(parts.into_vec());
+    let mut before = 0u32;
+    let mut count = 0u64;
+    'parts: while let Some(part) = left.take() {
+        let more = part.len();
+        match take_part(workers, before, part, count, resolver) {
+            Err(ended) => return Err(ended),
+            Ok(sum) => count = sum,
+        }
+        before += more;
+    }
+    Ok(count)
+}
+
 /// Gives the prelude, which is file 0, to the names, and the texts of a command's files, which are numbered from 1. How many definitions the texts have.
-pub fn take_texts(alloc: Global, texts: List<Bytes>, resolver: &mut Resolver) -> Result<u64, Ended>
+pub fn take_texts<R: Threads + Sync, G>(
+    workers: &Workers<'_, R, G>,
+    texts: List<Bytes>,
+    resolver: &mut Resolver,
+) -> Result<u64, Ended>
     requires { HasTaken [] resolver.old }
     ensures { TakesTexts texts resolver.new result }
 {
     every_text_is_a_source();
     let _count = texts.len();
+    let alloc = workers.alloc;
     match take_prelude(alloc, resolver) {
         Err(ended) => return Err(ended),
         Ok(_) => {}
     }
-    let mut left = Queue::new(texts.into_vec());
-    let mut file = 0u32;
-    let mut count = 0u64;
-    'texts: while let Some(text) = left.take() {
-        file += 1;
-        match take_text(alloc, file, text, count, resolver) {
-            Err(ended) => return Err(ended),
-            Ok(sum) => count = sum,
-        }
+    match parts_of(alloc, texts) {
+        Err(_) => Err(bare(NO_MEMORY, 0)),
+        Ok(parts) => take_parts(workers, parts, resolver),
     }
-    Ok(count)
 }

@@ -12,11 +12,11 @@ use fac_base::{Bytes, Memory, Text};
 use fac_check::Checked;
 use fac_io::{Files, SaveFault};
 use fac_notes::status::{NO_MEMORY, SUCCESS};
-use fac_par::Workers;
+use fac_par::{Gate, Workers};
 use std::thread::Threads;
 
 // The bytes of the image of an accepted program.
-fn image_bytes<R: Threads + Sync, G>(
+fn image_bytes<R: Threads + Sync, G: Gate + Sync>(
     workers: &Workers<'_, R, G>,
     checked: Checked,
 ) -> Result<Bytes, Memory>
@@ -28,7 +28,7 @@ fn image_bytes<R: Threads + Sync, G>(
 }
 
 /// Saves the image of an accepted program under a name.
-pub fn save_image<R: Threads + Sync, G, F: Files>(
+pub fn save_image<R: Threads + Sync, G: Gate + Sync, F: Files>(
     workers: &Workers<'_, R, G>,
     checked: Checked,
     name: &str,

@@ -1,5 +1,5 @@
--- Inner contracts: how the forms of files go to the names, one behind the other, so that no tree stands in memory.
-use Rattle.std.specs.Prelude.{◌≡◌, ◌+◌, ℕ, List, [], ◌∷◌, ◌++◌, None, Some, Result, Ok, Err}
+-- Inner contracts: how the forms of files go to the names, one file behind the other.
+use Rattle.std.specs.Prelude.{◌≡◌, ◌+◌, ℕ, List, [], ◌∷◌, ◌++◌, length, None, Some, Result, Ok, Err}
 use Rattle.std.specs.List.{count_by}
 use Rattle.std.specs.declared.option.Option.{Option}
 use Rattle.fac_source.specs.declared.token.Token.{Token}
@@ -14,10 +14,10 @@ use Rattle.fac_names.specs.TakenForms.{HasTaken}
 use Rattle.fac_names.specs.Resolution.{resolved}
 use Rattle.fac_tool.specs.declared.ended.Ended.{Ended}
 use Rattle.fac_tool.specs.declared.accepting.NamedProgram.{NamedProgram}
-use Rattle.fac_notes.specs.Sources.{tree}
-use Rattle.fac_tool.specs.Answer.{is_definition, own_definitions}
-use Rattle.fac_tool.specs.Sources.{IsReadAs}
-use Rattle.fac_tool.specs.inner.StepEnds.{EndsFile, EndsRead, AreTrees}
+use Rattle.fac_notes.specs.Sources.{Source, tree}
+use Rattle.fac_tool.specs.Answer.{definitions_in, is_definition, own_definitions}
+use Rattle.fac_tool.specs.Sources.{AreReadAs, IsReadAs}
+use Rattle.fac_tool.specs.inner.StepEnds.{EndsFile, EndsRead, ReadSoFar, AreTrees}
 
 -- the tokens of a text, or it ends the work
 abbrev pub HasTokens : ℕ → List ℕ → Result (List Token) Ended → Type 0
@@ -60,6 +60,29 @@ pub record FileTaken (file : ℕ) (text : List ℕ) (count : ℕ) (AreGiven : Li
 abbrev pub TakesFile : ℕ → List ℕ → ℕ → (List Form → Type 0) → Result ℕ Ended → Type 0
 TakesFile file text count AreGiven (Ok sum) = FileTaken file text count AreGiven sum
 TakesFile file text count AreGiven (Err ended) = EndsFile file text ended
+
+-- a whole file of these forms was taken behind others, and its definitions were added to a number
+abbrev pub AddsFile : {E : Type 0} → List Form → ℕ → Resolver → Resolver → Result ℕ E → Type 0
+AddsFile forms count before now (Ok sum) = (sum ≡ count + count_by is_definition forms) × FileAdds forms before now
+AddsFile forms count before now (Err fault) = Unit {0}
+
+-- what those from this number on come to decides
+abbrev pub Onward : List (List ℕ) → List (List ℕ) → ℕ → List (List Form) → Type 0
+Onward texts left file before = (sources : List Source) → AreReadAs file left sources → ReadSoFar texts file before sources
+
+-- files were taken up to those of the texts that are left: the prelude and some behind it
+pub record TakenUpTo (texts left : List (List ℕ)) (file count : ℕ) (resolver : Resolver) : Type 0 where
+  pub prelude : List Form
+  pub files : List (List Form)
+  pub taken : HasTaken (prelude ∷ files) resolver
+  pub onward : Onward texts left file (prelude ∷ files)
+  pub counts : count ≡ definitions_in files
+
+-- Of texts that are left these come next, where the last file before them has this number: their files were taken, and their definitions added to a number; or one of
+-- them ends the work.
+abbrev pub TakesPart : ℕ → List (List ℕ) → ℕ → Resolver → Resolver → Result ℕ Ended → Type 0
+TakesPart file part count before now (Ok sum) = (texts rest : List (List ℕ)) → TakenUpTo texts (part ++ rest) (file + 1) count before → TakenUpTo texts rest (file + length part + 1) sum now
+TakesPart file part count before now (Err ended) = (texts rest : List (List ℕ)) → TakenUpTo texts (part ++ rest) (file + 1) count before → EndsRead texts ended
 
 -- the trees of texts were taken, and the texts have so many definitions
 pub record TextsTaken (texts : List (List ℕ)) (resolver : Resolver) (count : ℕ) : Type 0 where

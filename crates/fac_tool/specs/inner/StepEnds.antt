@@ -154,11 +154,6 @@ abbrev pub LoadsNext : List ℕ → ℕ → FilesSeen → List (List ℕ) → Li
 LoadsNext name room files texts now (Ok left) = LoadAdds name room files texts now left
 LoadsNext name room files texts now (Err ended) = OneEnds name room limit files ended
 
--- the step that loads all files
-abbrev pub LoadsAll : List (List ℕ) → FilesSeen → Result (List (List ℕ)) Ended → Type 0
-LoadsAll names files (Ok texts) = LoadsGive names limit files texts
-LoadsAll names files (Err ended) = LoadsEnd names limit files ended
-
 -- a text comes to this, which decides the answer, whatever is done with an accepted program and whatever the files before and behind it are
 pub record EndsFile (file : ℕ) (text : List ℕ) (ended : Ended) : Type 0 where
   pub source : Source

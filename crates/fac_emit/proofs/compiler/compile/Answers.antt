@@ -9,7 +9,7 @@ use Rattle.fac_emit.proofs.PlainStands.{plain_code}
 use Rattle.fac_emit.proofs.compiler.compile.Goals as goal
 
 pub plain_image-requires : goal.plain_image-requires
-plain_image-requires c =
+plain_image-requires g c =
     let given = c.requires in
     let closed = c.args.closed.now in
     record {
@@ -20,13 +20,13 @@ plain_image-requires c =
     }
 
 pub returns-clause-agrees : goal.returns-clause-agrees
-returns-clause-agrees c =
+returns-clause-agrees g c =
     let closed = c.args.closed.now in
     let heights = c.args.heights.now in
     IfOk-weaker c.plain_image.result (IsPlain closed heights) _ (λ image plain P callable_height closes whole effects. agrees P closed heights image callable_height whole closes plain effects) c.plain_image.ensures.plain
 
 pub returns-clause-stands : goal.returns-clause-stands
-returns-clause-stands c =
+returns-clause-stands g c =
     let closed = c.args.closed.now in
     let laws = c.methods_are_lawful.ensures in
     IfOk-weaker c.plain_image.result (IsPlain closed c.args.heights.now) _ (λ image plain P closes whole. plain_code P closed c.args.heights.now image (session_of_whole P whole) whole (laws P (whole_has P whole)) closes plain) c.plain_image.ensures.plain

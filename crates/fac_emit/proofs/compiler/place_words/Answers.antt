@@ -1,10 +1,11 @@
 use Rattle.std.proofs.Common.{arith, ap, ◌∙◌}
 use Rattle.fac_lang.specs.declared.program.Program.{Program}
 use Rattle.fac_emit.specs.inner.Coded.{has_few_inputs}
+use Rattle.fac_emit.proofs.CodeLists.{word_code_there}
 use Rattle.fac_emit.proofs.CountLemmas.{sort_there}
 use Rattle.fac_emit.proofs.EmitLemmas.{word_code_step, word_rows_step}
 use Rattle.fac_emit.proofs.CodedItems.{item_passes}
-use Rattle.fac_emit.proofs.compiler.add_words.Goals as goal
+use Rattle.fac_emit.proofs.compiler.place_words.Goals as goal
 
 pub loop-word-preserved : goal.loop-word-preserved
 loop-word-preserved c =
@@ -31,5 +32,6 @@ place_word-requires c =
     let lt = c.loop-word-test.true in
     record {
       sort = sort_there C at.word-index c.word-item.result items.result.now are lt c.word-item.is at.number at.invariant.count;
-      few = item_passes has_few_inputs C.program.words at.word-index c.word-item.result items.result.now are lt c.word-item.is c.requires;
+      few = item_passes has_few_inputs C.program.words at.word-index c.word-item.result items.result.now are lt c.word-item.is c.requires.few;
+      own = c.code_numbered-own.ensures ∙ word_code_there C at.number at.word-index c.word-item.result items.result.now c.args.codes.now are lt c.word-item.is at.invariant.count c.requires.codes;
     }

@@ -1,6 +1,6 @@
 use Rattle.std.proofs.Common.{◌≡◌, ◌++◌, drop, length}
 use Rattle.fac_emit.specs.ProgramCode.{code_from, words_from}
-use Rattle.fac_emit.proofs.compiler.add_words.Given as goal
+use Rattle.fac_emit.proofs.compiler.place_words.Given as goal
 
 abbrev pub invariant-loop-word : goal.invariant-loop-word
 invariant-loop-word l =

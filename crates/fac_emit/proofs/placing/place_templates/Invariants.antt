@@ -1,6 +1,6 @@
 use Rattle.std.proofs.Common.{◌≡◌, ◌++◌, drop, length}
 use Rattle.fac_emit.specs.ProgramCode.{templates_code, template_rows}
-use Rattle.fac_emit.proofs.emitter.add_templates.Given as goal
+use Rattle.fac_emit.proofs.placing.place_templates.Given as goal
 
 abbrev pub invariant-loop-template : goal.invariant-loop-template
 invariant-loop-template l =
