@@ -31,8 +31,8 @@ tail_same : (a b : ℕ) (x y : List ℕ) → a ∷ x ≡ b ∷ y → x ≡ y
 tail_same a b x y e = cc
 
 not_true : (b : Bool) → (b ≡ true → ⊥) → b ≡ false
-not_true true no = absurd (no refl)
-not_true false no = refl
+not_true true never = absurd (never refl)
+not_true false never = refl
 
 -- two numbers have two names
 other_name : (n m : ℕ) → n < m → m < 2 ^ 64 → bytes_eq (number_name n) (number_name m) ≡ false
