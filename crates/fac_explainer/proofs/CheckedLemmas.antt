@@ -1,5 +1,5 @@
 -- What `check` answers on texts that are called by their numbers.
-use Rattle.std.proofs.Common.{◌≡◌, ◌≤◌, ◌<◌, ℕ, suc, ◌+◌, ◌^◌, List, [], ◌∷◌, ◌++◌, Bool, true, false, None, Some, IfSome, IfOk, IsSomeAnd, Result, Ok, Err, ◌⊎◌, inl, inr, length, map, refl, sym, ap, subst, ◌∙◌, arith, length-append}
+use Rattle.std.proofs.Common.{◌≡◌, ◌≤◌, ◌<◌, ℕ, suc, ◌+◌, ◌^◌, List, [], ◌∷◌, ◌++◌, Bool, true, false, cond, None, Some, IfSome, IfOk, IsSomeAnd, Result, Ok, Err, ◌⊎◌, inl, inr, length, map, refl, sym, ap, subst, ◌∙◌, arith, length-append}
 use Rattle.std.specs.Prelude.{codes}
 use Rattle.std.specs.List.{concat, list_all}
 use Rattle.std.specs.declared.option.Option.{Option}
@@ -140,7 +140,7 @@ of_names [] held after seen out ended are within answers settled =
     ]
 of_names (text ∷ texts) held after seen out ended are within answers settled =
     let names = names_from 1 (text ∷ texts) in
-    let known : command_of (codes "check" ∷ names) ≡ Some (check names) = rw (are_names 1 (text ∷ texts)) refl in
+    let known : command_of (codes "check" ∷ names) ≡ Some (check names) = ap (λ (are : Bool). cond are (Some (check names)) None) (are_names 1 (text ∷ texts)) in
     let works : Works (check names) (given_files held after) seen out silent_sink ended = subst (λ (c : Option Command). AnswersBy c (given_files held after) seen out silent_sink ended) known answers in
     let reached = works.0 in
     let same : ended ≡ reached = told_settled (numbered_names names) reached ended works.2 settled in
