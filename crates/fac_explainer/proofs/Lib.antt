@@ -1,4 +1,5 @@
 pub mod GivenLemmas
+pub mod GivenFiles
 pub mod CheckedLemmas
 pub mod ExplainedLemmas
 pub mod IdleLemmas

@@ -51,6 +51,7 @@ impl<'a> Files for Given<'a> {
 
     ghost faults = { λ _. 0 };
 
+    #[tactic(auto, using(crate::proofs::GivenFiles::given_answers, crate::proofs::GivenFiles::given_asks, crate::proofs::GivenFiles::given_counts))]
     fn load(&mut self, alloc: Global, name: &str, limit: u64) -> Result<Bytes, LoadFault> {
         copied(alloc, find(self.texts, name), limit)
     }
