@@ -7,7 +7,8 @@
 The reserved tokens are those of docs/LANGUAGE.md, and the words those of the tables of the code and of the prelude, as bench/words.py reads them.
 The check says where a written file isn't what would be written. It reads each program of examples/ and each file of lib/ by the patterns of the
 grammar for VS Code, and each token has to get the scope that the rules of tokens give it; where `vim` is installed, it asks that for the groups of one
-program too. The commands and options of man/factorc.1 and of the completions have to be those that crates/fac_command reads.
+program too. The commands and options of man/factorc.1, of the completions and of the sections of README.md and docs/LANGUAGE.md have to be those that
+crates/fac_command reads, and bash has to complete words to them.
 """
 
 import json
@@ -23,7 +24,7 @@ import words
 ROOT = pathlib.Path(__file__).resolve().parent.parent
 VIM = "editors/vim/syntax/factorc.vim"
 VSCODE = "editors/vscode/syntaxes/factorc.tmLanguage.json"
-PAGES = ["man/factorc.1", "editors/shell/factorc.bash", "editors/shell/_factorc"]
+PAGES = ["man/factorc.1", "editors/shell/factorc.bash", "editors/shell/_factorc", "README.md", "docs/LANGUAGE.md"]
 COMMANDS = "crates/fac_command/src/command.rt"
 
 BEFORE, BEHIND = r"(?<!\S)", r"(?!\S)"
@@ -258,11 +259,33 @@ def untold():
         text = (ROOT / name).read_text(encoding="utf-8").replace("\\-", "-")
         if name.endswith(".1"):
             told = set(re.findall(r"^\.B factorc (\w+)", text, re.MULTILINE)) | set(re.findall(r"(?<![\w-])(--\w+|-o)\b", text))
+        elif name.endswith(".md"):
+            section = text.partition("\n## Commands\n")[2].partition("\n## ")[0]
+            told = set(re.findall(r"^\| `(?:factorc )?(\w+)", section, re.MULTILINE)) | set(re.findall(r"(?<![\w-])(--\w+|-o)\b", section))
         else:
             told = set(re.search(r"^# The commands and options: (.*)\.$", text, re.MULTILINE)[1].split())
             faults += [f"{name}: {each} stands only in its first lines" for each in told if text.count(each) < 2]
         faults += [f"{name}: {each} isn't told" for each in sorted(known - told)] + [f"{name}: there is no {each}" for each in sorted(told - known)]
     return faults
+
+
+BASH = 'source "$0"; COMP_WORDS=(factorc "$@"); COMP_CWORD=$#; _factorc; echo "${COMPREPLY[@]}"'
+
+
+def completed(*typed):
+    """What bash offers in place of the last of these words behind the program's name."""
+    ran = subprocess.run(["bash", "-c", BASH, str(ROOT / "editors/shell/factorc.bash"), *typed], capture_output=True, text=True, timeout=60, check=False)
+    return ran.stdout.split()
+
+
+def uncompleted():
+    """What bash completes wrongly; nothing where it isn't installed."""
+    if not shutil.which("bash"):
+        return []
+    known = set(commands())
+    offered = [*completed(""), *(option for words in (("run", "-"), ("exec", "-"), ("build", "a", "-")) for option in completed(*words))]
+    faults = [f"bash doesn't offer {each}" for each in sorted(known - set(offered))] + [f"bash offers {each}" for each in sorted(set(offered) - known)]
+    return faults + ([] if completed("ch") == ["check"] else [f"bash offers {completed('ch')} for ch"])
 
 
 def main():
@@ -277,7 +300,7 @@ def main():
     for path in sources:
         if path.name != "unicode.factor":
             faults += misread(str(path.relative_to(ROOT)), groups, known)
-    faults += misread_by_vim() + untold()
+    faults += misread_by_vim() + untold() + uncompleted()
     print(*faults[:40], f"{len(sources)} sources read, and {len(faults)} faults found", sep="\n")
     return 1 if faults else 0
 

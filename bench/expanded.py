@@ -25,6 +25,7 @@ import sys
 import tempfile
 
 import image_model
+import library
 import speed
 
 HEAD = "USING: kernel math prettyprint sequences combinators ; "
@@ -219,7 +220,8 @@ def has_late_calls(program, folder):
     sources = [row[0] for rows in (WORDS, LOOPS, CALLS) for row in rows] + [source for _, source, _ in long_ones()]
     images = [(source, image_of(program, folder, source)) for source in sources]
     for path in sorted((pathlib.Path(__file__).resolve().parent.parent / "examples").glob("*.factor")):
-        done = subprocess.run([program, "build", str(path), "-o", "i"], cwd=folder, capture_output=True)
+        needed = [str(library.ROOT / f"lib/{name}.factor") for name in library.needs_of(path)]
+        done = subprocess.run([program, "build", *needed, str(path), "-o", "i"], cwd=folder, capture_output=True)
         if done.returncode == 0:
             images.append((path.name, image_model.decode((folder / "i").read_bytes())))
     found = [(source, place) for source, image in images for place in late_calls(image)]

@@ -40,6 +40,7 @@ from collections import Counter
 
 import cases
 import image_model
+import library
 import model
 import plain_images
 import speed
@@ -619,13 +620,15 @@ def sources():
     for number, (text, given) in enumerate(SOURCES):
         yield {f"source-{number}": text.encode()}, given
     for path in sorted(glob.glob(os.path.join(TOP, "examples", "*.factor"))):
-        with open(path, "rb") as file:
-            text = file.read()
+        texts = {}
+        for name in [*(f"lib/{needed}.factor" for needed in library.needs_of(os.path.relpath(path, TOP))), path]:
+            with open(os.path.join(TOP, name), "rb") as file:
+                texts[os.path.basename(name)] = file.read()
         given = b""
         if os.path.exists(path.removesuffix(".factor") + ".in"):
             with open(path.removesuffix(".factor") + ".in", "rb") as file:
                 given = file.read()
-        yield {os.path.basename(path): text}, given
+        yield texts, given
 
 
 def compare_built(program, report):

@@ -2,6 +2,8 @@
 """Measures the words of lib/ beside CPython, and tells whether their cost stays near linear.
 
     python3 bench/library.py [PROGRAM] [NAME ..]
+    python3 bench/library.py --run              writes the stored run of crates/factorc_library: all files, with their tests
+    python3 bench/library.py --check            ends with status 1 where it isn't what would be written
 
 PROGRAM is the built program, by default crates/factorc/out/factorc, and the names those of the measured words, by default all. Each is run with n
 and with 4 n, and so is a program of CPython that does the same by a function or a class of its own library. It prints how many instructions of the
@@ -9,7 +11,7 @@ processor one of n takes, by valgrind's callgrind, without those of a program th
 take; and how many times as many as CPython's. It ends with status 1 where an answer is wrong, and where 4 n take more than 5 times as many, of
 heaps and sorts 6 times.
 
-`needs` gives the files of the library that one needs before it, as its first lines say; examples/check.py asks for them.
+`needs_of` gives the files of the library that a file needs before it, as its first lines say; examples/check.py asks for them.
 """
 
 import os
@@ -20,6 +22,7 @@ import sys
 import tempfile
 
 import speed
+import words
 
 ROOT = pathlib.Path(__file__).resolve().parent.parent
 
@@ -30,16 +33,28 @@ HEAD = re.compile(r"It needs (.*?) before it")
 FILE = re.compile(r"`lib/(\w+)\.factor`")
 
 
-def needs(name):
-    """The names of the files of the library that this one needs before it, in an order that serves."""
-    first = (ROOT / f"lib/{name}.factor").read_text(encoding="utf-8").partition("\n\n")[0]
+def needs_of(path):
+    """The names of the files of the library that the file at this path, from the top, needs before it, in an order that serves."""
+    first = (ROOT / path).read_text(encoding="utf-8").partition("\n\n")[0]
     told = HEAD.search(" ".join(line.lstrip("! ") for line in first.split("\n")))
     return FILE.findall(told[1]) if told else []
 
 
 def with_needs(name):
-    """The names of all files that this one needs, and its own."""
-    return [*needs(name), name]
+    """The names of all files of the library that this one needs, and its own."""
+    return [*needs_of(f"lib/{name}.factor"), name]
+
+
+def stored_run():
+    """What the program of all files of the library is run with, each test behind the file that it tests, and what it writes."""
+    names = [each for name in words.LIBRARY for each in ([name, "unicode"] if name == "text" else [name])]
+    files = [f"{name}{part}.factor" for name in names for part in ("", "-tests")]
+    lib = ROOT / "lib"
+    return {
+        "args": "".join(f"{word}\n" for word in ["run", "--steps", "200000000", *files]).encode(),
+        "stdin": (lib / "io-tests.in").read_bytes(),
+        "stdout": b"".join((lib / f"{name}-tests.out").read_bytes() for name in names),
+    }
 
 
 # The files, how many, the source with N for that, the same in CPython, and what both print.
@@ -153,6 +168,14 @@ def counted(words, given, folder):
 
 def main():
     names = sys.argv[1:]
+    if names in (["--run"], ["--check"]):
+        stored = {ROOT / "crates/factorc_library" / name: text for name, text in stored_run().items()}
+        wrong = [path for path, text in stored.items() if path.read_bytes() != text]
+        if names == ["--check"]:
+            return speed.finish([f"{path.relative_to(ROOT)} isn't what `python3 bench/library.py --run` writes" for path in wrong])
+        for path in wrong:
+            path.write_bytes(stored[path])
+        return 0
     program = speed.built(names.pop(0) if names and os.path.sep in names[0] else speed.DEFAULT)
     python = ["python3", "-S", "-E"]
     failed = []

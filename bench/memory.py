@@ -1,12 +1,12 @@
 #!/usr/bin/env python3
-"""Measures how much memory programs take that make values all the time and drop them, and tests that it follows what is alive; and how much images
-with many texts take, which stand once.
+"""Measures how much memory programs take that make values all the time and drop them, and tests that it follows what is alive; how much images
+with many texts take, which stand once; and how much programs of several files take, some of which are read at once.
 
     python3 bench/memory.py [--small] [PROGRAM]
 
 PROGRAM is the built program, by default crates/factorc/out/factorc. Each row runs a program and tells the greatest memory that the process
-had, by /proc, beside the most that it may have. The images are made by `build` and run by `exec`. With `--small` each row has a tenth of the turns. The script ends with status 1 where a
-program answers wrongly or takes more than it may.
+had, by /proc, beside the most that it may have. The images are made by `build` and run by `exec`. With `--small` each row has a tenth of the turns, or of
+the bytes. The script ends with status 1 where a program answers wrongly or takes more than it may.
 """
 import os
 import pathlib
@@ -15,6 +15,8 @@ import subprocess
 import sys
 import tempfile
 import time
+
+import speed
 
 ROOT = pathlib.Path(__file__).resolve().parent.parent
 IS_SMALL = "--small" in sys.argv
@@ -29,6 +31,9 @@ MIB = 1 << 20
 VALUE = 16
 TEXT = 64
 OBJECT = 16
+
+# The most bytes of memory for each byte of source.
+A_BYTE = 40
 
 PAIR = "TUPLE: pair a b ;"
 TREE = """TUPLE: node left right ;
@@ -91,6 +96,23 @@ def images():
     yield "texts of 40 characters in an image", strings(few, 40), f"{few}\n", 5 * MIB + 190 * few
 
 
+def sums_in_files(folder, size):
+    """Writes twenty files of long sums, each in words of its own vocabulary, with at most this size together. Gives their names and the number of words."""
+    names = [str(folder / f"sums-{number}") for number in range(20)]
+    units = [speed.write_words(name, b"USING: kernel math ; IN: v%d\n" % number, b"x -- y", b" 1 +", b"0", b" drop\n", size // 20) for number, name in enumerate(names)]
+    return names, sum(units) // speed.UNITS_IN_A_WORD
+
+
+def several(folder):
+    """The same of programs of twenty files with 4 MiB together: the words of the command line."""
+    size = 4 * MIB // SHARE
+    names, count = speed.vocabularies_in_files(folder, size)
+    yield "twenty vocabularies in twenty files, checked", ["check", *names], f"checked {count} definitions\n", 3 * MIB + A_BYTE * size
+    yield "twenty vocabularies in twenty files", ["run", *names], "", 3 * MIB + A_BYTE * size
+    names, count = sums_in_files(folder, size)
+    yield "long sums in twenty files, checked", ["check", *names], f"checked {count} definitions\n", 3 * MIB + A_BYTE * size
+
+
 def peak_of(child):
     """The greatest memory of a process so far, in bytes, or 0 where it has ended."""
     try:
@@ -101,16 +123,21 @@ def peak_of(child):
     return int(found[1]) << 10 if found else 0
 
 
-def run(folder, text, given, is_image):
-    """Runs a program or its image, and gives its status, its output and its greatest memory."""
-    source, image, lines, written = folder / "a.factor", folder / "image", folder / "input", folder / "output"
+def command_of(folder, text, is_image):
+    """The words of the command line that run a program or its image."""
+    source, image = folder / "a.factor", folder / "image"
     source.write_text(USING + text + "\n", encoding="utf-8")
-    lines.write_bytes(given)
     if is_image:
         subprocess.run([PROGRAM, "build", str(source), "-o", str(image)], check=True)
-    command = ["exec", "--steps", "1000000000000", str(image)] if is_image else ["run", "--steps", "1000000000000", str(source)]
+    return ["exec", "--steps", "1000000000000", str(image)] if is_image else ["run", "--steps", "1000000000000", str(source)]
+
+
+def run(folder, words, given):
+    """The status, the output and the greatest memory of a call with these words."""
+    lines, written = folder / "input", folder / "output"
+    lines.write_bytes(given)
     with open(lines, "rb") as stdin, open(written, "wb") as stdout:
-        child = subprocess.Popen([PROGRAM, *command], stdin=stdin, stdout=stdout)
+        child = subprocess.Popen([PROGRAM, *words], stdin=stdin, stdout=stdout)
         peak = 0
         while child.poll() is None:
             peak = max(peak, peak_of(child))
@@ -122,11 +149,12 @@ def main():
     failed = 0
     with tempfile.TemporaryDirectory() as name:
         folder = pathlib.Path(name)
-        programs = [(shows, text, given, wanted, most, False) for shows, text, given, wanted, most in rows()]
-        programs += [(shows, text, b"", wanted, most, True) for shows, text, wanted, most in images()]
-        for shows, text, given, wanted, most, is_image in programs:
+        programs = [(shows, lambda text=text: command_of(folder, text, False), given, wanted, most) for shows, text, given, wanted, most in rows()]
+        programs += [(shows, lambda text=text: command_of(folder, text, True), b"", wanted, most) for shows, text, wanted, most in images()]
+        programs += [(shows, lambda words=words: words, b"", wanted, most) for shows, words, wanted, most in several(folder)]
+        for shows, words, given, wanted, most in programs:
             began = os.times()
-            status, output, peak = run(folder, text, given, is_image)
+            status, output, peak = run(folder, words(), given)
             ended = os.times()
             seconds = ended.children_user - began.children_user
             right = status == 0 and output == wanted

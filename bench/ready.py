@@ -5,8 +5,8 @@
 - edits that can't be applied, since an old text doesn't stand exactly once in its file or since no file is there, both of those that
   the gate tries and of those of bench/edits/;
 - more edits for the gate, or in more crates, than docs/PROVING.md grants it;
-- documents that don't fit the repository: docs/MAP.md and docs/WORDS.md aren't what their scripts write, a row of docs/ARCHITECTURE.md
-  misses a file, a line is longer than 160 characters.
+- documents that don't fit the repository: docs/MAP.md, docs/WORDS.md, what is written of editors/ and the stored run of crates/factorc_library aren't what
+  their scripts write, a row of docs/ARCHITECTURE.md misses a file, a line is longer than 160 characters.
 
 Ends with status 1 where there is any.
 
@@ -46,7 +46,7 @@ def too_many():
 def documents():
     """What the documents have wrong."""
     faults = []
-    for script in (["map.py", "--check"], ["words.py", "--check"], ["rows.py"]):
+    for script in (["map.py", "--check"], ["words.py", "--check"], ["editors.py", "--check"], ["library.py", "--check"], ["rows.py"]):
         ran = subprocess.run([sys.executable, str(ROOT / "bench" / script[0]), *script[1:]], capture_output=True, text=True, errors="replace")
         if ran.returncode:
             said = (ran.stdout + ran.stderr).strip().split("\n")

@@ -8,8 +8,8 @@ PROGRAM is the built program, by default crates/factorc/out/factorc. The script 
 with status 1 where a run answers wrongly or a limit is passed: where a sort of source stands in two sizes, the larger is four times
 the smaller and may take at most five times as long; and each sort has a most of seconds for its larger size. The first example of
 README is run with little memory too. Images of many instructions are executed, and one is built from a large source. Last, a thousand
-files are checked beside one file with the same text, and may take a tenth longer. What needs forms or commands that aren't built, as
-model.BUILT tells, is left out.
+files, and twenty of a vocabulary each, are checked beside one file with the same text, and may take a tenth longer; bench/workers.py tells how much
+less twenty files take with several workers. What needs forms or commands that aren't built, as model.BUILT tells, is left out.
 
 The peak is what the system counts for the process. It is never less than this script's own size, some twenty megabytes.
 """
@@ -186,6 +186,26 @@ def many_vocabularies(path, size):
                 file.write(b": word-%d ( x -- x ) 1 + ;\n" % count)
             count += 1
     return 0, b"checked %d definitions\n" % count, b""
+
+
+def vocabularies_in_files(folder, size):
+    """Writes a file for each of twenty vocabularies, with at most this size together. Each uses all vocabularies before its own, and its words name words
+    of them. Gives the names of the files and the number of words."""
+    names, count = [], 0
+    for number in range(VOCABULARIES):
+        used = b"".join(b" vocabulary-%d" % before for before in range(number))
+        text = bytearray(b"USING: kernel math%s ; IN: vocabulary-%d\n" % (used, number))
+        while len(text) < size // VOCABULARIES - 90:
+            if count > 200:
+                named = (count, count - 1, count - 1 - count % 97, count // 2)
+                text += b": word-%d ( x -- x ) dup word-%d 1 + word-%d swap word-%d drop ;\n" % named
+            else:
+                text += b": word-%d ( x -- x ) 1 + ;\n" % count
+            count += 1
+        names.append(os.path.join(folder, f"vocabulary-{number}"))
+        with open(names[-1], "wb") as file:
+            file.write(text)
+    return names, count
 
 
 def strings(path, size):
@@ -503,36 +523,37 @@ def measure(words, make, size, folder, behind=()):
     return os.path.getsize(source), times, peak
 
 
-def thousand_files(program, folder):
-    """The shortest times of a check of a thousand files, and of one with the same text."""
+def thousand_files(folder):
+    """Writes a thousand files. Gives their names and the number of their words."""
     names = [os.path.join(folder, f"file-{number}") for number in range(FILES)]
-    one = os.path.join(folder, "one")
     count = 0
+    for number, name in enumerate(names):
+        text = b"USING: kernel math ;\n"
+        while len(text) < BYTES_OF_A_FILE - 80:
+            text += b": word-%d-%d ( x -- y ) dup * 3 + dup drop 7 - ;\n" % (number, len(text))
+            count += 1
+        with open(name, "wb") as file:
+            file.write(text + b"\n" * (BYTES_OF_A_FILE - len(text)))
+    return names, count
+
+
+def compare_files(program, folder, names, count, failed):
+    """Prints how many times as long a check of these files takes as one of a file with the same text, and adds a failure where that is too much."""
+    one = os.path.join(folder, "one")
     with open(one, "wb") as whole:
-        for number, name in enumerate(names):
-            text = b"USING: kernel math ;\n"
-            while len(text) < BYTES_OF_A_FILE - 80:
-                text += b": word-%d-%d ( x -- y ) dup * 3 + dup drop 7 - ;\n" % (number, len(text))
-                count += 1
-            text += b"\n" * (BYTES_OF_A_FILE - len(text))
-            whole.write(text)
-            with open(name, "wb") as file:
-                file.write(text)
+        for name in names:
+            with open(name, "rb") as file:
+                whole.write(file.read())
     shortest = []
     for files in (names, [one]):
         runs = [run_once([program, "check", *files], folder) for _ in range(RUNS)]
         if any(run[2:] != (0, b"checked %d definitions\n" % count, b"") for run in runs):
             sys.exit(f"wrong answer: status {runs[0][2]}, output {runs[0][3][:80]!r}, note {runs[0][4][:80]!r}")
         shortest.append(min(run[0] for run in runs))
-    return shortest
-
-
-def compare_files(program, folder, failed):
-    """Prints how many times as long a thousand files take as one, and adds a failure where that is too much."""
-    many, one = thousand_files(program, folder)
-    print(f"{'files':<20}{FILES:,} files take {many:.3f} s and one of the same text {one:.3f} s, {many / one:.2f} times as long")
-    if many > MOST_RATIO_OF_FILES * one:
-        failed.append(f"files: {many / one:.2f} times as long, more than {MOST_RATIO_OF_FILES:g}")
+    many, single = shortest
+    print(f"{'files':<20}{len(names):,} files take {many:.3f} s and one of the same text {single:.3f} s, {many / single:.2f} times as long")
+    if many > MOST_RATIO_OF_FILES * single:
+        failed.append(f"{len(names):,} files: {many / single:.2f} times as long, more than {MOST_RATIO_OF_FILES:g}")
 
 
 def show(name, told, length, times, peak):
@@ -614,7 +635,8 @@ def main():
         measure_images(program, folder, failed)
         measure([*WITH_LITTLE_MEMORY, program, "run"], first_example, None, folder)
         if model.BUILT.issuperset(["files", "check"]):
-            compare_files(program, folder, failed)
+            compare_files(program, folder, *thousand_files(folder), failed)
+            compare_files(program, folder, *vocabularies_in_files(folder, LARGE), failed)
     return finish(failed)
 
 

@@ -55,8 +55,9 @@ LIBRARY_HEAD = """\
 ## Words of `lib/`
 
 These aren't part of the tool: a program names their files before its own, as `factorc run lib/sorting.factor a.factor`. Below each file stands which
-others it needs, in an order that serves. Their tests, `lib/NAME-tests.factor`, are run by `examples/check.py`. Where Factor has a word of the name, it takes
-and leaves as many values there, unless something else is said. `lib/unicode.factor` has characters for `lib/text.factor`, and no word for a program.
+others it needs, in an order that serves: so is the order in which they stand here. Their tests, `lib/NAME-tests.factor`, are run by the gate and by
+`examples/check.py`. Where Factor has a word of the name, it takes and leaves as many values there, unless something else is said. `lib/unicode.factor` has
+characters for `lib/text.factor`, and no word for a program.
 """
 
 

@@ -5,17 +5,18 @@ writes what it should.
     python3 examples/check.py [PROGRAM]         on the built program, by default crates/factorc/out/factorc
     python3 examples/check.py --model           on the model of the language, bench/model.py
 
-Each program is run by itself, as `PROGRAM run NAME.factor`, and each test of the library behind the files that it needs, as
-`PROGRAM run lib/NAME.factor lib/NAME-tests.factor`. Its input is the file with its name and `.in`, or nothing where there is none. It has to
+Each program is run behind the files of the library that its first lines name, and each test of the library behind the file that it tests and those that
+this one needs, as `PROGRAM run lib/NAME.factor lib/NAME-tests.factor`. Its input is the file with its name and `.in`, or nothing where there is none. It has to
 write what the file with its name and `.out` has, and to end with status 0 and without a note.
 
 A listing of README.md and of docs/TUTORIAL.md is a block that begins with "```factor", perhaps with the names of files of the library that it needs behind
-that, and with the word `image` before them where it is built as an image too, which is executed then. It is run as `a.factor`, behind these.
+that, and with the word `image` before them where it is built as an image too, which is executed then, or `stack` where it is run with `--stack`. It is
+run as `a.factor`, behind these.
 A block behind it that begins with "```input" is its input. The next block, which begins with "```text", has what it writes, with its note at
 the end, and behind that word `status=N` where it ends with another status than 0.
 
 An indented listing of docs/LANGUAGE.md is run as `a.factor`, behind all vocabularies where it uses none. Where the line behind it begins with "This prints",
-it has to write what stands between backticks in this sentence; otherwise it has to be accepted. PARTS are no programs by themselves.
+it has to write what stands between backticks in this sentence; otherwise it has to be accepted.
 
 The table of README.md that says what to write instead has sources between backticks: the first one of its left column has to be refused by the
 grammar or as a name, and those of its right column that aren't one word have to be accepted. Both are run behind the whole library.
@@ -23,12 +24,17 @@ grammar or as a name, and those of its right column that aren't one word have to
 An example of docs/REFUSALS.md is an item of a list that begins with a note and, behind `of`, a source, both between backticks. The source is run as
 `a.factor`, and has to write this note alone and to end with its status. Each text of the tables of notes has to stand in that document.
 
+The commands in README.md, docs/TUTORIAL.md, examples/README.md and man/factorc.1 that name files are done in their order on the built program, in a folder
+with a copy of lib/ and examples/, a program `a.factor`, and the listing of the tutorial that is an image too with its input, `votes.factor` and `votes.txt`.
+Each has to end with status 0.
+
 The script ends with status 1 where one ends otherwise or writes something else.
 """
 
 import difflib
 import os
 import re
+import shutil
 import subprocess
 import sys
 import tempfile
@@ -55,12 +61,15 @@ LISTING = re.compile(
 
 INDENTED = re.compile(r"\n\n((?:    [^\n]*\n|\n(?=    ))+)\n([^\n]*(?:\n[^\n]+)*)")
 ALL = "USING: kernel math math.parser sequences arrays io prettyprint combinators strings words accessors locals fry ;"
-# Listings that are parts: what they begin with, and the words that make a program of one, or nothing where it is no phrase at all.
-PARTS = {"( str: string n -- str )": None, "[ dup 100 < ] call": (": listing ( n -- str ) ", " ;")}
 
 INSTEAD = "| In Factor | Write instead |\n|---|---|\n"
 OF_LIBRARY = "combinators sequences sorting vectors assocs hashtables math text io".split()
 BEFORE_INSTEAD = f"{ALL[:-2]} assocs hashtables math.functions vectors ; TUPLE: point x y ; "
+
+MANUAL = "man/factorc.1"
+# A command that names a file, on a line of its own or in backticks, and has no word in capital letters, which stands for others.
+COMMAND = re.compile(r"^    ((?:factorc|printf) .*\.\w.*)$|`((?:printf [^`]*)?factorc \w+ [^`]*\.\w[^`]*)`", re.MULTILINE)
+CAPITALS = re.compile(r"\b[A-Z]+\b(?![\w.])")
 
 REFUSALS = "docs/REFUSALS.md"
 EXAMPLE = re.compile(rb"^- `([^`\n]+)` of\s+`([^`\n]+)`", re.MULTILINE)
@@ -71,8 +80,8 @@ NOTE = re.compile(rb'codes "([^"]*)"')
 
 @dataclass
 class Program:
-    """A program: what it is called here, the names of its files and their texts, the status and the text that it ends with, its input, and
-    whether it is built as an image too."""
+    """A program: what it is called here, the names of its files and their texts, the status and the text that it ends with, its input, whether it
+    is built as an image too, and the options of its run."""
 
     title: str
     names: list
@@ -81,6 +90,7 @@ class Program:
     wanted: bytes
     given: bytes = b""
     image: bool = False
+    options: tuple = ()
 
 
 def read(name):
@@ -104,34 +114,28 @@ def programs():
             if folder == "lib" and tested != name:
                 yield stored([f"lib/{needed}.factor" for needed in files.with_needs(tested)] + [f"lib/{name}"])
             elif folder == "examples" and name.endswith(".factor"):
-                yield stored([f"examples/{name}"])
+                path = f"examples/{name}"
+                yield stored([*(f"lib/{needed}.factor" for needed in files.needs_of(path)), path])
     for page, number, found in ((page, *each) for page in (README, TUTORIAL) for each in enumerate(LISTING.finditer(read(page)), 1)):
         library, text, given, status, wanted = found.groups()
         names = library.decode().split()
-        image = names[:1] == ["image"]
-        names = names[image:]
+        image, stack = (names[:1] == [word] for word in ("image", "stack"))
+        names = names[image or stack :]
         texts = {name: read(name) for name in names} | {"a.factor": text}
         status = int(status.partition(b"status=")[2] or 0)
-        yield Program(f"listing {number} of {page}", [*names, "a.factor"], texts, status, wanted, given or b"", image)
+        yield Program(f"listing {number} of {page}", [*names, "a.factor"], texts, status, wanted, given or b"", image, ("--stack",) if stack else ())
     for note, text in EXAMPLE.findall(read(REFUSALS)):
         yield Program(f"the example {text.decode()} of {REFUSALS}", ["a.factor"], {"a.factor": text}, STATUSES[note.partition(b":")[0]], note + b"\n")
 
 
 def indented():
-    """The indented listings of LANGUAGE, as programs; one that is accepted alone or behind the one before it, where it writes nothing."""
-    before = ""
+    """The indented listings of LANGUAGE, as programs."""
     for number, found in enumerate(INDENTED.finditer(read(LANGUAGE).decode()), 1):
         text = re.sub("^    ", "", found[1], flags=re.MULTILINE)
-        around = next((around for start, around in PARTS.items() if text.startswith(start)), ("", ""))
-        if around is None:
-            continue
         told = re.match(r"This prints (.*?)[.:](?=\s|$)", found[2].replace("\n", " "))
         wanted = "".join(line + "\n" for line in re.findall("`([^`]*)`", told[1])) if told else ""
         whole = "" if "USING:" in text or "USE:" in text else ALL + "\n"
-        if text.startswith("1 2 account boa"):
-            text = before + text
-        yield Program(f"indented listing {number} of {LANGUAGE}", ["a.factor"], {"a.factor": (whole + text.join(around)).encode()}, 0, wanted.encode())
-        before = text
+        yield Program(f"indented listing {number} of {LANGUAGE}", ["a.factor"], {"a.factor": (whole + text).encode()}, 0, wanted.encode())
 
 
 def instead():
@@ -151,6 +155,37 @@ def misguided(built):
         status, told = run_model(program) if built is None else run_built(built, program)
         if status not in ((0,) if accepted else (3, 4)):
             faults.append(f"{README}: {text} ends with status {status}: {told.decode()}")
+    return faults
+
+
+def commands():
+    """The commands of the documents, each with the page that has it."""
+    for page in (README, TUTORIAL, "examples/README.md"):
+        for found in COMMAND.finditer(read(page).decode()):
+            if not CAPITALS.search(command := found[1] or found[2]):
+                yield page, command
+    block = re.search(r"^\.nf\n(.*?)^\.fi$", read(MANUAL).decode(), re.MULTILINE | re.DOTALL)[1]
+    yield from ((MANUAL, line) for line in block.replace("\\-", "-").replace("\\\\", "\\").splitlines())
+
+
+def unfollowed(built):
+    """The commands of the documents that don't end well on the built program."""
+    faults = []
+    with tempfile.TemporaryDirectory() as folder:
+        for name in ("lib", "examples"):
+            shutil.copytree(os.path.join(TOP, name), os.path.join(folder, name))
+        votes = next(program for program in programs() if program.image)
+        texts = {"a.factor": b"USING: math prettyprint ; 1 2 + .\n", "votes.factor": votes.texts["a.factor"], "votes.txt": votes.given}
+        for name, text in texts.items():
+            with open(os.path.join(folder, name), "wb") as file:
+                file.write(text)
+        os.mkdir(os.path.join(folder, "bin"))
+        os.symlink(os.path.abspath(built), os.path.join(folder, "bin", "factorc"))
+        path = {**os.environ, "PATH": f"{folder}/bin:{os.environ['PATH']}"}
+        for page, command in commands():
+            ran = subprocess.run(command, shell=True, cwd=folder, env=path, stdin=subprocess.DEVNULL, capture_output=True, timeout=MOST_SECONDS, check=False)
+            if ran.returncode:
+                faults.append(f"{page}: {command} ends with status {ran.returncode}: {ran.stderr.decode()}")
     return faults
 
 
@@ -175,7 +210,7 @@ def run_built(built, program):
             found = subprocess.run(command, cwd=folder, input=program.given, capture_output=True, timeout=MOST_SECONDS, check=False)
             return found.returncode, found.stdout + found.stderr
 
-        ran = ended("run", *program.names)
+        ran = ended("run", *program.options, *program.names)
         if not program.image or ran != (program.status, program.wanted):
             return ran
         saved = ended("build", *program.names, "-o", "a.image")
@@ -184,7 +219,7 @@ def run_built(built, program):
 
 def run_model(program):
     """The same of the model."""
-    answer = model.answer(["run", *program.names], program.texts, given=program.given)
+    answer = model.answer(["run", *program.options, *program.names], program.texts, given=program.given)
     return answer.status, answer.output.encode() + answer.note.encode()
 
 
@@ -201,7 +236,7 @@ def difference(got, program):
 def main():
     on_model = sys.argv[1:] == ["--model"]
     built = None if on_model else speed.program_or(speed.DEFAULT)
-    failed = unexplained() + misguided(built)
+    failed = unexplained() + misguided(built) + ([] if on_model else unfollowed(built))
     count = 0
     for program in [*programs(), *indented()]:
         count += 1

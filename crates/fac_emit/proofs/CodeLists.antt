@@ -35,7 +35,7 @@ one_more f ps pushed p o whole rest all is_pushed is =
     rw made (all ∙ sym (append_assoc (map f ps) (o ∷ []) rest))
 
 -- the element at a place of a list
-element_at : {X : Type 0} (xs : List X) (k : ℕ) → k < length xs → (x : X) × (slice_get xs k ≡ Some x) × (drop k xs ≡ x ∷ drop (k + 1) xs)
+element_at : {X : Type 0} (xs : List X) (k : ℕ) → k < length xs → (x : X) × (slice_get xs k ≡ Some x) × (drop k xs ≡ x ∷ drop (suc k) xs)
 element_at [] k lt = absurd (omega (arith, lt))
 element_at (x ∷ xs) zero lt = (x, refl, refl)
 element_at (x ∷ xs) (suc k) lt = element_at xs k (omega (arith, lt))
@@ -47,7 +47,7 @@ module _ (C : Closed) where
   word_piece_step k ps pushed p lt all is_pushed is =
       let found = element_at C.program.words k lt in
       rw (add-one k)
-      (one_more word_piece_code ps pushed p (word_code C k found.0) (word_codes C) (codes_from C (suc k) (drop (k + 1) C.program.words)) (all ∙ ap (λ (ds : List WordDef). map word_piece_code ps ++ codes_from C k ds) found.2) is_pushed (is ∙ ap (found_word_code C k) found.1))
+      (one_more word_piece_code ps pushed p (word_code C k found.0) (word_codes C) (codes_from C (suc k) (drop (suc k) C.program.words)) (all ∙ ap (λ (ds : List WordDef). map word_piece_code ps ++ codes_from C k ds) found.2) is_pushed (is ∙ ap (found_word_code C k) found.1))
 
   -- and the last one
   pub all_word_pieces : (k : ℕ) (ps : List WordPiece) → length C.program.words ≤ k → word_codes C ≡ map word_piece_code ps ++ codes_from C k (drop k C.program.words) → map word_piece_code ps ≡ word_codes C
@@ -58,7 +58,8 @@ module _ (C : Closed) where
       template_piece_code p ≡ found_template_code C (slice_get C.templates k) → template_codes C ≡ map template_piece_code pushed ++ map (template_code C) (drop (k + 1) C.templates)
   template_piece_step k ps pushed p lt all is_pushed is =
       let found = element_at C.templates k lt in
-      one_more template_piece_code ps pushed p (template_code C found.0) (template_codes C) (map (template_code C) (drop (k + 1) C.templates)) (all ∙ ap (λ (ts : List Template). map template_piece_code ps ++ map (template_code C) ts) found.2) is_pushed (is ∙ ap (found_template_code C) found.1)
+      rw (add-one k)
+      (one_more template_piece_code ps pushed p (template_code C found.0) (template_codes C) (map (template_code C) (drop (suc k) C.templates)) (all ∙ ap (λ (ts : List Template). map template_piece_code ps ++ map (template_code C) ts) found.2) is_pushed (is ∙ ap (found_template_code C) found.1))
 
   pub all_template_pieces : (k : ℕ) (ps : List TemplatePiece) → length C.templates ≤ k → template_codes C ≡ map template_piece_code ps ++ map (template_code C) (drop k C.templates) → map template_piece_code ps ≡ template_codes C
   all_template_pieces k ps le all = sym (all ∙ at_drop_all (λ (ts : List Template). map template_piece_code ps ++ map (template_code C) ts) C.templates k le ∙ append-nil (map template_piece_code ps))
@@ -80,7 +81,8 @@ module _ (C : Closed) where
   word_code_there n i word items codes are lt is same all =
       let at = get_at C.program.words i word (drop (i + 1) C.program.words) (next_of C.program.words i word items are lt is) in
       let place : slice_get C.program.words n ≡ Some word = ap (slice_get C.program.words) same ∙ at in
-      ap (λ (cs : List (List Instr)). code_there (slice_get cs n)) all ∙ word_code_from 0 n C.program.words word place ∙ ap (λ (w : ℕ). word_code C w word) (omega arith)
+      let number : 0 + n ≡ n = omega arith in
+      ap (λ (cs : List (List Instr)). code_there (slice_get cs n)) all ∙ word_code_from 0 n C.program.words word place ∙ ap (λ (w : ℕ). word_code C w word) number
 
   pub template_code_there :
       (n i : ℕ) (t : Template) (items : List Template) (codes : List (List Instr)) → items ≡ C.templates → i < length items → t ≡ get_or items i t → n ≡ i → codes ≡ template_codes C → code_there (slice_get codes n) ≡ template_code C t

@@ -205,11 +205,7 @@ fn last(is_top: bool) -> Instr
 }
 
 // The code of a word of this sort, where it runs a phrase.
-fn code_of_sort(
-    emission: &Emission<'_>,
-    is_top: bool,
-    sort: &Sort,
-) -> Result<List<Instr>, Memory>
+fn code_of_sort(emission: &Emission<'_>, is_top: bool, sort: &Sort) -> Result<List<Instr>, Memory>
     ensures { IfOk result (λ code. code ≡ sort_code emission.now is_top sort.now) }
 {
     match sort {

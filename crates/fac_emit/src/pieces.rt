@@ -80,9 +80,7 @@ impl Piece for TemplatePiece<'_, '_> {
 }
 
 // A piece for each template, in their order.
-fn template_pieces<'a, 'b>(
-    emission: &'a Emission<'b>,
-) -> Result<Vec<TemplatePiece<'a, 'b>>, Memory>
+fn template_pieces<'a, 'b>(emission: &'a Emission<'b>) -> Result<Vec<TemplatePiece<'a, 'b>>, Memory>
     ensures { IfOk result (λ pieces. map template_piece_code pieces.items ≡ template_codes emission.now) }
 {
     let count = emission.templates().len();

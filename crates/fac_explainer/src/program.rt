@@ -1,22 +1,48 @@
 //! What the program does with the words, the files and the streams that the system gives it: it makes the top call.
-ghost use Rattle.std.specs.Prelude.{map, string_bytes};
+ghost use Rattle.std.specs.Prelude.{◌≡◌, IfSome, drop, map, string_bytes};
+ghost use Rattle.std.specs.Vec.Iter.{into_iter_items};
 ghost use Rattle.fac_tool.specs.SeenObjects.{files_seen, sink_seen};
-ghost use Rattle.fac_program.specs.Program.{words_given};
-ghost use Rattle.fac_explainer.specs.Programs.{Calls, ProgramRuns};
+ghost use Rattle.fac_explainer.specs.Programs.{words_given, Calls, TellsCode, ProgramRuns};
 
 use crate::explain_top;
 use fac_io::{Files, RealSink, Sink};
 use fac_par::{Gate, NoGate, Workers};
-use fac_program::{end_without_words, words_of};
+use fac_tool::tell_no_words;
 use std::alloc::Global;
 use std::env::Args;
 use std::io;
+use std::io::ErrorKind;
 use std::process::ExitCode;
 use std::rt::{Stderr, Stdout};
 use std::thread::Threads;
 
 // How many workers a program has.
 const WORKERS: u32 = 4;
+
+// The words of a command line behind the program's name. None where there is no memory for them.
+fn words_behind_name(alloc: Global, mut args: Args) -> Option<Vec<String>>
+    ensures { IfSome result (λ words. map string_bytes words.items ≡ drop 1 (map string_bytes (into_iter_items args))) }
+{
+    let _name = args.next();
+    let mut words = Vec::new(alloc);
+    while let Some(word) = args.next() {
+        words.push(word).ok()?;
+    }
+    Some(words)
+}
+
+// The words that the program is given. None where there is no memory for them.
+fn words_of(alloc: Global, args: io::Result<Args>) -> Option<Vec<String>>
+    ensures { IfSome result (λ words. map string_bytes words.items ≡ words_given args) }
+{
+    match args {
+        Ok(args) => words_behind_name(alloc, args),
+        Err(error) => match error.kind() {
+            ErrorKind::OutOfMemory => None,
+            _ => Some(Vec::new(alloc)),
+        },
+    }
+}
 
 // Makes the top call; the program's status is that of its ending.
 fn call_top<R: Threads + Sync, G: Gate + Sync, F: Files, K: Sink, N: Sink>(
@@ -33,6 +59,14 @@ fn call_top<R: Threads + Sync, G: Gate + Sync, F: Files, K: Sink, N: Sink>(
         result }
 {
     let ended = explain_top(workers, words, files, out, notes);
+    ExitCode::from(ended.status)
+}
+
+// Tells that there is no memory for the words, whose status is the program's.
+fn end_without_words<N: Sink>(notes: &mut N) -> ExitCode
+    ensures { TellsCode (sink_seen N.taken N.pieces N.faults notes.old notes.new) result }
+{
+    let ended = tell_no_words(notes);
     ExitCode::from(ended.status)
 }
 

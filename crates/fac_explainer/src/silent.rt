@@ -1,4 +1,6 @@
 //! An input of no bytes, and an output of which nothing is kept. They never fail.
+ghost use Rattle.std.specs.Prelude.{None};
+
 use fac_io::{Failed, Sink, Source};
 
 /// No bytes.

@@ -34,8 +34,8 @@ fn words_behind_name(alloc: Global, mut args: Args) -> Option<Vec<String>>
     Some(words)
 }
 
-/// The words that the program is given. None where there is no memory for them.
-pub fn words_of(alloc: Global, args: io::Result<Args>) -> Option<Vec<String>>
+// The words that the program is given. None where there is no memory for them.
+fn words_of(alloc: Global, args: io::Result<Args>) -> Option<Vec<String>>
     ensures { IfSome result (λ words. map string_bytes words.items ≡ words_given args) }
 {
     match args {
@@ -66,8 +66,8 @@ fn call_top<R: Threads + Sync, G: Gate + Sync, F: Files, S: Source, K: Sink, N: 
     ExitCode::from(ended.status)
 }
 
-/// Tells that there is no memory for the words, whose status is the program's.
-pub fn end_without_words<N: Sink>(notes: &mut N) -> ExitCode
+// Tells that there is no memory for the words, whose status is the program's.
+fn end_without_words<N: Sink>(notes: &mut N) -> ExitCode
     ensures { TellsCode (sink_seen N.taken N.pieces N.faults notes.old notes.new) result }
 {
     let ended = tell_no_words(notes);

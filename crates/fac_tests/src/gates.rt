@@ -14,7 +14,8 @@ use std::thread::Threads;
 const ROOM: usize = 1000;
 
 // A program with a class, methods of a tuple, a nested quotation and a `cond`.
-const BANK: &str = "USING: kernel math sequences arrays io prettyprint combinators accessors math.parser ; IN: bank
+const BANK: &str =
+    "USING: kernel math sequences arrays io prettyprint combinators accessors math.parser ; IN: bank
 TUPLE: account owner balance ; C: <account> account
 : deposit ( account n -- account ) over balance>> + >>balance ;
 : show ( account -- ) [ owner>> write ] [ \": \" write balance>> number>string print ] bi ;

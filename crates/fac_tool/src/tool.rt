@@ -68,8 +68,9 @@ fn answer<R: Threads + Sync, G: Gate + Sync, F: Files, S: Source, K: Sink, N: Si
 /// `saved_code_runs_as_its_source` says of both that this is what `run` answers on the sources. That `run` goes through code isn't in it: `compile`
 /// and `Machine::run` promise that. Want of memory may be answered at any point; a fault only where the object that was handed in counted one.
 ///
-/// The texts of a program are read, its words checked, and the effects of its quotations found, by these workers. No clause names them: for every number of
-/// workers and every gate the answer is the same. The gate is told of the check of each word, by the word's number.
+/// The texts of a program are read, its words checked, the effects of its quotations found, and their code made, by these workers. No clause names them: for
+/// every number of workers and every gate the answer is the same. The gate is told of the check of each word, by the word's number, and where there is an image
+/// of the making of its code likewise.
 pub fn factor_top<R: Threads + Sync, G: Gate + Sync, F: Files, S: Source, K: Sink, N: Sink>(
     workers: &Workers<'_, R, G>,
     words: &[String],

@@ -8,16 +8,20 @@ use Rattle.fac_emit.proofs.ClosedTables.{can_be_built, has_methods}
 use Rattle.fac_emit.proofs.PlainStands.{plain_code}
 use Rattle.fac_emit.proofs.compiler.compile.Goals as goal
 
-pub plain_image-requires : goal.plain_image-requires
-plain_image-requires g c =
+pub plain_image-requires-clause-coded : goal.plain_image-requires-clause-coded
+plain_image-requires-clause-coded g c κs within =
     let given = c.requires in
-    let closed = c.args.closed.now in
-    record {
-      coded = arrays_coded given.0 closed given.1.0;
-      closed = (given.0, given.1, c.methods_are_lawful.ensures given.0 (whole_has given.0 given.1.1));
-      classes = can_be_built given.0 closed given.1.0 given.1.1;
-      methods = has_methods given.0 closed given.1.0 given.1.1;
-    }
+    arrays_coded given.0 c.args.closed.now given.1.0
+
+pub plain_image-requires-clause-classes : goal.plain_image-requires-clause-classes
+plain_image-requires-clause-classes g c κs within =
+    let given = c.requires in
+    can_be_built given.0 c.args.closed.now given.1.0 given.1.1
+
+pub plain_image-requires-clause-methods : goal.plain_image-requires-clause-methods
+plain_image-requires-clause-methods g c κs within =
+    let given = c.requires in
+    has_methods given.0 c.args.closed.now given.1.0 given.1.1
 
 pub returns-clause-agrees : goal.returns-clause-agrees
 returns-clause-agrees g c =

@@ -2,18 +2,19 @@ use denote.Param.Send.{sendable}
 use Rattle.std.proofs.Common.{◌≡◌, List, map, ap, ◌∙◌}
 use Rattle.std.proofs.lemmas.Result.{IfOk-weaker}
 use Rattle.fac_base.proofs.list.List.TheSendSync as lists
+use Rattle.fac_code.proofs.image.Instr.TheSendSync as instrs
 use Rattle.fac_code.specs.declared.image.Instr.{Instr}
 use Rattle.fac_par.specs.Pieces.{MeetEach}
 use Rattle.fac_emit.specs.inner.Pieces.{template_codes, template_piece_code}
 use Rattle.fac_emit.proofs.CodeLists.{MeetsTemplate, all_met}
-use Rattle.fac_emit.proofs.Crossings.{instr_send, template_piece_sync}
+use Rattle.fac_emit.proofs.Crossings.{template_piece_sync}
 use Rattle.fac_emit.proofs.pieces.codes_of_templates.Goals as goal
 
 pub map_pieces-requires-sync-P : goal.map_pieces-requires-sync-P
 map_pieces-requires-sync-P g c κs within = search (sendable, template_piece_sync) depth 20
 
 pub map_pieces-requires-send-P-Out : goal.map_pieces-requires-send-P-Out
-map_pieces-requires-send-P-Out g c κs within = search (sendable, lists.the_send, instr_send) depth 20
+map_pieces-requires-send-P-Out g c κs within = search (sendable, lists.the_send, instrs.the_send) depth 20
 
 pub returns : goal.returns
 returns g c =

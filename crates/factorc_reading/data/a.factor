@@ -1,1 +1,0 @@
-USING: io prettyprint ; readln print readln .
