@@ -1,5 +1,5 @@
 -- The vocabularies that hold a word, one after another.
-use Rattle.std.proofs.Common.{◌≡◌, ◌<◌, ℕ, suc, ◌+◌, ◌×◌, ◌⊎◌, inl, inr, List, [], ◌∷◌, ◌++◌, None, Some, length, map, drop, drop-cons, get_or, sym, subst, ap, ◌∙◌, append_assoc}
+use Rattle.std.proofs.Common.{◌≡◌, ◌<◌, ℕ, suc, ◌+◌, ◌⊎◌, inl, inr, List, [], ◌∷◌, ◌++◌, None, Some, length, map, drop, drop-cons, get_or, sym, subst, ap, ◌∙◌, append_assoc}
 use Rattle.std.proofs.lemmas.List.{append-nil}
 use Rattle.fac_notes.specs.declared.report.Report.{Report}
 use Rattle.fac_explainer.specs.CheckAnswers.{IsCheckedAs}
