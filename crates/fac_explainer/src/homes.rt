@@ -82,7 +82,6 @@ fn add_home<R: Threads + Sync, G: Gate + Sync>(
 }
 
 // Those of vocabularies that hold a word of this name.
-#[tactic(auto, using(crate::proofs::HomeLemmas::one_more_home, crate::proofs::HomeLemmas::all_homes))]
 fn homes_among<R: Threads + Sync, G: Gate + Sync>(
     workers: &Workers<'_, R, G>,
     vocabs: &[&str],
