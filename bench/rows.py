@@ -116,7 +116,7 @@ ROWS = [
         also=[r"\b(What|term)(::|\.)(Hole|NextAfter)", r"`call-next-method`", r"abbrev pub AskedBy"],
     ),
     Row("A reserved token (`foldable`)", r"\bfoldable\b"),
-    Row("A vocabulary (`fry`)", r"\"locals\", \"fry\"|codes \"locals\" ∷ codes \"fry\"|scratchpad locals fry"),
+    Row("A vocabulary (`fry`)", r"\"locals\", \"fry\"|codes \"locals\" ∷ codes \"fry\"|scratchpad locals fry|\"combinators\", \"fry\"|combinators fry io"),
     Row("A word of the prelude (`2keep`)", r"\b2keep\b"),
     Row("A refusal of names (`bad-parent`)", r"\bBadParent\b|bad-parent", also=[r"\bNameKind(::|\.)\w+", r"\b(Twice|Unknown|twice|unknown)\b"]),
     Row(
@@ -141,7 +141,7 @@ ROWS = [
     Row("A limit (the holes of a fry)", r"\bMOST_HOLES\b"),
     Row(
         "A command (`list`)",
-        r"\bCommand::List\b|\bcommand\.list\b|\bread\.List\b|\blist_of\b|\bread_list\b|list_steps|usage: factorc|\"list\"",
+        r"\bCommand::List\b|\bcommand\.list\b|\bread\.List\b|\blist_of\b|\bread_list\b|list_steps|usage: factorc check|\"list\"",
         other={"crates/fac_bytes/*": "lists in an image", "crates/fac_spelling_cases/*": "lists of values"},
     ),
     Row("A status (11, a file that is too long)", r"\b[Rr]eport(::|\.)TooLong\b|^    TooLong \{|const TOO_LONG\b"),

@@ -1,0 +1,7 @@
+pub mod GivenLemmas
+pub mod GivenFiles
+pub mod CheckedLemmas
+pub mod ExplainedLemmas
+pub mod IdleLemmas
+pub mod HomeLemmas
+pub mod VerdictLemmas

@@ -1,0 +1,2 @@
+pub mod GivenTexts
+pub mod Steps
