@@ -16,6 +16,7 @@ use fac_explainer::explain_top;
 use fac_io::{MemFiles, MemSink};
 use fac_par::{NoGate, Workers};
 use std::alloc::Global;
+use std::thread::Threads;
 use std::{mem, str};
 
 // The most bytes that a sink takes.
