@@ -4,4 +4,8 @@ pub mod TextImages
 pub mod KnownTexts
 pub mod MeantTexts
 pub mod TextMeanings
+pub mod MachineTexts
+pub mod StackTexts
+pub mod StandingSessions
+pub mod Replies
 pub mod inner

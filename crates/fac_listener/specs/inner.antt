@@ -2,3 +2,6 @@
 pub mod ReadTexts
 pub mod ClosedNames
 pub mod NamedTexts
+pub mod PhraseRuns
+pub mod SessionSteps
+pub mod SessionLaws
