@@ -337,7 +337,7 @@ pub fn take_texts<R: Threads + Sync, G>(
         Err(ended) => return Err(ended),
         Ok(_) => {}
     }
-    match parts_of(alloc, texts) {
+    match parts_of(alloc, workers.count, texts) {
         Err(_) => Err(bare(NO_MEMORY, 0)),
         Ok(parts) => take_parts(workers, parts, resolver),
     }

@@ -55,6 +55,15 @@ pub piece_more :
     ArePieces first (take k texts) ps → length ps ≡ k → k < length texts → text ≡ get_or texts k text → p.file ≡ first + k → p.text.now ≡ text → ArePieces first (take (k + 1) texts) (ps ++ p ∷ [])
 piece_more first texts k text ps p each count below is file now = rw (add-one, take-suc texts k text, ← is) (one_more first (take k texts) text ps p each (omega (arith, count, file)) now)
 
-pub room_made : (parts now : List (List (List ℕ))) (last full left : List (List ℕ)) → now ≡ parts ++ full ∷ [] → full ≡ last → left ≡ [] → texts_in now ++ left ≡ texts_in parts ++ last
-room_made parts now last full left is same none =
+-- a part is ended
+pub part_over : (parts now : List (List (List ℕ))) (last full left : List (List ℕ)) → now ≡ parts ++ full ∷ [] → full ≡ last → left ≡ [] → texts_in now ++ left ≡ texts_in parts ++ last
+part_over parts now last full left is same none =
     ap (λ (ts : List (List ℕ)). texts_in now ++ ts) none ∙ ap (λ (ps : List (List (List ℕ))). texts_in ps ++ []) (is ∙ ap (λ (p : List (List ℕ)). parts ++ p ∷ []) same) ∙ part_ended parts last
+
+-- and its last texts are left
+pub room_made :
+    (parts now : List (List (List ℕ))) (last full kept others : List (List ℕ)) →
+    now ≡ parts ++ kept ∷ [] → full ≡ last → kept ++ others ≡ full → texts_in now ++ others ≡ texts_in parts ++ last
+room_made parts now last full kept others is same both =
+    ap (λ (ps : List (List (List ℕ))). texts_in ps ++ others) is ∙ ap (λ (ts : List (List ℕ)). ts ++ others) (texts_more parts kept) ∙
+    append_assoc (texts_in parts) kept others ∙ ap (λ (ts : List (List ℕ)). texts_in parts ++ ts) (both ∙ same)

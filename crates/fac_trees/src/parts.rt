@@ -1,5 +1,5 @@
 //! Texts in parts, each of which is read at once.
-ghost use Rattle.std.specs.Prelude.{◌≡◌, ◌++◌, ◌∷◌, [], IfOk, OnOk};
+ghost use Rattle.std.specs.Prelude.{◌≡◌, ◌≤◌, ◌++◌, ◌∷◌, [], length, IfOk, OnOk};
 ghost use Rattle.fac_trees.specs.TextTrees.{texts_in};
 
 use fac_base::{Bytes, List, Memory, Queue};
@@ -21,8 +21,30 @@ fn bytes_of(texts: &[Bytes]) -> u64 {
     sum
 }
 
+// How many of so many texts a full part keeps, so that each of these workers reads as many of them: all, where there are fewer texts than workers.
+fn kept_of(texts: u32, workers: u32) -> u32
+    ensures { result ≤ texts }
+{
+    let workers = workers.clamp(1, 64);
+    if texts < workers {
+        texts
+    } else {
+        texts - texts % workers
+    }
+}
+
+// The first so many texts, and the others.
+fn split(texts: List<Bytes>, kept: u32) -> Result<(List<Bytes>, List<Bytes>), Memory>
+    requires { kept ≤ length texts }
+    ensures { IfOk result (λ both. both.0 ++ both.1 ≡ texts) }
+{
+    let mut first = texts.into_vec();
+    let others = first.split_off(kept as usize)?;
+    Ok((List::from_vec(first)?, List::from_vec(others)?))
+}
+
 // Ends the last part where it would be too large with so many bytes more.
-fn make_room(
+fn end_part(
     alloc: Global,
     parts: &mut Vec<List<Bytes>>,
     last: &mut List<Bytes>,
@@ -41,9 +63,34 @@ fn make_room(
     Ok(())
 }
 
+// Ends the last part where it would be too large with so many bytes more. It keeps as many texts for each worker, and the others begin the next part.
+fn make_room(
+    alloc: Global,
+    workers: u32,
+    parts: &mut Vec<List<Bytes>>,
+    last: &mut List<Bytes>,
+    bytes: &mut u64,
+    more: u64,
+    most: u64,
+) -> Result<(), Memory>
+    ensures { OnOk result (texts_in parts.new.items ++ last.new ≡ texts_in parts.old.items ++ last.old) }
+{
+    if bytes.saturating_add(more) <= most {
+        return Ok(());
+    }
+    let full = mem::replace(last, List::new(alloc));
+    let kept = kept_of(full.len(), workers);
+    let (full, others) = split(full, kept)?;
+    parts.push(full)?;
+    *bytes = bytes_of(others.as_slice());
+    *last = others;
+    end_part(alloc, parts, last, bytes, more, most)
+}
+
 // Adds a text to the last part, or to a part of its own where the last one would be too large.
 fn add_text(
     alloc: Global,
+    workers: u32,
     parts: &mut Vec<List<Bytes>>,
     last: &mut List<Bytes>,
     bytes: &mut u64,
@@ -53,13 +100,17 @@ fn add_text(
     ensures { OnOk result (texts_in parts.new.items ++ last.new ≡ texts_in parts.old.items ++ last.old ++ text ∷ []) }
 {
     let more = text.len() as u64;
-    make_room(alloc, parts, last, bytes, more, most)?;
+    make_room(alloc, workers, parts, last, bytes, more, most)?;
     *bytes = bytes.saturating_add(more);
     last.push(text)
 }
 
-/// The same texts in parts, in their order.
-pub fn parts_of(alloc: Global, texts: List<Bytes>) -> Result<List<List<Bytes>>, Memory>
+/// The same texts in parts, in their order, for so many workers.
+pub fn parts_of(
+    alloc: Global,
+    workers: u32,
+    texts: List<Bytes>,
+) -> Result<List<List<Bytes>>, Memory>
     ensures { IfOk result (λ parts. texts_in parts ≡ texts) }
 {
     let most = bytes_of(texts.as_slice()) / PARTS;
@@ -69,7 +120,9 @@ pub fn parts_of(alloc: Global, texts: List<Bytes>) -> Result<List<List<Bytes>>, 
     let mut bytes = 0u64;
     let mut left = Queue::new(texts.into_vec());
     'texts: while let Some(text) = left.take() {
-        add_text(alloc, &mut parts, &mut last, &mut bytes, text, most)?;
+        add_text(
+            alloc, workers, &mut parts, &mut last, &mut bytes, text, most,
+        )?;
     }
     parts.push(last)?;
     List::from_vec(parts)
