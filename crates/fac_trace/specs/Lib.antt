@@ -1,0 +1,4 @@
+pub mod Origins
+pub mod Traced
+pub mod TraceLaws
+pub mod Lists
