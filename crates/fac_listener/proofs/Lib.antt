@@ -1,4 +1,0 @@
-pub mod SourceLemmas
-pub mod ClosedNameLemmas
-pub mod JudgedLemmas
-pub mod ImageLemmas

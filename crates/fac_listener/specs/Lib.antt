@@ -1,4 +1,0 @@
-pub mod TextSources
-pub mod JudgedPrograms
-pub mod TextImages
-pub mod inner

@@ -1,3 +1,0 @@
--- What only the contracts of inner functions cite.
-pub mod ReadTexts
-pub mod ClosedNames

@@ -1,0 +1,5 @@
+pub mod Origins
+pub mod Traced
+pub mod Traces
+pub mod TraceLaws
+pub mod Lists
