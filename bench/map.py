@@ -22,7 +22,7 @@ ROOMS = [
     ("Base", "fac_base fac_par fac_lang fac_num fac_io fac_lines fac_spelling"),
     ("Reading", "fac_source fac_token fac_effect fac_parse fac_trees fac_prelude"),
     ("Names", "fac_vocab fac_items fac_endings fac_names fac_known fac_meanings"),
-    ("Checking", "fac_abs fac_rows fac_graph fac_locals fac_classes fac_generic fac_check fac_longer"),
+    ("Checking", "fac_abs fac_rows fac_graph fac_locals fac_classes fac_generic fac_check fac_longer fac_trace"),
     (
         "Image and machine",
         "fac_texts fac_code fac_bytes fac_machine fac_store fac_show fac_sequences fac_prim fac_vm fac_carry fac_emit fac_expand fac_standing",
