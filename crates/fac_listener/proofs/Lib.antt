@@ -2,3 +2,15 @@ pub mod SourceLemmas
 pub mod ClosedNameLemmas
 pub mod JudgedLemmas
 pub mod ImageLemmas
+pub mod KnownLemmas
+pub mod MeaningLemmas
+pub mod TextLemmas
+pub mod RunLemmas
+pub mod ToldLemmas
+pub mod StopLemmas
+pub mod PhraseLemmas
+pub mod AnsweredLemmas
+pub mod GoOnLemmas
+pub mod SessionLemmas
+pub mod FirstLemmas
+pub mod StepLemmas

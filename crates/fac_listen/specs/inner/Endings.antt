@@ -1,0 +1,25 @@
+-- Inner contracts: how a session ends from its first line on.
+use Rattle.std.specs.Prelude.{◌≡◌, ◌⊎◌, ℕ, suc, List, length}
+use Rattle.fac_io.specs.Told.{Grows}
+use Rattle.fac_notes.specs.Sources.{Source}
+use Rattle.fac_session.specs.Heard.{Heard as HeardOf, heard, last_note}
+use Rattle.fac_session.specs.Sessions.{Session}
+use Rattle.fac_listen.specs.Devices.{DevicesTold, DevicesStand}
+use Rattle.fac_listen.specs.Fronts.{left_behind}
+use Rattle.fac_listen.specs.Listens.{CutBetween, CutInLine, EndsWhole, notes_for}
+use Rattle.fac_listen.specs.SessionNotes.{NotesTold, AreNoted}
+use Rattle.fac_listen.specs.declared.heard.Heard.{Heard}
+
+-- a session was heard to its end in at most so many lines, each of which takes a byte
+pub record HeardFrom (source : List ℕ → Source) (s : Session) (input left : List ℕ) (before now : DevicesTold) (notes_before notes_now : NotesTold) (ended : Heard) : Type 0 where
+  pub rest : left ≡ left_behind source (suc (length input)) s input
+  pub output : Grows before.output.taken now.output.taken (heard source (suc (length input)) s input).output
+  pub counts : DevicesStand before now
+  pub between : NotesTold
+  pub told : AreNoted (notes_for (heard source (suc (length input)) s input).told) notes_before between
+  pub ends : EndsWhole (heard source (suc (length input)) s input) (last_note (heard source (suc (length input)) s input).refusal) between notes_now ended
+
+-- a session was heard from its first line to its end, or was cut short
+abbrev pub EndsFrom : (List ℕ → Source) → Session → List ℕ → List ℕ → DevicesTold → DevicesTold → NotesTold → NotesTold → Heard → Type 0
+EndsFrom source s input left before now notes_before notes_now ended =
+    HeardFrom source s input left before now notes_before notes_now ended ⊎ (CutBetween source s input left before now notes_before notes_now ended ⊎ CutInLine source s input left before now notes_before notes_now ended)

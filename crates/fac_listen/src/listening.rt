@@ -1,0 +1,75 @@
+//! A session from its first line to its end.
+ghost use Rattle.std.specs.Prelude.{◌≡◌, [], List as Items, ℕ, false};
+ghost use Rattle.fac_lines.specs.Channels.{OnChannels};
+ghost use Rattle.fac_notes.specs.Sources.{Source as Comes};
+ghost use Rattle.fac_session.specs.Heard.{file_names as names_of_session};
+ghost use Rattle.fac_session.specs.Sessions.{Session as Standing};
+ghost use Rattle.fac_listener.specs.Replies.{AreSources};
+ghost use Rattle.fac_listener.specs.StandingSessions.{has_ended};
+ghost use Rattle.fac_listen.specs.Devices.{devices_of};
+ghost use Rattle.fac_listen.specs.Fronts.{front_of};
+ghost use Rattle.fac_listen.specs.Listens.{Listens};
+ghost use Rattle.fac_listen.specs.SessionNotes.{notes_told};
+ghost use Rattle.fac_listen.specs.inner.Hearings.{IsBehind};
+ghost use Rattle.fac_listen.specs.inner.Endings.{EndsFrom};
+
+use crate::Heard;
+use crate::hearing::Hearing;
+use crate::telling::{file_names, tell_no_memory, tell_refusal};
+use fac_base::{List, Text};
+use fac_io::{Sink, Source};
+use fac_lines::Channels;
+use fac_listener::{Session, SessionFault, every_text_is_a_source};
+use fac_par::{Gate, Workers};
+use std::thread::Threads;
+
+// Hears a session to its end. A source gives fewer lines than are counted here, so that the count ends is never told.
+fn hear<R: Threads + Sync, G: Gate + Sync, S: Source, K: Sink, N: Sink>(
+    workers: &Workers<'_, R, G>,
+    mut hearing: Hearing,
+    channels: &mut Channels<S, K>,
+    notes: &mut N,
+) -> Heard
+    requires behind { (source : Items ℕ → Comes) × (s : Standing) × AreSources source × IsBehind source (front_of s []) hearing }
+    requires open { has_ended hearing.session ≡ false }
+    ensures { OnChannels channels.old channels.new (λ before now input left. (source : Items ℕ → Comes) (s : Standing) → AreSources source → IsBehind source (front_of s input) hearing → EndsFrom source s input left (devices_of channels.old) (devices_of channels.new) (notes_told N.taken N.pieces N.faults notes.old) (notes_told N.taken N.pieces N.faults notes.new) result) }
+{
+    for _ in 0..u64::MAX {
+        if let Some(heard) = hearing.next(workers, channels, notes) {
+            return heard;
+        }
+    }
+    hearing.end_for_memory(notes)
+}
+
+// Begins a session whose files have these names, and hears it.
+fn begin<R: Threads + Sync, G: Gate + Sync, S: Source, K: Sink, N: Sink>(
+    workers: &Workers<'_, R, G>,
+    names: List<Text>,
+    channels: &mut Channels<S, K>,
+    notes: &mut N,
+) -> Heard
+    requires { names ≡ names_of_session }
+    ensures { Listens channels.old channels.new (notes_told N.taken N.pieces N.faults notes.old) (notes_told N.taken N.pieces N.faults notes.new) result }
+{
+    every_text_is_a_source();
+    match Session::new(workers) {
+        Ok(session) => hear(workers, Hearing::new(session, names), channels, notes),
+        Err(SessionFault::Prelude(why)) => tell_refusal(workers.alloc, &names, why, 0, notes),
+        Err(SessionFault::Memory) => tell_no_memory(0, notes),
+    }
+}
+
+/// Hears a session on the lines of the input, whose output and notes go out at once.
+pub fn listen<R: Threads + Sync, G: Gate + Sync, S: Source, K: Sink, N: Sink>(
+    workers: &Workers<'_, R, G>,
+    channels: &mut Channels<S, K>,
+    notes: &mut N,
+) -> Heard
+    ensures { Listens channels.old channels.new (notes_told N.taken N.pieces N.faults notes.old) (notes_told N.taken N.pieces N.faults notes.new) result }
+{
+    match file_names(workers.alloc) {
+        Ok(names) => begin(workers, names, channels, notes),
+        Err(_) => tell_no_memory(0, notes),
+    }
+}
