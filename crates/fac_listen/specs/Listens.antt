@@ -12,7 +12,7 @@ use Rattle.fac_session.specs.Heard.{Heard as HeardOf, file_names, last_note, lis
 use Rattle.fac_session.specs.Sessions.{Session, meant, session_of}
 use Rattle.fac_session.specs.SessionLines.{behind_waiting}
 use Rattle.fac_listener.specs.Replies.{AreSources, IsCutShort}
-use Rattle.fac_listener.specs.TextSources.{IsReadAs}
+use Rattle.fac_judge.specs.TextSources.{IsReadAs}
 use Rattle.fac_listen.specs.Devices.{devices_of, DevicesTold, DevicesStand, DevicesCount}
 use Rattle.fac_listen.specs.Fronts.{Front, StandsBehindLines, left_from}
 use Rattle.fac_listen.specs.SessionNotes.{NotesTold, AreNoted, EndsByLine, EndsTold, EndsToldIfMemory, bare, fault_note, memory_note}

@@ -18,8 +18,9 @@ use crate::hearing::Hearing;
 use crate::telling::{file_names, tell_no_memory, tell_refusal};
 use fac_base::{List, Text};
 use fac_io::{Sink, Source};
+use fac_judge::{SessionFault, every_text_is_a_source};
 use fac_lines::Channels;
-use fac_listener::{Session, SessionFault, every_text_is_a_source};
+use fac_listener::Session;
 use fac_par::{Gate, Workers};
 use std::thread::Threads;
 

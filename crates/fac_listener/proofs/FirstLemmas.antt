@@ -13,13 +13,13 @@ use Rattle.fac_notes.specs.Sources.{tree}
 use Rattle.fac_notes.specs.declared.report.Report.{Report}
 use Rattle.fac_vm.specs.SeenMachine.{MachineSeen}
 use Rattle.fac_session.specs.Sessions.{Session, first_session, on_first_names, on_first_verdict, session_of}
-use Rattle.fac_listener.specs.JudgedPrograms.{IsAccepted, IsRefused, check_report}
-use Rattle.fac_listener.specs.KnownTexts.{BeginsWith, IsFirst, IsKnownBehind, IsPreludeRefusal, KnownBehindAreKnown, RefusesSession}
+use Rattle.fac_judge.specs.JudgedPrograms.{IsAccepted, IsRefused, check_report}
+use Rattle.fac_judge.specs.KnownTexts.{BeginsWith, IsFirst, IsKnownBehind, IsPreludeRefusal, KnownBehindAreKnown, RefusesSession}
 use Rattle.fac_listener.specs.Replies.{IsFirstSession}
 use Rattle.fac_listener.specs.StandingSessions.{HasMachine}
 use Rattle.fac_listener.specs.declared.session.Session.{Session as SessionSeen}
 use Rattle.fac_listener.specs.inner.SessionSteps.{MachineBegins}
-use Rattle.fac_listener.proofs.KnownLemmas.{behind_none}
+use Rattle.fac_judge.proofs.KnownLemmas.{behind_none}
 
 -- the prelude's program is whole
 pub first_whole : KnownBehindAreKnown → (k : Known) (P : Program) → IsFirst k → P ≡ k.program → IsWhole P

@@ -24,9 +24,9 @@ use Rattle.fac_session.specs.Sessions.{Session, first_session}
 use Rattle.fac_session.specs.SessionLines.{line_world}
 use Rattle.fac_locals.specs.declared.closing.Closed.{Closed}
 use Rattle.fac_store.specs.ValueTrees.{objects_of, trees_of, values_in}
-use Rattle.fac_listener.specs.JudgedPrograms.{IsAccepted}
+use Rattle.fac_judge.specs.JudgedPrograms.{IsAccepted}
 use Rattle.fac_listener.specs.StandingSessions.{HoldsSession, IsHeld, IsHeldAs, IsReady, session_world, held_world}
-use Rattle.fac_listener.specs.TextImages.{IsMadeOf}
+use Rattle.fac_judge.specs.TextImages.{IsMadeOf}
 use Rattle.fac_listener.specs.inner.SessionLaws.{MachinesBegin, MachinesGoOn}
 use Rattle.fac_listener.specs.inner.SessionSteps.{MachineBegins, MachineGoesOn, line_session}
 use Rattle.fac_base.specs.declared.memory.Memory.{Memory}

@@ -1,9 +1,3 @@
-pub mod SourceLemmas
-pub mod ClosedNameLemmas
-pub mod JudgedLemmas
-pub mod ImageLemmas
-pub mod KnownLemmas
-pub mod MeaningLemmas
 pub mod TextLemmas
 pub mod RunLemmas
 pub mod ToldLemmas

@@ -20,12 +20,12 @@ use Rattle.fac_parse.specs.declared.reader.Why.TheVariants.{End}
 use Rattle.fac_vm.specs.SeenMachine.{MachineSeen}
 use Rattle.fac_session.specs.Sessions.{Session, Meant, waits, refuses, goes_on, meant}
 use Rattle.fac_session.specs.SessionLines.{Said, more, defined, ran, refused, failed, spent, Behind, line_run, line_world, of_phrase, of_run, on_meant, session_with, with_waiting}
-use Rattle.fac_listener.specs.KnownTexts.{IsKnownBehind}
+use Rattle.fac_judge.specs.KnownTexts.{IsKnownBehind}
 use Rattle.fac_listener.specs.Replies.{AreSources, IsAnswer, IsCutShort, StopsBehind, StopsWithin, TextReplies, ends_session, before_run, behind_run, in_run, run_output}
 use Rattle.fac_listener.specs.StandingSessions.{HasMachine, HoldsSession, Stands, session_world}
-use Rattle.fac_listener.specs.TextMeanings.{has_item}
-use Rattle.fac_listener.specs.MeantTexts.{ComesTo, Means}
-use Rattle.fac_listener.specs.TextSources.{OneSource}
+use Rattle.fac_judge.specs.TextMeanings.{has_item}
+use Rattle.fac_judge.specs.MeantTexts.{ComesTo, Means}
+use Rattle.fac_judge.specs.TextSources.{OneSource}
 use Rattle.fac_listener.specs.declared.reply.Reply.{Reply}
 use Rattle.fac_listener.specs.declared.reply.Reply.TheVariants as reply
 use Rattle.fac_listener.specs.declared.session.Session.{Session as SessionSeen}

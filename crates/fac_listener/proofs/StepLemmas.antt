@@ -20,19 +20,19 @@ use Rattle.fac_source.specs.declared.tree.Form.{Form}
 use Rattle.fac_vm.specs.SeenMachine.{MachineSeen, callables_in, stack_in}
 use Rattle.fac_session.specs.Sessions.{Session, Meant, goes_on, meant, on_names, on_verdict}
 use Rattle.fac_session.specs.SessionLines.{behind_waiting}
-use Rattle.fac_listener.specs.JudgedPrograms.{IsAccepted}
-use Rattle.fac_listener.specs.KnownTexts.{GoesOn, GoesOnWith, IsKnownBehind, KnownBehindAreKnown, OneKnown}
+use Rattle.fac_judge.specs.JudgedPrograms.{IsAccepted}
+use Rattle.fac_judge.specs.KnownTexts.{GoesOn, GoesOnWith, IsKnownBehind, KnownBehindAreKnown, OneKnown}
 use Rattle.fac_listener.specs.Replies.{AreSources, Replies, TextReplies}
 use Rattle.fac_listener.specs.StandingSessions.{HasMachine, HoldsSession, Stands}
-use Rattle.fac_listener.specs.TextMeanings.{IsAcceptedText, IsMeaning}
-use Rattle.fac_listener.specs.TextSources.{OneSource}
-use Rattle.fac_listener.specs.declared.meaning.Accepted.{Accepted}
-use Rattle.fac_listener.specs.declared.meaning.Meaning.{Meaning}
+use Rattle.fac_judge.specs.TextMeanings.{IsAcceptedText, IsMeaning}
+use Rattle.fac_judge.specs.TextSources.{OneSource}
+use Rattle.fac_judge.specs.declared.meaning.Accepted.{Accepted}
+use Rattle.fac_judge.specs.declared.meaning.Meaning.{Meaning}
 use Rattle.fac_listener.specs.declared.reply.Reply.{Reply}
 use Rattle.fac_listener.specs.declared.session.Session.{Session as SessionSeen}
 use Rattle.fac_listener.specs.inner.SessionLaws.{PhrasesAreNotStuck}
 use Rattle.fac_listener.specs.inner.SessionSteps.{AnswersLine, HoldsReady, MachineGoesOn, TextGoesOn, has_phrase, line_session}
-use Rattle.fac_listener.proofs.KnownLemmas.{one_more_text}
+use Rattle.fac_judge.proofs.KnownLemmas.{one_more_text}
 use Rattle.fac_listener.proofs.SessionLemmas.{text_replies}
 
 -- The number of values.

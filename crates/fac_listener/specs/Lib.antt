@@ -1,9 +1,3 @@
-pub mod TextSources
-pub mod JudgedPrograms
-pub mod TextImages
-pub mod KnownTexts
-pub mod MeantTexts
-pub mod TextMeanings
 pub mod MachineTexts
 pub mod StackTexts
 pub mod StandingSessions

@@ -11,11 +11,11 @@ use Rattle.fac_notes.specs.Sources.{Source}
 use Rattle.fac_prelude.specs.PreludeText.{prelude_text}
 use Rattle.fac_session.specs.Sessions.{Session, Meant, goes_on, meant, session_of}
 use Rattle.fac_session.specs.SessionLines.{Said, more, defined, ran, refused, failed, spent, Behind, behind_waiting, line_run, on_meant, stack_text}
-use Rattle.fac_listener.specs.KnownTexts.{IsPreludeRefusal}
+use Rattle.fac_judge.specs.KnownTexts.{IsPreludeRefusal}
 use Rattle.fac_listener.specs.StandingSessions.{Stands}
-use Rattle.fac_listener.specs.TextSources.{IsReadAs}
-use Rattle.fac_listener.specs.declared.known_texts.SessionFault.{SessionFault}
-use Rattle.fac_listener.specs.declared.known_texts.SessionFault.TheVariants as fault
+use Rattle.fac_judge.specs.TextSources.{IsReadAs}
+use Rattle.fac_judge.specs.declared.known_texts.SessionFault.{SessionFault}
+use Rattle.fac_judge.specs.declared.known_texts.SessionFault.TheVariants as fault
 use Rattle.fac_listener.specs.declared.reply.Reply.{Reply}
 use Rattle.fac_listener.specs.declared.reply.Reply.TheVariants as reply
 use Rattle.fac_listener.specs.declared.session.Session.{Session as SessionSeen}

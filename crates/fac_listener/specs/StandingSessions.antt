@@ -14,7 +14,7 @@ use Rattle.fac_carry.specs.Carries.{Carries}
 use Rattle.fac_carry.specs.MachineView.{template_phrases, values_view, world_view}
 use Rattle.fac_standing.specs.Standing.{IsImageOf, ValuesStand, ObjectsStand}
 use Rattle.fac_session.specs.Sessions.{Session}
-use Rattle.fac_listener.specs.KnownTexts.{IsKnownBehind}
+use Rattle.fac_judge.specs.KnownTexts.{IsKnownBehind}
 use Rattle.fac_listener.specs.declared.session.Session.{Session as SessionSeen}
 
 -- the world of a session at the beginning of a line, of which this is left of the input

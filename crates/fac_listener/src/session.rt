@@ -6,22 +6,17 @@ ghost use Rattle.fac_notes.specs.Sources.{Source as Comes};
 ghost use Rattle.fac_check.specs.Judged.{StandsForWhole};
 ghost use Rattle.fac_session.specs.Sessions.{Session as Standing, goes_on, meant};
 ghost use Rattle.fac_session.specs.SessionLines.{behind_waiting};
-ghost use Rattle.fac_listener.specs.JudgedPrograms.{IsAccepted};
-ghost use Rattle.fac_listener.specs.KnownTexts.{GoesOn, IsKnownBehind};
+ghost use Rattle.fac_judge.specs.JudgedPrograms.{IsAccepted};
+ghost use Rattle.fac_judge.specs.KnownTexts.{GoesOn, IsKnownBehind};
 ghost use Rattle.fac_listener.specs.Replies.{AreSources, IsInputFault, IsWriteFault, Replies, StartsSession, TextReplies, ends_session};
 ghost use Rattle.fac_listener.specs.StandingSessions.{HoldsSession, Stands, has_ended};
 ghost use Rattle.fac_lang.specs.LongerPrograms.{IsLonger};
 ghost use Rattle.fac_vm.specs.GoingOn.{GoesOnFrom, IsLongerImage};
 ghost use Rattle.fac_vm.specs.SeenMachine.{held_in};
-ghost use Rattle.fac_listener.specs.TextMeanings.{IsMeaning};
+ghost use Rattle.fac_judge.specs.TextMeanings.{IsMeaning};
 ghost use Rattle.fac_listener.specs.inner.SessionSteps.{AnswersLine, HoldsReady, MachineBegins, MachineGoesOn, TextGoesOn, has_phrase};
 
 use crate::Reply;
-use crate::imaging::image_of;
-use crate::judging::{Judged, judge};
-use crate::known_texts::{SessionFault, first_known, known_behind};
-use crate::laws::{known_behind_texts_is_known, one_known, one_source};
-use crate::meaning::{Accepted, Meaning, meaning_of, program_of};
 use crate::running::run_phrase;
 use crate::session_laws::{
     images_are_longer, machines_begin, machines_go_on, phrases_are_not_stuck,
@@ -30,6 +25,10 @@ use fac_base::{Bytes, List, Memory};
 use fac_check::Checked;
 use fac_code::Image;
 use fac_io::{Sink, Source};
+use fac_judge::{
+    Accepted, Judged, Meaning, SessionFault, first_known, image_of, judge, known_behind,
+    known_behind_texts_is_known, meaning_of, one_known, one_source, program_of,
+};
 use fac_known::known_programs_stay;
 use fac_lines::Channels;
 use fac_notes::Report;

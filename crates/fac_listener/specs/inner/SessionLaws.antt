@@ -15,9 +15,9 @@ use Rattle.fac_vm.specs.Runs.{RunsOn}
 use Rattle.fac_vm.specs.SeenMachine.{MachineSeen, callables_in, held_in}
 use Rattle.fac_vm.specs.declared.machine.StopKind.{StopKind}
 use Rattle.fac_session.specs.Sessions.{Session}
-use Rattle.fac_listener.specs.JudgedPrograms.{IsAccepted}
+use Rattle.fac_judge.specs.JudgedPrograms.{IsAccepted}
 use Rattle.fac_listener.specs.StandingSessions.{HoldsSession, IsReady}
-use Rattle.fac_listener.specs.TextImages.{IsMadeOf}
+use Rattle.fac_judge.specs.TextImages.{IsMadeOf}
 use Rattle.fac_listener.specs.declared.reply.Reply.{Reply}
 use Rattle.fac_listener.specs.inner.PhraseRuns.{AnswersPhrase, AnswersStop, CanCut, doubled, session_run}
 use Rattle.fac_listener.specs.inner.SessionSteps.{HoldsReady, MachineBegins, MachineGoesOn}

@@ -9,12 +9,12 @@ use Rattle.fac_names.specs.declared.known.Known.{Known}
 use Rattle.fac_vm.specs.SeenMachine.{MachineSeen}
 use Rattle.fac_session.specs.Sessions.{Session, first_session}
 use Rattle.fac_session.specs.SessionLines.{ran, failed, spent, line_world, session_with}
-use Rattle.fac_listener.specs.JudgedPrograms.{IsAccepted}
-use Rattle.fac_listener.specs.KnownTexts.{GoesOn, IsKnownBehind}
+use Rattle.fac_judge.specs.JudgedPrograms.{IsAccepted}
+use Rattle.fac_judge.specs.KnownTexts.{GoesOn, IsKnownBehind}
 use Rattle.fac_listener.specs.Replies.{IsAnswer}
 use Rattle.fac_listener.specs.StandingSessions.{HoldsSession, IsReady, Stands}
-use Rattle.fac_listener.specs.TextMeanings.{has_item}
-use Rattle.fac_listener.specs.declared.meaning.Accepted.{Accepted}
+use Rattle.fac_judge.specs.TextMeanings.{has_item}
+use Rattle.fac_judge.specs.declared.meaning.Accepted.{Accepted}
 use Rattle.fac_listener.specs.declared.reply.Reply.{Reply}
 use Rattle.fac_listener.specs.declared.reply.Reply.TheVariants as reply
 use Rattle.fac_listener.specs.declared.session.Session.{Session as SessionSeen}

@@ -1,0 +1,4 @@
+-- What only the contracts of inner functions cite.
+pub mod ReadTexts
+pub mod ClosedNames
+pub mod NamedTexts

@@ -1,5 +1,0 @@
-use Rattle.fac_listener.proofs.KnownLemmas.{wanted_prelude}
-use Rattle.fac_listener.proofs.known_texts.prelude_of_forms.Goals as goal
-
-pub returns-in-Err : goal.returns-in-Err
-returns-in-Err c = wanted_prelude c.args.forms
