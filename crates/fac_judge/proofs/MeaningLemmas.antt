@@ -29,10 +29,11 @@ verdict_means : (k q : Known) (count : ℕ) (forms : List Form) (first : ℕ × 
 unfolding GoesOnWith Means
 verdict_means k q count forms first next e = ap (on_names count) next ∙ ap (on_verdict q) e
 
-pub refused_text : (k q : Known) (count : ℕ) (text : List ℕ) (why : Report) → GoesOn k text q → IsRefused q.program count why → ComesTo k count text (refuses why)
-refused_text k q count text why next r =
-    let first : ComesTo k count text (refuses (check_report q.program r.first)) = record { source = tree next.forms; is_read = next.is_read; means = verdict_means k q count next.forms r.first next.goes_on r.verdict_is } in
-    subst (λ (x : Report). ComesTo k count text (refuses x)) (sym r.report_is) first
+pub refused_text : (k q : Known) (count : ℕ) (text : List ℕ) (P : Program) (why : Report) → GoesOn k text q → q.program ≡ P → IsRefused P count why → ComesTo k count text (refuses why)
+refused_text k q count text P why next same r =
+    let first : ComesTo k count text (refuses (check_report q.program r.first)) =
+    record { source = tree next.forms; is_read = next.is_read; means = verdict_means k q count next.forms r.first next.goes_on (ap (λ (p : Program). verdict p count) same ∙ r.verdict_is) } in
+    subst (λ (x : Report). ComesTo k count text (refuses x)) (ap (λ (p : Program). check_report p r.first) same ∙ sym r.report_is) first
 
 -- or with an accepted one
 pub accepted_text :
