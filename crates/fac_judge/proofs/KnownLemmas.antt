@@ -230,10 +230,11 @@ text_named k text forms (Err none.Memory) read h = tt
 
 -- one text more of those that are gone through
 pub one_step :
-    (texts : List (List ℕ)) (i : ℕ) (p q : Known) (text : List ℕ) → i < length texts → text ≡ get_or texts i [] → IsKnownBehind (take i texts) p → GoesOn p text q → IsKnownBehind (take (i + 1) texts) q
+    (texts : List (List ℕ)) (i : ℕ) (p q : Known) (text : List ℕ) → i < length texts → text ≡ get_or texts i text → IsKnownBehind (take i texts) p → GoesOn p text q → IsKnownBehind (take (i + 1) texts) q
 one_step texts i p q text below is before next =
-    let first : GoesOn p (get_or texts i []) q = subst (λ (t : List ℕ). GoesOn p t q) is next in
-    subst (λ (ts : List (List ℕ)). IsKnownBehind ts q) (sym (take_more texts i [] below)) (one_more_text (take i texts) p (get_or texts i []) q before first)
+    let there = get_or texts i text in
+    let first : GoesOn p there q = subst (λ (t : List ℕ). GoesOn p t q) is next in
+    subst (λ (ts : List (List ℕ)). IsKnownBehind ts q) (sym (take_more texts i text below)) (one_more_text (take i texts) p there q before first)
 
 -- all of them
 pub all_texts : (texts : List (List ℕ)) (i : ℕ) (k : Known) → length texts ≤ i → IsKnownBehind (take i texts) k → IsKnownBehind texts k
