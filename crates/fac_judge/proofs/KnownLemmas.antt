@@ -20,7 +20,7 @@ use Rattle.fac_known.specs.Laws.{FilesAreKnown, KnownGoesOn, SessionsBeginKnown}
 use Rattle.fac_names.specs.Resolution.{first_reading}
 use Rattle.fac_names.specs.Resolved.{going_on, read_files}
 use Rattle.fac_names.specs.declared.known.Known.{Known}
-use Rattle.fac_notes.specs.Sources.{Source, no_tokens, no_tree, tree}
+use Rattle.fac_notes.specs.Sources.{no_tokens, no_tree, tree}
 use Rattle.fac_session.specs.Sessions.{on_first_names, on_names, refuses, waits}
 use Rattle.fac_judge.specs.TextSources.{IsReadAs, OneSource}
 use Rattle.fac_judge.specs.KnownTexts.{BeginsWith, GoOn, GoesOn, GoesOnWith, IsFirst, IsKnownBehind, IsPreludeRefusal, RefusesSession}
