@@ -57,3 +57,15 @@ left_from source input (Ok s) = left_behind source (suc (length input)) s input
 pub record StandsBehindLines (source : List ℕ → Source) (s : Session) (input : List ℕ) (f : Front) : Type 0 where
   pub count : ℕ
   pub are : lines_behind source count s input ≡ Some f
+
+-- a line of an input, from a session on: what stands before it, its bytes, and the input behind it
+pub record LineOf (source : List ℕ → Source) (s : Session) (input : List ℕ) : Type 0 where
+  pub front : Front
+  pub stands : StandsBehindLines source s input front
+  pub bytes : List ℕ
+  pub rest : List ℕ
+  pub is_line : line_of front.left ≡ Line bytes rest
+
+-- what it comes to
+abbrev pub comes_to : {source : List ℕ → Source} {s : Session} {input : List ℕ} → LineOf source s input → Behind
+comes_to {source} l = line source l.front.session l.bytes l.rest
