@@ -1,0 +1,8 @@
+pub mod RunInputs
+pub mod LineInputs
+pub mod FrontLemmas
+pub mod NoteLemmas
+pub mod EmptyTexts
+pub mod WaitingTexts
+pub mod ReplyLemmas
+pub mod HearLemmas

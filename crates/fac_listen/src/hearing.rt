@@ -17,6 +17,7 @@ use crate::Heard;
 use crate::telling::{done, tell_fault, tell_line, tell_no_memory, tell_refusal, tell_too_long};
 use fac_base::{Bytes, List, Text};
 use fac_io::{Sink, Source};
+use fac_judge::one_source;
 use fac_lines::{Channels, LineFault};
 use fac_listener::{Reply, Session};
 use fac_notes::Report;
@@ -115,6 +116,7 @@ impl Hearing {
         requires open { has_ended self.old.session ≡ false }
         ensures { OnChannels channels.old channels.new (λ before now input left. (source : Items ℕ → Comes) (f : Front) → AreSources source → IsBehind source f self.old → TakesLine source f line input left (devices_of channels.old) (devices_of channels.new) (notes_told N.taken N.pieces N.faults notes.old) (notes_told N.taken N.pieces N.faults notes.new) self.new result) }
     {
+        one_source();
         let reply = self.session.line(workers, line.as_slice(), channels);
         self.on_reply(workers.alloc, reply, notes)
     }
