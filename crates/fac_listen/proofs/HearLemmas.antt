@@ -36,7 +36,7 @@ use Rattle.fac_listen.specs.inner.Hearings.{IsBehind, Waits}
 use Rattle.fac_listen.specs.inner.NextLines.{EndsAt, EndsAtNext, EndsThere, EndsWithout, GoesOnWith, LineEnds, NextTaken, NextTooLong, NothingLeft, NoteEnds, InputFails, NoMemoryForLine, TakesLine, TakesNext}
 use Rattle.fac_listen.proofs.FrontLemmas.{behind_front, heard_to_the_end, left_at_the_end, long_line_ends, long_line_leaves, no_line_ends, no_line_leaves, stands_first, stands_more}
 use Rattle.fac_listen.proofs.NoteLemmas.{count_then, ends_whole, grows_none, grows_still, grows_then, none_noted, noted_on, same_devices, stand_still, stand_then}
-use Rattle.fac_listen.proofs.WaitingTexts.{first_waits_never, is_refused, prelude_note}
+use Rattle.fac_listen.proofs.PreludeLemmas.{first_waits_never, is_refused, prelude_note}
 
 -- The next line.
 

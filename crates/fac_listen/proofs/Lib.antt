@@ -4,5 +4,7 @@ pub mod FrontLemmas
 pub mod NoteLemmas
 pub mod EmptyTexts
 pub mod WaitingTexts
+pub mod PreludeLemmas
 pub mod ReplyLemmas
 pub mod HearLemmas
+pub mod SessionCauses
