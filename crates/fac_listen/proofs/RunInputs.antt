@@ -6,7 +6,7 @@ use Rattle.fac_base.specs.declared.limits.TheConstants.{MOST_PAIRS, MOST_LINE_BY
 use Rattle.fac_lang.specs.declared.core_table.CoreWord.{CoreWord}
 use Rattle.fac_lang.specs.declared.core_table.CoreWord.TheVariants.{Call, Dip, If, Execute, Boa, Cond}
 use Rattle.fac_lang.specs.declared.error_name.ErrorName.{ErrorName}
-use Rattle.fac_lang.specs.declared.error_name.ErrorName.TheVariants.{NotTuple, NoSlot, NoMethod, NoNextMethod}
+use Rattle.fac_lang.specs.declared.error_name.ErrorName.TheVariants.{NotTuple, NoSlot, NoMethod, NoNextMethod, WrongValues}
 use Rattle.fac_lang.specs.declared.program.Program.{Program}
 use Rattle.fac_lang.specs.declared.program.Sort.{Sort}
 use Rattle.fac_lang.specs.declared.program.Sort.TheVariants.{Prim as prim, Core as core, Body as body, Past as past, Itself as itself, Class as class, Isa as isa, Getter as getter, Setter as setter, Putter as putter, Generic as generic, Method as method}
@@ -14,17 +14,21 @@ use Rattle.fac_lang.specs.Equality.{equal_pairs}
 use Rattle.fac_lang.specs.Printed.{Names, printed}
 use Rattle.fac_lang.specs.Phrases.{Plain, int, yes, no, str, iota, wrd, arr, tup, Phrase, end, then, Item, lit, lit_arr, quot, word, bind, local, fry, hole, call_effect, execute_effect, next_method, made, next_after, held, known, Value, plain, fun, Callable, of_phrase, cur, both}
 use Rattle.fac_lang.specs.World.{World, State, push, push_each}
-use Rattle.fac_lang.specs.Substitution.{put_local}
+use Rattle.fac_lang.specs.Substitution.{put_local, put_holes}
 use Rattle.fac_lang.specs.Procedures.{Procedure, leaves, answers, answers_array, answers_tuple, curries, composes, fails, looks, adds, opens, puts, compares, prints, asks, writes, reads, Gives, gives, bad, Fn, fn0, fn1, fn2, fn3, followed, by_inputs, places_from, value_at, array_in, opened, opened_places, with_element, made_or, line_from, line_in, behind_line}
 use Rattle.fac_lang.specs.Primitives.{Primitive, prim_numbered, prim_fn}
 use Rattle.fac_lang.specs.Objects.{Slot, or_bad, name_at, seen_tuple, slot_place, want_slot, get_slot, set_slot, put_slot, tuple_of, kind_of, made_tuple}
-use Rattle.fac_lang.specs.Classes.{pick, next}
+use Rattle.fac_lang.specs.Classes.{has_kind, pick, next}
+use Rattle.fac_lang.specs.Operations.{seen_no}
 use Rattle.fac_lang.specs.Eval.{Result, Done, Failed, Spent, Stuck, then_do, Act, wrong, fails as act_fails, goes, binds, runs, Run, run_callable, go_on, eval}
-use Rattle.fac_lang.specs.Meaning.{meaning_values, seen, curry_of, compose_of, names, sort_of, taking1, taking2, taking3, taking, with_callable, with_word, given, does, either, does_call, does_dip, does_if, does_execute, makes_tuple, does_boa, core_act, prim_act, enters, sort_act, generic_of, tested_call, tested_execute, callable_fits, word_fits, pushes_array, act, run}
+use Rattle.fac_lang.specs.Meaning.{meaning_values, seen, curry_of, compose_of, names, sort_of, taking1, taking2, taking3, taking, with_callable, with_word, given, does, either, error, one_item, run_phrase, truth_value, word_call, word_execute, makes_tuple, core_act, prim_act, enters, sort_act, generic_of, tested_call, tested_execute, callable_fits, word_fits, pushes_array, act, run}
 
 -- Lines.
 
-cut_first : (t : Bool) (b : ℕ) (bs : List ℕ) (r : List ℕ × List ℕ) → length r.1 ≤ length bs → length (elim t [ true ↦ ([], bs) | false ↦ (b ∷ r.0, r.1) ]).1 ≤ suc (length bs)
+abbrev cut_by : Bool → ℕ → List ℕ → List ℕ × List ℕ → List ℕ × List ℕ
+cut_by t b bs r = elim t [ true ↦ ([], bs) | false ↦ (b ∷ r.0, r.1) ]
+
+cut_first : (t : Bool) (b : ℕ) (bs : List ℕ) (r : List ℕ × List ℕ) → length r.1 ≤ length bs → length (cut_by t b bs r).1 ≤ suc (length bs)
 cut_first true b bs r h = omega arith
 cut_first false b bs r h = omega (arith, h)
 
@@ -153,9 +157,9 @@ word_falls k (fun c) go h = tt
 
 does_falls : (k a : ℕ) (f : Fn Value) (st : State Value) → FnAtMost f → length st.world.input ≤ k → ActAtMost k (does a f st)
 does_falls k a (fn0 f) st h le = given_falls k a st.stack (f st.world) (h st.world k le)
-does_falls k a (fn1 f) st h le = taking1_falls k st.stack st.world _ (λ x r. given_falls k a r (f x st.world) (h x st.world k le))
-does_falls k a (fn2 f) st h le = taking2_falls k st.stack st.world _ (λ x y r. given_falls k a r (f x y st.world) (h x y st.world k le))
-does_falls k a (fn3 f) st h le = taking3_falls k st.stack st.world _ (λ x y z r. given_falls k a r (f x y z st.world) (h x y z st.world k le))
+does_falls k a (fn1 f) st h le = taking1_falls k st.stack st.world (λ x st'. given a st'.stack (f x st'.world)) (λ x r. given_falls k a r (f x st.world) (h x st.world k le))
+does_falls k a (fn2 f) st h le = taking2_falls k st.stack st.world (λ x y st'. given a st'.stack (f x y st'.world)) (λ x y r. given_falls k a r (f x y st.world) (h x y st.world k le))
+does_falls k a (fn3 f) st h le = taking3_falls k st.stack st.world (λ x y z st'. given a st'.stack (f x y z st'.world)) (λ x y z r. given_falls k a r (f x y z st.world) (h x y z st.world k le))
 
 either_falls : (k : ℕ) (t : Bool) (a b : Act) → ActAtMost k a → ActAtMost k b → ActAtMost k (either t a b)
 either_falls k true a b g h = g
@@ -164,14 +168,20 @@ either_falls k false a b g h = h
 module _ (P : Program) where
   makes_falls : (k : ℕ) (o : Option (ℕ × ℕ)) (st : State Value) → length st.world.input ≤ k → ActAtMost k (makes_tuple P o st)
   makes_falls k None st le = tt
-  makes_falls k (Some c) st le = taking_falls k c.1 [] st.stack st.world _ (λ vs r. given_falls k 0 r (made_tuple meaning_values (names P) c.0 vs st.world) le)
+  makes_falls k (Some c) st le = taking_falls k c.1 [] st.stack st.world (λ vs st'. given 0 st'.stack (made_tuple meaning_values (names P) c.0 vs st'.world)) (λ vs r. given_falls k 0 r (made_tuple meaning_values (names P) c.0 vs st.world) le)
 
   core_falls : (k : ℕ) (c : CoreWord) (st : State Value) → length st.world.input ≤ k → ActAtMost k (core_act P c st)
-  core_falls k Call st le = taking1_falls k st.stack st.world _ (λ q r. callable_falls k q _ (λ c. le))
-  core_falls k Dip st le = taking2_falls k st.stack st.world _ (λ x q r. callable_falls k q _ (λ c. le))
-  core_falls k If st le = taking3_falls k st.stack st.world _ (λ t p q r. callable_falls k p _ (λ c. callable_falls k q _ (λ d. le)))
-  core_falls k Execute st le = taking1_falls k st.stack st.world _ (λ v r. word_falls k v _ (λ a. le))
-  core_falls k Boa st le = taking1_falls k st.stack st.world _ (λ v r. word_falls k v _ (λ a. makes_falls k ((names P).tuple_class a) (record { stack = r; world = st.world }) le))
+  core_falls k Call st le = taking1_falls k st.stack st.world (λ q st'. with_callable q (λ c. runs c st' [])) (λ q r. callable_falls k q (λ c. runs c (record { stack = r; world = st.world }) []) (λ c. le))
+  core_falls k Dip st le = taking2_falls k st.stack st.world (λ x q st'. with_callable q (λ c. runs c st' (x ∷ []))) (λ x q r. callable_falls k q (λ c. runs c (record { stack = r; world = st.world }) (x ∷ [])) (λ c. le))
+  core_falls k If st le =
+      taking3_falls k st.stack st.world (λ t p q st'. with_callable p (λ c. with_callable q (λ d. runs (elim (seen_no (seen t)) [ true ↦ d | false ↦ c ]) st' [])))
+      (λ t p q r.
+      callable_falls k p (λ c. with_callable q (λ d. runs (elim (seen_no (seen t)) [ true ↦ d | false ↦ c ]) (record { stack = r; world = st.world }) []))
+      (λ c. callable_falls k q (λ d. runs (elim (seen_no (seen t)) [ true ↦ d | false ↦ c ]) (record { stack = r; world = st.world }) []) (λ d. le)))
+  core_falls k Execute st le = taking1_falls k st.stack st.world (λ v st'. with_word v (λ a. run_phrase (one_item (word a)) st')) (λ v r. word_falls k v (λ a. run_phrase (one_item (word a)) (record { stack = r; world = st.world })) (λ a. le))
+  core_falls k Boa st le =
+      taking1_falls k st.stack st.world (λ v st'. with_word v (λ a. makes_tuple P ((names P).tuple_class a) st'))
+      (λ v r. word_falls k v (λ a. makes_tuple P ((names P).tuple_class a) (record { stack = r; world = st.world })) (λ a. makes_falls k ((names P).tuple_class a) (record { stack = r; world = st.world }) le))
   core_falls k Cond st le = tt
 
   prim_act_falls : (k a : ℕ) (o : Option Primitive) (st : State Value) → length st.world.input ≤ k → ActAtMost k (prim_act P a o st)
@@ -190,21 +200,23 @@ module _ (P : Program) where
   sort_falls k a (Some (past t)) st le = le
   sort_falls k a (Some itself) st le = le
   sort_falls k a (Some (class c)) st le = le
-  sort_falls k a (Some (isa c)) st le = taking1_falls k st.stack st.world _ (λ v r. le)
+  sort_falls k a (Some (isa c)) st le = taking1_falls k st.stack st.world (λ v st'. goes (push (truth_value (has_kind P.classes c (kind_of meaning_values (names P) st'.world v))) st')) (λ v r. le)
   sort_falls k a (Some (getter s)) st le = does_falls k a (get_slot meaning_values (names P) s) st (get_falls (names P) s) le
   sort_falls k a (Some (setter s)) st le = does_falls k a (set_slot meaning_values (names P) s) st (set_falls (names P) s) le
   sort_falls k a (Some (putter s)) st le = does_falls k a (put_slot meaning_values (names P) s) st (put_falls (names P) s) le
-  sort_falls k a (Some generic) st le = taking1_falls k st.stack st.world _ (λ v r. enters_falls k (pick P a (kind_of meaning_values (names P) st.world v)) NoMethod a v (record { stack = r; world = st.world }) le)
+  sort_falls k a (Some generic) st le =
+      taking1_falls k st.stack st.world (λ v st'. enters P (pick P a (kind_of meaning_values (names P) st'.world v)) NoMethod a v st')
+      (λ v r. enters_falls k (pick P a (kind_of meaning_values (names P) st.world v)) NoMethod a v (record { stack = r; world = st.world }) le)
   sort_falls k a (Some (method c g t)) st le = le
 
-  array_falls : (k : ℕ) (o : Option ℕ) (st : State Value) → length st.world.input ≤ k → ActAtMost k (pushes_array P o st)
-  array_falls k None st le = tt
-  array_falls k (Some a) st le = le
-
   module _ (fits : Height → Height → Bool) (heights : Callable → Option Height) where
+    array_falls : (k : ℕ) (o : Option ℕ) (st : State Value) → length st.world.input ≤ k → ActAtMost k (pushes_array P fits heights o st)
+    array_falls k None st le = tt
+    array_falls k (Some a) st le = le
+
     call_falls : (k : ℕ) (h : Height) (v : Value) (st : State Value) → length st.world.input ≤ k → ActAtMost k (tested_call P fits heights h v st)
     call_falls k h (plain p) st le = le
-    call_falls k h (fun c) st le = either_falls k (callable_fits P fits heights h c) _ _ le le
+    call_falls k h (fun c) st le = either_falls k (callable_fits P fits heights h c) (runs c st []) (error WrongValues (fun c) word_call st) le le
 
     execute_falls : (k : ℕ) (h : Height) (v : Value) (st : State Value) → length st.world.input ≤ k → ActAtMost k (tested_execute P fits heights h v st)
     execute_falls k h (fun c) st le = le
@@ -213,7 +225,7 @@ module _ (P : Program) where
     execute_falls k h (plain no) st le = le
     execute_falls k h (plain (str bs)) st le = le
     execute_falls k h (plain (iota n)) st le = le
-    execute_falls k h (plain (wrd a)) st le = either_falls k (word_fits P fits h a) _ _ le le
+    execute_falls k h (plain (wrd a)) st le = either_falls k (word_fits P fits h a) (run_phrase (one_item (word a)) st) (error WrongValues (plain (wrd a)) word_execute st) le le
     execute_falls k h (plain (arr a)) st le = le
     execute_falls k h (plain (tup a)) st le = le
 
@@ -222,15 +234,17 @@ module _ (P : Program) where
     act_falls k (lit_arr a) st le = array_falls k (slice_get st.world.literals a) st le
     act_falls k (quot t) st le = le
     act_falls k (word a) st le = sort_falls k a (sort_of P a) st le
-    act_falls k (bind x) st le = taking1_falls k st.stack st.world _ (λ v r. le)
+    act_falls k (bind x) st le = taking1_falls k st.stack st.world (λ v st'. binds x v st') (λ v r. le)
     act_falls k (local x) st le = tt
-    act_falls k (fry t n) st le = taking_falls k n [] st.stack st.world _ (λ vs r. le)
+    act_falls k (fry t n) st le = taking_falls k n [] st.stack st.world (λ vs st'. goes (push (fun (of_phrase (put_holes (map held vs) t))) st')) (λ vs r. le)
     act_falls k (hole n) st le = tt
-    act_falls k (call_effect h) st le = taking1_falls k st.stack st.world _ (λ v r. call_falls k h v (record { stack = r; world = st.world }) le)
-    act_falls k (execute_effect h) st le = taking1_falls k st.stack st.world _ (λ v r. execute_falls k h v (record { stack = r; world = st.world }) le)
+    act_falls k (call_effect h) st le = taking1_falls k st.stack st.world (tested_call P fits heights h) (λ v r. call_falls k h v (record { stack = r; world = st.world }) le)
+    act_falls k (execute_effect h) st le = taking1_falls k st.stack st.world (tested_execute P fits heights h) (λ v r. execute_falls k h v (record { stack = r; world = st.world }) le)
     act_falls k next_method st le = tt
     act_falls k (made n) st le = tt
-    act_falls k (next_after m) st le = taking1_falls k st.stack st.world _ (λ v r. enters_falls k (next P m (kind_of meaning_values (names P) st.world v)) NoNextMethod (generic_of P (sort_of P m)) v (record { stack = r; world = st.world }) le)
+    act_falls k (next_after m) st le =
+        taking1_falls k st.stack st.world (λ v st'. enters P (next P m (kind_of meaning_values (names P) st'.world v)) NoNextMethod (generic_of P (sort_of P m)) v st')
+        (λ v r. enters_falls k (next P m (kind_of meaning_values (names P) st.world v)) NoNextMethod (generic_of P (sort_of P m)) v (record { stack = r; world = st.world }) le)
     act_falls k (held v) st le = le
     act_falls k (known m) st le = tt
 
@@ -264,7 +278,7 @@ go_falls go h k wrong t n le = tt
 go_falls go h k (act_fails e st) t n le = le
 go_falls go h k (goes st) t n le = h k t st n le
 go_falls go h k (binds x v st) t n le = h k (put_local x (held v) t) st n le
-go_falls go h k (runs c st back) t n le = then_falls k (run_callable go c st n) _ (callable_run_falls go h k c st n le) (λ st' m le'. h k t (push_each back st') m le')
+go_falls go h k (runs c st back) t n le = then_falls k (run_callable go c st n) (λ st' m. go t (push_each back st') m) (callable_run_falls go h k c st n le) (λ st' m le'. h k t (push_each back st') m le')
 
 module _ (does_at_once : Item → State Value → Act) (acts : (k : ℕ) (i : Item) (st : State Value) → length st.world.input ≤ k → ActAtMost k (does_at_once i st)) where
   eval_falls : (f : ℕ) → Falls (eval does_at_once f)
