@@ -73,13 +73,13 @@ module _ (source : List ℕ → Source) where
   -- To the end.
 
   pub heard_line : (n : ℕ) (s : Session) (input bytes rest : List ℕ) → line_of input ≡ Line bytes rest → heard source (suc n) s input ≡ before (line source s bytes rest) (heard source n (line source s bytes rest).session (line source s bytes rest).left)
-  heard_line n s input bytes rest e = rw e refl
+  heard_line n s input bytes rest e = rw (e, heard) refl
 
   pub heard_none : (n : ℕ) (s : Session) (input : List ℕ) → line_of input ≡ NoLine → heard source (suc n) s input ≡ at_end s.waiting (source s.waiting)
-  heard_none n s input e = rw e refl
+  heard_none n s input e = rw (e, heard) refl
 
   pub heard_long : (n : ℕ) (s : Session) (input rest : List ℕ) → line_of input ≡ LineTooLong rest → heard source (suc n) s input ≡ ended_with SYNTAX_REFUSED (Some too_long)
-  heard_long n s input rest e = rw e refl
+  heard_long n s input rest e = rw (e, heard) refl
 
   -- a session that ends behind some lines
   abbrev pub behind_front : Front → ℕ → Option Report → Heard

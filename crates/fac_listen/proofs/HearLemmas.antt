@@ -15,7 +15,7 @@ use Rattle.fac_notes.specs.declared.report.Report.{Report}
 use Rattle.fac_notes.specs.declared.report.Report.TheVariants as report
 use Rattle.fac_notes.specs.declared.status.TheConstants.{SUCCESS, SYNTAX_REFUSED, NO_MEMORY}
 use Rattle.fac_notes.proofs.LineLemmas.{some_bytes}
-use Rattle.fac_parse.specs.declared.reader.Why.TheVariants as why
+use Rattle.fac_parse.specs.declared.reader.Why.TheVariants.{End}
 use Rattle.fac_prelude.specs.PreludeText.{prelude_text}
 use Rattle.fac_session.specs.Heard.{Heard as HeardOf, at_end, ended_with, file_names, heard, heard_from, last_note, listened, told_of, too_long}
 use Rattle.fac_session.specs.Sessions.{Session, session_of}
@@ -136,7 +136,7 @@ module _ (source : List ℕ → Source) (s : Session) (input mid_left left : Lis
       }
 
   module _ (new : Hearing) (ending : Heard) (x : IsInside source s input mid_left first mid notes_first notes_mid old) where
-    line_at : (bytes rest : List ℕ) → line_of x.front.left ≡ Line bytes rest → LineOf source s input
+    abbrev line_at : (bytes rest : List ℕ) → line_of x.front.left ≡ Line bytes rest → LineOf source s input
     line_at bytes rest is = record { front = x.front; stands = x.stands; bytes = bytes; rest = rest; is_line = is }
 
     cut_at_note : (bytes rest : List ℕ) → line_of x.front.left ≡ Line bytes rest → NoteEnds x.front (line source x.front.session bytes rest) left mid now notes_mid notes_now ending → CutAtNote source s input left first now notes_first notes_now ending
@@ -199,14 +199,14 @@ module _ (source : List ℕ → Source) (s : Session) (input mid_left left : Lis
       ends = subst (λ (o : Option Report). EndsAt o file_names x.front.ticks notes_mid notes_now ending) w e;
     }
     end_is (b ∷ bs) waits w e =
-        let why : Report = report.Syntax 1 w.0 why.End in
+        let why : Report = report.Syntax 1 w.0 End in
         record {
           status = SYNTAX_REFUSED;
           refusal = Some why;
-          is = ap (at_end (b ∷ bs)) w.1.0;
+          is = ap (at_end (b ∷ bs)) w.1;
           ends =
               ends_whole (behind_front source x.front SYNTAX_REFUSED (Some why)) (note_of file_names why) notes_mid notes_now ending (some_bytes file_names why)
-                (subst (λ (o : Option Report). EndsAt o file_names x.front.ticks notes_mid notes_now ending) w.1.1 e);
+                (subst (λ (o : Option Report). EndsAt o file_names x.front.ticks notes_mid notes_now ending) w.2 e);
         }
 
     nothing_left : NothingLeft x.front left mid now notes_mid notes_now old.waits ending → HeardFrom source s input left first now notes_first notes_now ending
@@ -267,11 +267,11 @@ module _ (first old new : Hearing) (initial mid now : ChannelsTold) (notes_first
   -- there is a session behind which the next line stands
   pub stands_there : ((source : List ℕ → Source) × (s : Session) × AreSources source × IsBehind source (front_of s []) first) → (source : List ℕ → Source) × (f : Front) × AreSources source × IsBehind source f old
   stands_there r =
-      let b = r.2.1 in
+      let b = r.3 in
       let x : IsInside r.0 r.1 _ _ (devices_of initial) (devices_of mid) notes_first notes_mid old =
-          h.comes [] (λ e. refl) r.0 r.1 r.2.0 (record { stands = b.stands; names = b.names; waits = b.waits; ticks = b.ticks })
+          h.comes [] (λ e. refl) r.0 r.1 r.2 (record { stands = b.stands; names = b.names; waits = b.waits; ticks = b.ticks })
       in
-      (r.0, x.front, r.2.0, x.behind)
+      (r.0, x.front, r.2, x.behind)
 
 -- memory is wanted behind the last line that is counted
 pub memory_then :
@@ -302,8 +302,11 @@ is_open s code stands = machine_is s code code.machine refl stands.machine
 pub begins_behind : (source : List ℕ → Source) (s : Session) (input : List ℕ) (code : SessionSeen) (names : List (List ℕ)) → Stands s code → s.waiting ≡ [] → names ≡ file_names → IsBehind source (front_of s input) (record { session = code; names = names; waits = None; ticks = 0 })
 begins_behind source s input code names stands none is = record { stands = stands; names = is; waits = subst (λ (text : List ℕ). Waits source text None) (sym none) refl; ticks = refl }
 
-pub begins_there :
-    (code : SessionSeen) (names : List (List ℕ)) → EverySource → IsFirstSession code → names ≡ file_names → (source : List ℕ → Source) × (s : Session) × AreSources source × IsBehind source (front_of s []) (record { session = code; names = names; waits = None; ticks = 0 })
+-- there is a session before the first line, behind which the code's stands
+abbrev pub IsThere : Hearing → Type 0
+IsThere hearing = (source : List ℕ → Source) × (s : Session) × AreSources source × IsBehind source (front_of s []) hearing
+
+pub begins_there : (code : SessionSeen) (names : List (List ℕ)) → EverySource → IsFirstSession code → names ≡ file_names → IsThere (record { session = code; names = names; waits = None; ticks = 0 })
 begins_there code names every begun is =
     let source : List ℕ → Source = λ text. (every 1 text).0 in
     (source, begun.session, (λ text. (every 1 text).1), begins_behind source begun.session [] code names begun.stands (first_waits_never begun.source begun.session begun.is) is)
@@ -327,19 +330,21 @@ module _ (prelude : Source) (source : List ℕ → Source) (input left : List �
   by_session s is (inr cut) = inr (inr (record { session = s; is = is; cut = cut }))
 
 pub listens_from :
-    (code : SessionSeen) (names : List (List ℕ)) (before now : ChannelsTold) (notes_before notes_now : NotesTold) (ending : Heard) → EverySource → (begun : IsFirstSession code) → names ≡ file_names →
-    OnChannels before now (λ b a. EndsOn (record { session = code; names = names; waits = None; ticks = 0 }) before now notes_before notes_now ending) → Listens before now notes_before notes_now ending
-listens_from code names before now notes_before notes_now ending every begun is h =
+    (hearing : Hearing) (code : SessionSeen) (names : List (List ℕ)) (before now : ChannelsTold) (notes_before notes_now : NotesTold) (ending : Heard) → EverySource → (begun : IsFirstSession code) → names ≡ file_names → hearing ≡ record { session = code; names = names; waits = None; ticks = 0 } →
+    OnChannels before now (λ b a. EndsOn hearing before now notes_before notes_now ending) → Listens before now notes_before notes_now ending
+listens_from hearing code names before now notes_before notes_now ending every begun is begins h =
     let source : List ℕ → Source = λ text. (every 1 text).0 in
     let are : AreSources source = λ text. (every 1 text).1 in
-    reads_so before.input now.input (EndsOn (record { session = code; names = names; waits = None; ticks = 0 }) before now notes_before notes_now ending) (λ input left. ListensOn input left (devices_of before) (devices_of now) notes_before notes_now ending) h
+    reads_so before.input now.input (EndsOn hearing before now notes_before notes_now ending) (λ input left. ListensOn input left (devices_of before) (devices_of now) notes_before notes_now ending) h
     (λ input left e.
     record {
       prelude = begun.source;
       source = source;
       is_read = begun.is_read;
       are_read = are;
-      ends = by_session begun.source source input left (devices_of before) (devices_of now) notes_before notes_now ending begun.session begun.is (e source begun.session are (begins_behind source begun.session input code names begun.stands (first_waits_never begun.source begun.session begun.is) is));
+      ends = by_session begun.source source input left (devices_of before) (devices_of now) notes_before notes_now ending begun.session begun.is
+          (e source begun.session are
+            (subst (λ (x : Hearing). IsBehind source (front_of begun.session input) x) (sym begins) (begins_behind source begun.session input code names begun.stands (first_waits_never begun.source begun.session begun.is) is)));
     })
 
 -- There is no session.

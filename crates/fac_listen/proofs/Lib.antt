@@ -5,6 +5,7 @@ pub mod NoteLemmas
 pub mod EmptyTexts
 pub mod WaitingTexts
 pub mod PreludeLemmas
+pub mod ToldReplies
 pub mod ReplyLemmas
 pub mod HearLemmas
 pub mod SessionCauses

@@ -6,7 +6,7 @@ use Rattle.fac_notes.specs.Notes.{line_of as note_of}
 use Rattle.fac_notes.specs.Sources.{Source, no_tree}
 use Rattle.fac_notes.specs.declared.report.Report.{Report}
 use Rattle.fac_notes.specs.declared.report.Report.TheVariants as report
-use Rattle.fac_parse.specs.declared.reader.Why.TheVariants as why
+use Rattle.fac_parse.specs.declared.reader.Why.TheVariants.{End}
 use Rattle.fac_session.specs.Heard.{file_names, most_ticks, ticks_of, told_of}
 use Rattle.fac_session.proofs.LineLemmas.{lines_keep}
 use Rattle.fac_session.specs.Laws.{RunsNothing, StandsBehind}
@@ -31,7 +31,7 @@ use Rattle.fac_listen.proofs.WaitingTexts.{WaitsFor, line_waits}
 
 -- What waits behind a line.
 
-waits_on : (source : List ℕ → Source) (text : List ℕ) (why : Report) → ((at : ℕ) → source [] ≡ no_tree at why.End → ⊥) → WaitsFor (source text) why → Waits source text (Some why)
+waits_on : (source : List ℕ → Source) (text : List ℕ) (why : Report) → ((at : ℕ) → source [] ≡ no_tree at End → ⊥) → WaitsFor (source text) why → Waits source text (Some why)
 waits_on source [] why never w = absurd (never w.at w.is)
 waits_on source (b ∷ bs) why never w = (w.at, w.is, ap Some w.told)
 

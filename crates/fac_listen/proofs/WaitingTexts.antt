@@ -7,7 +7,7 @@ use Rattle.fac_lang.specs.Meaning.{word_phrase}
 use Rattle.fac_source.specs.declared.refusal.NameFault.{NameFault}
 use Rattle.fac_source.specs.declared.tree.Form.{Form}
 use Rattle.fac_parse.specs.declared.reader.Why.{Why}
-use Rattle.fac_parse.specs.declared.reader.Why.TheVariants as why
+use Rattle.fac_parse.specs.declared.reader.Why.TheVariants.{End, Other}
 use Rattle.fac_names.specs.Resolved.{going_on}
 use Rattle.fac_names.specs.declared.known.Known.{Known}
 use Rattle.fac_check.specs.Verdicts.{verdict}
@@ -41,12 +41,12 @@ names_wait_never s text input count (Ok k) why e = verdict_waits_never s text in
 -- what a text comes to that waits
 pub record WaitsFor (source : Source) (why : Report) : Type 0 where
   pub at : ℕ
-  pub is : source ≡ no_tree at why.End
-  pub told : why ≡ report.Syntax 1 at why.End
+  pub is : source ≡ no_tree at End
+  pub told : why ≡ report.Syntax 1 at End
 
 no_tree_waits : (s : Session) (text input : List ℕ) (at : ℕ) (reason : Why) (why : Report) → (on_meant s text input (on_no_tree at reason)).said ≡ more why → WaitsFor (no_tree at reason) why
-no_tree_waits s text input at why.End told e = record { at = at; is = refl; told = cc }
-no_tree_waits s text input at why.Other told e = absurd (cc)
+no_tree_waits s text input at End told e = record { at = at; is = refl; told = cc }
+no_tree_waits s text input at Other told e = absurd (cc)
 
 text_waits : (s : Session) (text input : List ℕ) (source : Source) (why : Report) → (on_meant s text input (meant s.known (length s.stack) source)).said ≡ more why → WaitsFor source why
 text_waits s text input (no_tokens at fault) why e = absurd (cc)

@@ -32,7 +32,7 @@ fn hear<R: Threads + Sync, G: Gate + Sync, S: Source, K: Sink, N: Sink>(
     notes: &mut N,
 ) -> Heard
     requires behind { (source : Items ℕ → Comes) × (s : Standing) × AreSources source × IsBehind source (front_of s []) hearing }
-    requires open { has_ended hearing.session ≡ false }
+    requires is_open { has_ended hearing.session ≡ false }
     ensures { OnChannels channels.old channels.new (λ before now input left. (source : Items ℕ → Comes) (s : Standing) → AreSources source → IsBehind source (front_of s input) hearing → EndsFrom source s input left (devices_of channels.old) (devices_of channels.new) (notes_told N.taken N.pieces N.faults notes.old) (notes_told N.taken N.pieces N.faults notes.new) result) }
 {
     for _ in 0..u64::MAX {
@@ -69,6 +69,7 @@ pub fn listen<R: Threads + Sync, G: Gate + Sync, S: Source, K: Sink, N: Sink>(
 ) -> Heard
     ensures { Listens channels.old channels.new (notes_told N.taken N.pieces N.faults notes.old) (notes_told N.taken N.pieces N.faults notes.new) result }
 {
+    every_text_is_a_source();
     match file_names(workers.alloc) {
         Ok(names) => begin(workers, names, channels, notes),
         Err(_) => tell_no_memory(0, notes),

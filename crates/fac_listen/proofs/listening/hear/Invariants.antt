@@ -7,6 +7,6 @@ use Rattle.fac_listen.proofs.listening.hear.Given as goal
 
 abbrev pub invariant-loop : goal.invariant-loop
 invariant-loop g l = record {
-  open : has_ended l.hearing.session ≡ false;
-  inside : OnChannels l.initial.channels l.channels (λ before after. InsideOn l.initial.hearing l.initial.channels l.channels (notes_told _ _ _ l.initial.notes) (notes_told _ _ _ l.notes) l.hearing);
+  opened : has_ended l.hearing.session ≡ false;
+  inside : OnChannels l.initial.channels l.channels (λ before after. InsideOn l.initial.hearing l.initial.channels l.channels (notes_told g.N.Sink.taken g.N.Sink.pieces g.N.Sink.faults l.initial.notes) (notes_told g.N.Sink.taken g.N.Sink.pieces g.N.Sink.faults l.notes) l.hearing);
 }
