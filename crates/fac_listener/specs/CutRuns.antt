@@ -47,6 +47,11 @@ abbrev pub pieces_in : (ℕ → Run) → ℕ → List (List ℕ)
 pieces_in go zero = []
 pieces_in go (suc n) = pieces_in go n ++ one_piece (tick_output go (suc n))
 
+-- the stack as it is written behind a run that is done
+abbrev pub stack_behind : Program → Run → List ℕ
+stack_behind P (Done st left) = stack_text P st.world st.stack
+stack_behind P _ = []
+
 -- How far it came.
 
 -- How far a run came that used so many ticks, however it ended. With one tick less it is spent, and what it wrote till then was taken. Of what it writes in
