@@ -1,5 +1,5 @@
 -- How far the run of a line's phrase came that was cut short. A run is told by its result with each number of ticks; its budget is that of a line.
-use Rattle.std.specs.Prelude.{◌≡◌, ◌<◌, ◌≤◌, ◌-◌, ◌⊎◌, ◌++◌, ℕ, zero, suc, List, [], length, take, drop}
+use Rattle.std.specs.Prelude.{◌≡◌, ◌<◌, ◌≤◌, ◌-◌, ◌⊎◌, ◌++◌, ℕ, zero, suc, List, [], length, take, drop, Option}
 use Rattle.std.specs.List.{concat}
 use Rattle.fac_base.specs.declared.limits.TheConstants.{TICKS}
 use Rattle.fac_io.specs.Told.{SinkTold, Grows, GrowsByPrefix, one_piece}
