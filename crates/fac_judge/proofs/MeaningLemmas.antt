@@ -1,7 +1,10 @@
 -- What a text comes to.
-use Rattle.std.proofs.Common.{◌≡◌, ℕ, List, Bool, true, false, None, refl, ap, sym, subst, ◌∙◌}
-use Rattle.std.specs.Prelude.{Some, slice_get}
+use Rattle.std.proofs.Common.{◌≡◌, ℕ, List, [], ◌∷◌, length, Bool, true, false, nat_eq, None, refl, ap, sym, subst, ◌∙◌}
+use Rattle.std.specs.Prelude.{Some, not, slice_get}
 use Rattle.std.specs.declared.option.Option.{Option}
+use Rattle.fac_lang.specs.Phrases.{Phrase}
+use Rattle.fac_lang.specs.PhraseView.{items_phrase}
+use Rattle.fac_lang.specs.declared.phrase.Item.{Item as PlacedItem}
 use Rattle.fac_lang.specs.declared.program.Program.{Program}
 use Rattle.fac_lang.specs.declared.program.Sort.{Sort}
 use Rattle.fac_lang.specs.declared.program.Sort.TheVariants as sort
@@ -29,10 +32,11 @@ verdict_means : (k q : Known) (count : ℕ) (forms : List Form) (first : ℕ × 
 unfolding GoesOnWith Means
 verdict_means k q count forms first next e = ap (on_names count) next ∙ ap (on_verdict q) e
 
-pub refused_text : (k q : Known) (count : ℕ) (text : List ℕ) (why : Report) → GoesOn k text q → IsRefused q.program count why → ComesTo k count text (refuses why)
-refused_text k q count text why next r =
-    let first : ComesTo k count text (refuses (check_report q.program r.first)) = record { source = tree next.forms; is_read = next.is_read; means = verdict_means k q count next.forms r.first next.goes_on r.verdict_is } in
-    subst (λ (x : Report). ComesTo k count text (refuses x)) (sym r.report_is) first
+pub refused_text : (k q : Known) (count : ℕ) (text : List ℕ) (P : Program) (why : Report) → GoesOn k text q → q.program ≡ P → IsRefused P count why → ComesTo k count text (refuses why)
+refused_text k q count text P why next same r =
+    let first : ComesTo k count text (refuses (check_report q.program r.first)) =
+    record { source = tree next.forms; is_read = next.is_read; means = verdict_means k q count next.forms r.first next.goes_on (ap (λ (p : Program). verdict p count) same ∙ r.verdict_is) } in
+    subst (λ (x : Report). ComesTo k count text (refuses x)) (ap (λ (p : Program). check_report p r.first) same ∙ sym r.report_is) first
 
 -- or with an accepted one
 pub accepted_text :
@@ -47,6 +51,14 @@ accepted_text k q count text P accepted next same accepts runs = record {
 -- what a text goes on with is whole
 pub next_whole : KnownGoesOn → (k q : Known) (text : List ℕ) (P : Program) → IsKnown k → GoesOn k text q → P ≡ q.program → IsWhole P
 next_whole law k q text P known next same = subst IsWhole (sym same) (next_is_known law k q next.forms (read_fits 1 text next.forms next.is_read) known next.goes_on).whole
+
+-- a phrase of no items has none
+some_items : (items : List PlacedItem) (b : Bool) → b ≡ nat_eq (length items) 0 → not b ≡ has_item (items_phrase items)
+some_items [] b e = ap not e
+some_items (i ∷ is) b e = ap not e
+
+pub any_items : (items xs : List PlacedItem) (t : Phrase) (b : Bool) → xs ≡ items → items_phrase items ≡ t → b ≡ nat_eq (length xs) 0 → not b ≡ has_item t
+any_items items xs t b same view e = some_items items b (e ∙ ap (λ (ys : List PlacedItem). nat_eq (length ys) 0) same) ∙ ap has_item view
 
 -- the phrase of a word with a body is the one that its sort has
 body_runs : (P : Program) (a : ℕ) (s : Sort) → is_body (Some s) ≡ true → has_item (body_phrase s) ≡ has_item (sort_phrase P a (Some s))
@@ -66,10 +78,10 @@ body_runs P a (sort.Method c g t) h = absurd cc
 -- so the top-level phrase has an item where that one does
 pub top_runs : (P : Program) (d : WordDef) (b : Bool) → IsWhole P → slice_get P.words P.top ≡ Some d → b ≡ has_item (body_phrase d.sort) → b ≡ has_item (word_phrase P P.top)
 top_runs P d b whole there is =
-    let sort_is : sort_of P P.top ≡ Some d.sort = rw there refl in
+    let sort_is : sort_of P P.top ≡ Some d.sort = rw (there, sort_of) refl in
     is ∙ body_runs P P.top d.sort (sym (ap is_body sort_is) ∙ whole.top_phrase) ∙ sym (ap (λ (s : Option Sort). has_item (sort_phrase P P.top s)) sort_is)
 
 pub no_top : (P : Program) → slice_get P.words P.top ≡ None → false ≡ has_item (word_phrase P P.top)
 no_top P none =
-    let sort_is : sort_of P P.top ≡ None = rw none refl in
+    let sort_is : sort_of P P.top ≡ None = rw (none, sort_of) refl in
     sym (ap (λ (s : Option Sort). has_item (sort_phrase P P.top s)) sort_is)

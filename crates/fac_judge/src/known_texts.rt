@@ -1,5 +1,5 @@
 //! What is known behind the prelude and the texts of a session.
-ghost use Rattle.std.specs.Prelude.{◌≡◌, [], List as Items, ℕ, Err as failed, IfOk, OnOk};
+ghost use Rattle.std.specs.Prelude.{◌≡◌, [], ◌∷◌, List as Items, ℕ, Err as failed, IfOk, OnOk};
 ghost use Rattle.fac_parse.specs.Trees.{IsWellFormed};
 ghost use Rattle.fac_prelude.specs.PreludeText.{prelude_text};
 ghost use Rattle.fac_vocab.specs.Scopes.{begun, using_all};
@@ -40,6 +40,18 @@ pub enum NoNext {
     Memory,
 }
 
+// Takes the forms of the prelude, where no file was begun.
+fn take_prelude(alloc: Global, forms: List<Form>, resolver: &mut Resolver) -> Result<(), Memory>
+    requires none { HasTaken [] resolver.old }
+    requires forms { IsWellFormed forms }
+    ensures { OnOk result (HasTaken (forms ∷ []) resolver.new) }
+{
+    match resolver.begin_file(alloc) {
+        Err(_) => Err(Memory),
+        Ok(()) => resolver.take(alloc, forms),
+    }
+}
+
 // The program of the prelude, which has these forms, with the scope behind it, where no file was begun.
 fn resolve_first(
     alloc: Global,
@@ -50,12 +62,9 @@ fn resolve_first(
     requires forms { IsWellFormed forms }
     ensures { KnowsPrelude forms result }
 {
-    match resolver.begin_file(alloc) {
+    match take_prelude(alloc, forms, &mut resolver) {
         Err(_) => Err(ResolveFault::Memory),
-        Ok(()) => match resolver.take(alloc, forms) {
-            Err(_) => Err(ResolveFault::Memory),
-            Ok(()) => resolver.known(alloc),
-        },
+        Ok(()) => resolver.known(alloc),
     }
 }
 

@@ -44,7 +44,7 @@ pub enum Meaning {
 fn any_item(phrase: &Phrase) -> bool
     ensures { result ≡ has_item phrase.now }
 {
-    !phrase.items.is_empty()
+    !phrase.items.as_slice().is_empty()
 }
 
 // Whether the phrase of a word with a body has an item.
@@ -69,7 +69,7 @@ fn top_has_item(program: &Program) -> bool
 }
 
 // What a text comes to that goes on with this program, where its top-level phrase starts on so many values.
-#[tactic(auto, using(crate::proofs::MeaningLemmas::refused_text, crate::proofs::MeaningLemmas::accepted_text))]
+#[tactic(auto, using(crate::proofs::MeaningLemmas::accepted_text))]
 fn meaning_of_program<R: Threads + Sync, G: Gate + Sync>(
     workers: &Workers<'_, R, G>,
     program: Program,

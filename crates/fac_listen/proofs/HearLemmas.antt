@@ -22,7 +22,9 @@ use Rattle.fac_session.specs.Sessions.{Session, session_of}
 use Rattle.fac_session.specs.SessionLines.{Behind, line}
 use Rattle.fac_judge.specs.KnownTexts.{IsPreludeRefusal}
 use Rattle.fac_judge.specs.TextSources.{EverySource}
-use Rattle.fac_listener.specs.Replies.{AreSources, IsFirstSession}
+use Rattle.fac_judge.specs.declared.known_texts.SessionFault.{SessionFault}
+use Rattle.fac_judge.specs.declared.known_texts.SessionFault.TheVariants as unbegun
+use Rattle.fac_listener.specs.Replies.{AreSources, IsFirstSession, StartsSession}
 use Rattle.fac_listener.specs.StandingSessions.{HasMachine, Stands, has_ended}
 use Rattle.fac_listener.specs.declared.session.Session.{Session as SessionSeen}
 use Rattle.fac_listen.specs.Devices.{DevicesTold, DevicesStand, devices_of}
@@ -31,7 +33,7 @@ use Rattle.fac_listen.specs.Listens.{CutAtNote, CutBetween, CutInLine, EndsWhole
 use Rattle.fac_listen.specs.SessionNotes.{NotesTold, AreNoted, EndsTold, EndsToldIfMemory, bare, memory_note, refused, too_long_note}
 use Rattle.fac_listen.specs.declared.heard.Heard.{Heard}
 use Rattle.fac_listen.specs.declared.hearing.Hearing.{Hearing}
-use Rattle.fac_listen.specs.inner.Endings.{EndsFrom, HeardFrom, IsInside}
+use Rattle.fac_listen.specs.inner.Endings.{EndsFrom, EndsUnbegun, HeardFrom, IsInside}
 use Rattle.fac_listen.specs.inner.Hearings.{IsBehind, Waits}
 use Rattle.fac_listen.specs.inner.NextLines.{EndsAt, EndsAtNext, EndsThere, EndsWithout, GoesOnWith, LineEnds, NextTaken, NextTooLong, NothingLeft, NoteEnds, InputFails, NoMemoryForLine, TakesLine, TakesNext}
 use Rattle.fac_listen.proofs.FrontLemmas.{behind_front, heard_to_the_end, left_at_the_end, long_line_ends, long_line_leaves, no_line_ends, no_line_leaves, stands_first, stands_more}
@@ -113,11 +115,11 @@ abbrev pub EndsOn : Hearing → ChannelsTold → ChannelsTold → NotesTold → 
 EndsOn first before now notes_before notes_now heard input left =
     (source : List ℕ → Source) (s : Session) → AreSources source → IsBehind source (front_of s input) first → EndsFrom source s input left (devices_of before) (devices_of now) notes_before notes_now heard
 
-pub inside_first : (still : ChannelsTold) (notes : NotesTold) (hearing : Hearing) → OnChannels still still (λ before after. InsideOn hearing still still notes notes hearing)
-inside_first still notes hearing =
+pub inside_first : (still : ChannelsTold) (notes : NotesTold) (hearing : Hearing) → has_ended hearing.session ≡ false → OnChannels still still (λ before after. InsideOn hearing still still notes notes hearing)
+inside_first still notes hearing opened =
     unread still.input (InsideOn hearing still still notes notes hearing)
     (λ input source s are behind.
-    record { front = front_of s input; stands = stands_first source s input; behind = behind; rest = refl; output = grows_none still.output.taken; counts = stand_still (devices_of still); noted = none_noted notes })
+    record { front = front_of s input; stands = stands_first source s input; behind = behind; is_open = opened; rest = refl; output = grows_none still.output.taken; counts = stand_still (devices_of still); noted = none_noted notes })
 
 module _ (source : List ℕ → Source) (s : Session) (input mid_left left : List ℕ) (first mid now : DevicesTold) (notes_first notes_mid notes_now : NotesTold) (old : Hearing) where
   inside_more : (new : Hearing) → IsInside source s input mid_left first mid notes_first notes_mid old → (t : (x : IsInside source s input mid_left first mid notes_first notes_mid old) → NextTaken source x.front left mid now notes_mid notes_now new None) → IsInside source s input left first now notes_first notes_now new
@@ -129,6 +131,7 @@ module _ (source : List ℕ → Source) (s : Session) (input mid_left left : Lis
         front = with_last x.front b;
         stands = stands_more source s input x.front t.bytes t.input x.stands t.is_line;
         behind = g.behind;
+        is_open = g.open_still;
         rest = g.rest;
         output = grows_then first.output.taken mid.output.taken now.output.taken x.front.output b.output x.output g.output;
         counts = stand_then first mid now x.counts g.counts;
@@ -264,14 +267,21 @@ module _ (first old new : Hearing) (initial mid now : ChannelsTold) (notes_first
       let x : IsInside source s input mid_left (devices_of initial) (devices_of mid) notes_first notes_mid old = p source s are behind in
       ends_from source s input mid_left left (devices_of initial) (devices_of mid) (devices_of now) notes_first notes_mid notes_now old new ending x (q source x.front are x.behind (sym x.rest)))
 
+-- there is a session before the first line, behind which the code's stands
+abbrev pub IsThere : Hearing → Type 0
+IsThere hearing = (source : List ℕ → Source) × (s : Session) × AreSources source × IsBehind source (front_of s []) hearing
+
+-- one of the sessions of which all this is said
+module _ (first hearing : Hearing) (initial now : ChannelsTold) (notes_first notes_now : NotesTold) (h : OnChannels initial now (λ before after. InsideOn first initial now notes_first notes_now hearing)) (r : IsThere first) where
+  one_inside : IsInside r.0 r.1 ((initial.input.kept ++ h.given) ++ []) (now.input.kept ++ []) (devices_of initial) (devices_of now) notes_first notes_now hearing
+  one_inside = h.comes [] (λ e. refl) r.0 r.1 r.2 (record { stands = r.3.stands; names = r.3.names; waits = r.3.waits; ticks = r.3.ticks })
+
   -- there is a session behind which the next line stands
-  pub stands_there : ((source : List ℕ → Source) × (s : Session) × AreSources source × IsBehind source (front_of s []) first) → (source : List ℕ → Source) × (f : Front) × AreSources source × IsBehind source f old
-  stands_there r =
-      let b = r.3 in
-      let x : IsInside r.0 r.1 _ _ (devices_of initial) (devices_of mid) notes_first notes_mid old =
-          h.comes [] (λ e. refl) r.0 r.1 r.2 (record { stands = b.stands; names = b.names; waits = b.waits; ticks = b.ticks })
-      in
-      (r.0, x.front, r.2, x.behind)
+  pub stands_there : (source : List ℕ → Source) × (f : Front) × AreSources source × IsBehind source f hearing
+  stands_there = (r.0, one_inside.front, r.2, one_inside.behind)
+
+  pub open_there : has_ended hearing.session ≡ false
+  open_there = one_inside.is_open
 
 -- memory is wanted behind the last line that is counted
 pub memory_then :
@@ -301,10 +311,6 @@ is_open s code stands = machine_is s code code.machine refl stands.machine
 -- the code's session before the first line
 pub begins_behind : (source : List ℕ → Source) (s : Session) (input : List ℕ) (code : SessionSeen) (names : List (List ℕ)) → Stands s code → s.waiting ≡ [] → names ≡ file_names → IsBehind source (front_of s input) (record { session = code; names = names; waits = None; ticks = 0 })
 begins_behind source s input code names stands none is = record { stands = stands; names = is; waits = subst (λ (text : List ℕ). Waits source text None) (sym none) refl; ticks = refl }
-
--- there is a session before the first line, behind which the code's stands
-abbrev pub IsThere : Hearing → Type 0
-IsThere hearing = (source : List ℕ → Source) × (s : Session) × AreSources source × IsBehind source (front_of s []) hearing
 
 pub begins_there : (code : SessionSeen) (names : List (List ℕ)) → EverySource → IsFirstSession code → names ≡ file_names → IsThere (record { session = code; names = names; waits = None; ticks = 0 })
 begins_there code names every begun is =
@@ -349,7 +355,7 @@ listens_from hearing code names before now notes_before notes_now ending every b
 
 -- There is no session.
 
-pub prelude_refused :
+prelude_refused :
     (still : ChannelsTold) (notes_before notes_now : NotesTold) (ending : Heard) (names : List (List ℕ)) (why : Report) → EverySource → IsPreludeRefusal why → names ≡ file_names → EndsToldIfMemory (note_of names why) (refused (status_of why) 0 why) notes_before notes_now ending →
     Listens still still notes_before notes_now ending
 prelude_refused still notes_before notes_now ending names why every r is e =
@@ -376,3 +382,8 @@ no_session still notes_before notes_now ending every e =
     unread still.input (λ input left. ListensOn input left (devices_of still) (devices_of still) notes_before notes_now ending)
     (λ input.
     record { prelude = (every 0 prelude_text).0; source = λ text. (every 1 text).0; is_read = (every 0 prelude_text).1; are_read = λ text. (every 1 text).1; ends = inr (inl (record { rest = refl; still = refl; ends = e })) })
+
+pub not_begun :
+    (still : ChannelsTold) (notes_before notes_now : NotesTold) (ending : Heard) (names : List (List ℕ)) (why : SessionFault) → EverySource → StartsSession (Err why) → names ≡ file_names → EndsUnbegun why names notes_before notes_now ending → Listens still still notes_before notes_now ending
+not_begun still notes_before notes_now ending names (unbegun.Prelude why) every r is e = prelude_refused still notes_before notes_now ending names why every r is e
+not_begun still notes_before notes_now ending names unbegun.Memory every r is e = no_session still notes_before notes_now ending every e

@@ -11,7 +11,7 @@ ghost use Rattle.fac_listen.specs.Fronts.{front_of};
 ghost use Rattle.fac_listen.specs.Listens.{Listens};
 ghost use Rattle.fac_listen.specs.SessionNotes.{notes_told};
 ghost use Rattle.fac_listen.specs.inner.Hearings.{IsBehind};
-ghost use Rattle.fac_listen.specs.inner.Endings.{EndsFrom};
+ghost use Rattle.fac_listen.specs.inner.Endings.{EndsFrom, EndsUnbegun};
 
 use crate::Heard;
 use crate::hearing::Hearing;
@@ -43,6 +43,21 @@ fn hear<R: Threads + Sync, G: Gate + Sync, S: Source, K: Sink, N: Sink>(
     hearing.end_for_memory(notes)
 }
 
+// Ends where there is no session for this reason.
+fn end_unbegun<N: Sink>(
+    alloc: Global,
+    names: &List<Text>,
+    fault: SessionFault,
+    notes: &mut N,
+) -> Heard
+    ensures { EndsUnbegun fault names.now (notes_told N.taken N.pieces N.faults notes.old) (notes_told N.taken N.pieces N.faults notes.new) result }
+{
+    match fault {
+        SessionFault::Prelude(why) => tell_refusal(alloc, names, why, 0, notes),
+        SessionFault::Memory => tell_no_memory(0, notes),
+    }
+}
+
 // Begins a session whose files have these names, and hears it.
 fn begin<R: Threads + Sync, G: Gate + Sync, S: Source, K: Sink, N: Sink>(
     workers: &Workers<'_, R, G>,
@@ -56,8 +71,7 @@ fn begin<R: Threads + Sync, G: Gate + Sync, S: Source, K: Sink, N: Sink>(
     every_text_is_a_source();
     match Session::new(workers) {
         Ok(session) => hear(workers, Hearing::new(session, names), channels, notes),
-        Err(SessionFault::Prelude(why)) => tell_refusal(workers.alloc, &names, why, 0, notes),
-        Err(SessionFault::Memory) => tell_no_memory(0, notes),
+        Err(fault) => end_unbegun(workers.alloc, &names, fault, notes),
     }
 }
 

@@ -1,5 +1,5 @@
 -- How far the run of a line's phrase came that was cut short. A run is told by its result with each number of ticks; its budget is that of a line.
-use Rattle.std.specs.Prelude.{◌≡◌, ◌<◌, ◌≤◌, ◌-◌, ◌⊎◌, ◌++◌, ℕ, zero, suc, List, [], length, take, drop}
+use Rattle.std.specs.Prelude.{◌≡◌, ◌<◌, ◌≤◌, ◌-◌, ◌⊎◌, ◌++◌, ℕ, zero, suc, List, [], length, take, drop, Option}
 use Rattle.std.specs.List.{concat}
 use Rattle.fac_base.specs.declared.limits.TheConstants.{TICKS}
 use Rattle.fac_io.specs.Told.{SinkTold, Grows, GrowsByPrefix, one_piece}
@@ -46,6 +46,11 @@ tick_output go (suc n) = drop (length (run_output (go n))) (run_output (go (suc 
 abbrev pub pieces_in : (ℕ → Run) → ℕ → List (List ℕ)
 pieces_in go zero = []
 pieces_in go (suc n) = pieces_in go n ++ one_piece (tick_output go (suc n))
+
+-- the stack as it is written behind a run that is done
+abbrev pub stack_behind : Program → Run → List ℕ
+stack_behind P (Done st left) = stack_text P st.world st.stack
+stack_behind P _ = []
 
 -- How far it came.
 

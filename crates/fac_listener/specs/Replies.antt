@@ -1,5 +1,6 @@
 -- What is answered of a line.
-use Rattle.std.specs.Prelude.{◌≡◌, ◌⊎◌, ℕ, List, length, Result, Ok, Err, Bool, true, false}
+use Rattle.std.specs.Prelude.{◌≡◌, ◌⊎◌, ℕ, List, [], length, Result, Ok, Err, Bool, true, false}
+use Rattle.fac_base.specs.declared.limits.TheConstants.{TICKS}
 use Rattle.fac_io.specs.Told.{SinkTold, Grows}
 use Rattle.fac_lang.specs.Meaning.{word_phrase}
 use Rattle.fac_lang.specs.Phrases.{Phrase, end, then}
@@ -9,7 +10,7 @@ use Rattle.fac_prelude.specs.PreludeText.{prelude_text}
 use Rattle.fac_session.specs.Sessions.{Session, Meant, waits, refuses, goes_on, meant, session_of}
 use Rattle.fac_session.specs.SessionLines.{Said, more, defined, ran, refused, failed, spent, Behind, behind_waiting, line_run, on_meant}
 use Rattle.fac_judge.specs.KnownTexts.{IsPreludeRefusal}
-use Rattle.fac_listener.specs.CutRuns.{InputFaultInRun, FaultInRun, FaultBehindRun, WantedBefore, WantedWithRun}
+use Rattle.fac_listener.specs.CutRuns.{InputFaultInRun, FaultInRun, FaultBehindRun, RunPieces, WantedBefore, WantedWithRun, stack_behind}
 use Rattle.fac_listener.specs.StandingSessions.{Stands}
 use Rattle.fac_judge.specs.TextSources.{IsReadAs}
 use Rattle.fac_judge.specs.declared.known_texts.SessionFault.{SessionFault}
@@ -46,12 +47,6 @@ pub record IsAnswer (b : Behind) (said : Said) (before now : SinkTold) (code : S
   pub output : Grows before.taken now.taken b.output
   pub left_is : left ≡ b.left
 
--- what cuts a line short: a fault of the input or the output, or want of memory
-pub data Cause : Type 0 where
-  by_input : Cause
-  by_output : Cause
-  by_memory : Cause
-
 -- Something is so of the phrase of a text: the text was accepted, and the phrase has an item.
 abbrev pub OfItems : Phrase → Type 0 → Type 0
 OfItems end Holds = ⊥
@@ -61,6 +56,12 @@ abbrev pub OfPhrase : Meant → (Known → Type 0) → Type 0
 OfPhrase (waits at) Holds = ⊥
 OfPhrase (refuses why) Holds = ⊥
 OfPhrase (goes_on k) Holds = OfItems (word_phrase k.program k.program.top) (Holds k)
+
+-- what cuts a line short: a fault of the input or the output, or want of memory
+pub data Cause : Type 0 where
+  by_input : Cause
+  by_output : Cause
+  by_memory : Cause
 
 -- A line was cut short, with so many ticks of its phrase, and this was left of the input behind it: by the input in the run of its phrase, by the output there or where
 -- the stack is written behind it, or for want of memory before the run, in it, or behind it.
@@ -86,6 +87,22 @@ module _ (s : Session) (text : List ℕ) (m : Meant) where
 -- What is answered of a line with these bytes: what `line` comes to, or how far it came.
 abbrev pub Replies : (List ℕ → Source) → Session → List ℕ → SinkTold → SinkTold → SessionSeen → Reply → List ℕ → List ℕ → Type 0
 Replies source s bytes = let text = behind_waiting s.waiting bytes in TextReplies s text (meant s.known (length s.stack) (source text))
+
+-- In which pieces the output of a line was taken that wasn't cut short: one for each item of its phrase that writes, and behind a phrase that ran one for its stack. A
+-- text without a phrase writes nothing. Where a line was cut short, `IsCutShort` tells the pieces.
+abbrev pub AnswerPieces : Meant → Session → List ℕ → SinkTold → SinkTold → Reply → Type 0
+AnswerPieces m s input before now (reply.Ran n) = OfPhrase m (λ k. RunPieces (line_run s k.program input) n (stack_behind k.program (line_run s k.program input TICKS)) before now)
+AnswerPieces m s input before now (reply.Failed why n) = OfPhrase m (λ k. RunPieces (line_run s k.program input) n [] before now)
+AnswerPieces m s input before now (reply.Spent n) = OfPhrase m (λ k. RunPieces (line_run s k.program input) n [] before now)
+AnswerPieces m s input before now (reply.More why) = now ≡ before
+AnswerPieces m s input before now reply.Defined = now ≡ before
+AnswerPieces m s input before now (reply.Refused why) = now ≡ before
+AnswerPieces m s input before now (reply.InputFault n) = Unit {0}
+AnswerPieces m s input before now (reply.WriteFault n) = Unit {0}
+AnswerPieces m s input before now (reply.Memory n) = Unit {0}
+
+abbrev pub LinePieces : (List ℕ → Source) → Session → List ℕ → List ℕ → SinkTold → SinkTold → Reply → Type 0
+LinePieces source s bytes = AnswerPieces (meant s.known (length s.stack) (source (behind_waiting s.waiting bytes))) s
 
 -- the input or the output failed
 abbrev pub IsInputFault : Reply → Type 0
