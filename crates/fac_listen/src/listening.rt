@@ -22,6 +22,7 @@ use fac_judge::{SessionFault, every_text_is_a_source};
 use fac_lines::Channels;
 use fac_listener::Session;
 use fac_par::{Gate, Workers};
+use std::alloc::Global;
 use std::thread::Threads;
 
 // Hears a session to its end. A source gives fewer lines than are counted here, so that the count ends is never told.
