@@ -15,7 +15,6 @@ use Rattle.fac_check.specs.TemplateEffects.{AreEffects}
 use Rattle.fac_store.specs.CallableHeights.{height_there}
 use Rattle.fac_code.specs.declared.image.Image.{Image}
 use Rattle.fac_carry.specs.Agrees.{Agrees}
-use Rattle.fac_carry.specs.Carries.{Carries}
 use Rattle.fac_carry.proofs.CarriedCode.{carries_by}
 use Rattle.fac_carry.proofs.PlainIsCode.{plain_code_is_code}
 use Rattle.fac_emit.specs.CarriedPrograms.{AgreesEach, StandsForEach}

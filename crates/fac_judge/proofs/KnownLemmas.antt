@@ -20,7 +20,7 @@ use Rattle.fac_known.specs.Laws.{FilesAreKnown, KnownGoesOn, SessionsBeginKnown}
 use Rattle.fac_names.specs.Resolution.{first_reading}
 use Rattle.fac_names.specs.Resolved.{going_on, read_files}
 use Rattle.fac_names.specs.declared.known.Known.{Known}
-use Rattle.fac_notes.specs.Sources.{Source, no_tokens, no_tree, tree}
+use Rattle.fac_notes.specs.Sources.{no_tokens, no_tree, tree}
 use Rattle.fac_session.specs.Sessions.{on_first_names, on_names, refuses, waits}
 use Rattle.fac_judge.specs.TextSources.{IsReadAs, OneSource}
 use Rattle.fac_judge.specs.KnownTexts.{BeginsWith, GoOn, GoesOn, GoesOnWith, IsFirst, IsKnownBehind, IsPreludeRefusal, RefusesSession}
@@ -230,10 +230,11 @@ text_named k text forms (Err none.Memory) read h = tt
 
 -- one text more of those that are gone through
 pub one_step :
-    (texts : List (List ℕ)) (i : ℕ) (p q : Known) (text : List ℕ) → i < length texts → text ≡ get_or texts i [] → IsKnownBehind (take i texts) p → GoesOn p text q → IsKnownBehind (take (i + 1) texts) q
+    (texts : List (List ℕ)) (i : ℕ) (p q : Known) (text : List ℕ) → i < length texts → text ≡ get_or texts i text → IsKnownBehind (take i texts) p → GoesOn p text q → IsKnownBehind (take (i + 1) texts) q
 one_step texts i p q text below is before next =
-    let first : GoesOn p (get_or texts i []) q = subst (λ (t : List ℕ). GoesOn p t q) is next in
-    subst (λ (ts : List (List ℕ)). IsKnownBehind ts q) (sym (take_more texts i [] below)) (one_more_text (take i texts) p (get_or texts i []) q before first)
+    let there = get_or texts i text in
+    let first : GoesOn p there q = subst (λ (t : List ℕ). GoesOn p t q) is next in
+    subst (λ (ts : List (List ℕ)). IsKnownBehind ts q) (sym (take_more texts i text below)) (one_more_text (take i texts) p there q before first)
 
 -- all of them
 pub all_texts : (texts : List (List ℕ)) (i : ℕ) (k : Known) → length texts ≤ i → IsKnownBehind (take i texts) k → IsKnownBehind texts k

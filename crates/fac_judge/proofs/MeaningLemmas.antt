@@ -1,5 +1,6 @@
 -- What a text comes to.
-use Rattle.std.proofs.Common.{◌≡◌, ℕ, List, [], ◌∷◌, length, Bool, true, false, nat_eq, None, refl, ap, sym, subst, ◌∙◌}
+use Rattle.std.proofs.Common.{◌≡◌, ℕ, List, [], ◌∷◌, length, Bool, true, false, nat_eq, None, refl, ap, sym, subst, ◌∙◌, arith}
+use Rattle.std.proofs.lemmas.Bool.{ne_eqb}
 use Rattle.std.specs.Prelude.{Some, not, slice_get}
 use Rattle.std.specs.declared.option.Option.{Option}
 use Rattle.fac_lang.specs.Phrases.{Phrase}
@@ -55,7 +56,7 @@ next_whole law k q text P known next same = subst IsWhole (sym same) (next_is_kn
 -- a phrase of no items has none
 some_items : (items : List PlacedItem) (b : Bool) → b ≡ nat_eq (length items) 0 → not b ≡ has_item (items_phrase items)
 some_items [] b e = ap not e
-some_items (i ∷ is) b e = ap not e
+some_items (i ∷ is) b e = ap not (e ∙ ne_eqb (length (i ∷ is)) 0 (λ z. omega arith))
 
 pub any_items : (items xs : List PlacedItem) (t : Phrase) (b : Bool) → xs ≡ items → items_phrase items ≡ t → b ≡ nat_eq (length xs) 0 → not b ≡ has_item t
 any_items items xs t b same view e = some_items items b (e ∙ ap (λ (ys : List PlacedItem). nat_eq (length ys) 0) same) ∙ ap has_item view

@@ -1,14 +1,13 @@
 -- What is known behind the prelude and the texts of a session that were accepted.
-use Rattle.std.specs.Prelude.{◌≡◌, ℕ, List, [], ◌∷◌, Result, Ok, Err}
+use Rattle.std.specs.Prelude.{◌≡◌, ℕ, List, [], ◌∷◌, Ok, Err}
 use Rattle.fac_source.specs.declared.tree.Form.{Form}
-use Rattle.fac_source.specs.declared.refusal.NameFault.{NameFault}
 use Rattle.fac_known.specs.KnownPrograms.{IsKnown}
 use Rattle.fac_names.specs.Resolved.{going_on}
 use Rattle.fac_names.specs.declared.known.Known.{Known}
 use Rattle.fac_notes.specs.declared.report.Report.{Report}
 use Rattle.fac_notes.specs.Sources.{Source, tree}
 use Rattle.fac_prelude.specs.PreludeText.{prelude_text}
-use Rattle.fac_session.specs.Sessions.{Session, first_known, session_of}
+use Rattle.fac_session.specs.Sessions.{first_known, session_of}
 use Rattle.fac_judge.specs.TextSources.{IsReadAs}
 
 -- a session begins with this where the prelude has these forms

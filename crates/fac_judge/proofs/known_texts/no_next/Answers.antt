@@ -1,15 +1,21 @@
-use Rattle.std.proofs.Common.{subst}
+use Rattle.std.proofs.Common.{Err, subst}
 use Rattle.fac_parse.specs.declared.reader.Why.{Why}
 use Rattle.fac_notes.specs.Sources.{no_tree}
 use Rattle.fac_judge.specs.TextSources.{IsReadAs}
+use Rattle.fac_judge.specs.declared.reading.Unread.{Unread}
+use Rattle.fac_judge.specs.inner.ReadTexts.{ReadsText}
 use Rattle.fac_judge.proofs.KnownLemmas.{bytes_refused, end_waits, syntax_refused}
 use Rattle.fac_judge.proofs.known_texts.no_next.Goals as goal
 
 pub returns-in-NoTokens : goal.returns-in-NoTokens
-returns-in-NoTokens c = λ known text read. bytes_refused known text c.in-NoTokens.at c.in-NoTokens.why read
+returns-in-NoTokens c = λ known text read. bytes_refused known text c.in-NoTokens.at c.in-NoTokens.why (subst (λ (fault : Unread). ReadsText 1 text (Err fault)) c.in-NoTokens.is read)
 
 pub returns-in-End : goal.returns-in-End
-returns-in-End c = λ known text read. end_waits known text c.in-NoTree.at (subst (λ (why : Why). IsReadAs 1 text (no_tree c.in-NoTree.at why)) c.in-End.is read)
+returns-in-End c = λ known text read.
+    let missed = subst (λ (fault : Unread). ReadsText 1 text (Err fault)) c.in-NoTree.is read in
+    end_waits known text c.in-NoTree.at (subst (λ (why : Why). IsReadAs 1 text (no_tree c.in-NoTree.at why)) c.in-End.is missed)
 
 pub returns-in-Other : goal.returns-in-Other
-returns-in-Other c = λ known text read. syntax_refused known text c.in-NoTree.at (subst (λ (why : Why). IsReadAs 1 text (no_tree c.in-NoTree.at why)) c.in-Other.is read)
+returns-in-Other c = λ known text read.
+    let missed = subst (λ (fault : Unread). ReadsText 1 text (Err fault)) c.in-NoTree.is read in
+    syntax_refused known text c.in-NoTree.at (subst (λ (why : Why). IsReadAs 1 text (no_tree c.in-NoTree.at why)) c.in-Other.is missed)
