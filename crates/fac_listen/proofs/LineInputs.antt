@@ -1,5 +1,5 @@
 -- A line takes a byte of the input at least, and puts none back.
-use Rattle.std.proofs.Common.{◌≡◌, ◌<◌, ◌≤◌, ◌+◌, ℕ, suc, List, [], ◌∷◌, length, drop, Bool, true, false, cond, refl, sym, ap, ◌∙◌, arith, length-drop}
+use Rattle.std.proofs.Common.{◌≡◌, ◌<◌, ◌≤◌, ◌+◌, ℕ, suc, List, [], ◌∷◌, length, drop, Bool, true, false, cond, refl, sym, ap, ◌∙◌, subst, arith, length-drop}
 use Rattle.std.specs.Prelude.{nat_le, take}
 use Rattle.fac_base.specs.HeightArithmetic.{fits}
 use Rattle.fac_base.specs.declared.limits.TheConstants.{TICKS, MOST_LINE_BYTES}
@@ -31,8 +31,9 @@ run_leaves s k budget most Stuck h = omega arith
 -- a run with any number of ticks
 line_run_leaves : (s : Session) (P : Program) (input : List ℕ) (n : ℕ) → LeavesAtMost (length input) (line_run s P input n)
 line_run_leaves s P input n =
-    let same : (line_world s P input).input ≡ input = arrays_take_nothing P _ _ _ in
-    rw (← same) (run_falls P fits (callable_height P) n (word_phrase P P.top) (record { stack = s.stack; world = line_world s P input }))
+    let world : World Value = record { objects = s.objects; literals = s.literals; input = input; asked = 0; output = [] } in
+    subst (λ (bytes : List ℕ). LeavesAtMost (length bytes) (line_run s P input n)) (arrays_take_nothing P (length s.known.program.arrays) (drop (length s.known.program.arrays) P.arrays) world)
+      (run_falls P fits (callable_height P) n (word_phrase P P.top) (record { stack = s.stack; world = line_world s P input }))
 
 phrase_leaves : (s : Session) (k : Known) (t : Phrase) (input : List ℕ) → length (of_phrase s k t input).left ≤ length input
 phrase_leaves s k end input = omega arith
