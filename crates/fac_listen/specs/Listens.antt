@@ -2,19 +2,18 @@
 use Rattle.std.specs.Prelude.{◌≡◌, ◌⊎◌, ◌+◌, ℕ, List, [], ◌∷◌, ◌++◌, length, map, min, Some, None, Option, Ok}
 use Rattle.fac_io.specs.Told.{SinkTold, Grows}
 use Rattle.fac_lines.specs.Channels.{ChannelsTold, OnChannels}
-use Rattle.fac_lines.specs.LineReads.{Line, line_of}
 use Rattle.fac_notes.specs.Notes.{line_of as note_of}
 use Rattle.fac_notes.specs.Sources.{Source}
 use Rattle.fac_notes.specs.declared.report.Report.{Report}
 use Rattle.fac_notes.specs.declared.status.TheConstants.{INPUT_FAULT, WRITE_FAULT, NO_MEMORY}
 use Rattle.fac_prelude.specs.PreludeText.{prelude_text}
-use Rattle.fac_session.specs.Heard.{Heard as HeardOf, file_names, last_note, listened, most_ticks}
-use Rattle.fac_session.specs.Sessions.{Session, meant, session_of}
+use Rattle.fac_session.specs.Heard.{Heard as HeardOf, file_names, last_note, listened, most_ticks, told_of}
+use Rattle.fac_session.specs.Sessions.{Session, Meant, meant, session_of}
 use Rattle.fac_session.specs.SessionLines.{behind_waiting}
-use Rattle.fac_listener.specs.Replies.{AreSources, IsCutShort}
+use Rattle.fac_listener.specs.Replies.{AreSources, Cause, by_input, by_output, by_memory, IsCutShort}
 use Rattle.fac_judge.specs.TextSources.{IsReadAs}
 use Rattle.fac_listen.specs.Devices.{devices_of, DevicesTold, DevicesStand, DevicesCount}
-use Rattle.fac_listen.specs.Fronts.{Front, StandsBehindLines, left_from}
+use Rattle.fac_listen.specs.Fronts.{Front, StandsBehindLines, LineOf, comes_to, left_from, with_last}
 use Rattle.fac_listen.specs.SessionNotes.{NotesTold, AreNoted, EndsByLine, EndsTold, EndsToldIfMemory, bare, fault_note, memory_note}
 use Rattle.fac_listen.specs.declared.heard.Heard.{Heard}
 
@@ -40,16 +39,6 @@ pub record HeardWhole (prelude : Source) (source : List ℕ → Source) (input l
   pub told : AreNoted (notes_for (listened prelude source input).told) notes_before between
   pub ends : EndsWhole (listened prelude source input) (last_note (listened prelude source input).refusal) between notes_now heard
 
--- the note of the last of some lines failed, or there was no memory for it
-pub record CutByNote (f : Front) (before now : DevicesTold) (notes_before notes_now : NotesTold) (heard : Heard) : Type 0 where
-  pub told : List Report
-  pub why : Report
-  pub told_is : f.told ≡ told ++ why ∷ []
-  pub between : NotesTold
-  pub noted : AreNoted (notes_for told) notes_before between
-  pub ends : EndsByLine (note_of file_names why) f.ticks between notes_now heard
-  pub counts : DevicesStand before now
-
 -- the input failed where the next line was to be taken
 pub record CutByInput (f : Front) (before now : DevicesTold) (notes_before notes_now : NotesTold) (heard : Heard) : Type 0 where
   pub between : NotesTold
@@ -64,23 +53,29 @@ pub record CutByMemory (f : Front) (before now : DevicesTold) (notes_before note
   pub ends : EndsTold memory_note (bare NO_MEMORY f.ticks) between notes_now heard
   pub counts : DevicesStand before now
 
-abbrev pub CutBehind : Front → DevicesTold → DevicesTold → NotesTold → NotesTold → Heard → Type 0
-CutBehind f before now notes_before notes_now heard =
-    CutByNote f before now notes_before notes_now heard ⊎ (CutByInput f before now notes_before notes_now heard ⊎ CutByMemory f before now notes_before notes_now heard)
-
--- the session was cut short behind some lines, whose output was written
+-- the session was cut short between two lines; the output of those before was written
 pub record CutBetween (source : List ℕ → Source) (s : Session) (input left : List ℕ) (before now : DevicesTold) (notes_before notes_now : NotesTold) (heard : Heard) : Type 0 where
   pub front : Front
   pub stands : StandsBehindLines source s input front
   pub rest : left ≡ front.left
   pub output : Grows before.output.taken now.output.taken front.output
-  pub cut : CutBehind front before now notes_before notes_now heard
+  pub cut : CutByInput front before now notes_before notes_now heard ⊎ CutByMemory front before now notes_before notes_now heard
 
--- what cuts a session short in a line
-pub data Cause : Type 0 where
-  by_input : Cause
-  by_output : Cause
-  by_memory : Cause
+-- The note of what was said of a line failed, or there was no memory for it. What the line comes to was done, and its output was written.
+pub record CutAtNote (source : List ℕ → Source) (s : Session) (input left : List ℕ) (before now : DevicesTold) (notes_before notes_now : NotesTold) (heard : Heard) : Type 0 where
+  pub at : LineOf source s input
+  pub why : Report
+  pub said : told_of (comes_to at).said ≡ why ∷ []
+  pub rest : left ≡ (comes_to at).left
+  pub output : Grows before.output.taken now.output.taken (with_last at.front (comes_to at)).output
+  pub between : NotesTold
+  pub noted : AreNoted (notes_for at.front.told) notes_before between
+  pub ends : EndsByLine (note_of file_names why) (with_last at.front (comes_to at)).ticks between notes_now heard
+  pub counts : DevicesStand before now
+
+-- what a line's text comes to, behind the text that waits
+abbrev pub text_of : {source : List ℕ → Source} {s : Session} {input : List ℕ} → LineOf source s input → Meant
+text_of {source} l = meant l.front.session.known (length l.front.session.stack) (source (behind_waiting l.front.session.waiting l.bytes))
 
 abbrev pub InputFailed : Cause → Type 0
 InputFailed by_input = Unit {0}
@@ -96,21 +91,18 @@ EndsCut by_input ticks before now heard = EndsToldIfMemory (fault_note INPUT_FAU
 EndsCut by_output ticks before now heard = EndsToldIfMemory (fault_note WRITE_FAULT ticks) (bare WRITE_FAULT ticks) before now heard
 EndsCut by_memory ticks before now heard = EndsTold memory_note (bare NO_MEMORY ticks) before now heard
 
--- The session was cut short in a line, with so many ticks of its phrase. The output of the lines before it was written, and of its own as much as `IsCutShort` says.
+-- The session was cut short in a line, with so many ticks of its phrase. The output of the lines before it was written, and of its own as much as `IsCutShort` says,
+-- and so it is of the input behind the line.
 pub record CutInLine (source : List ℕ → Source) (s : Session) (input left : List ℕ) (before now : DevicesTold) (notes_before notes_now : NotesTold) (heard : Heard) : Type 0 where
-  pub front : Front
-  pub stands : StandsBehindLines source s input front
-  pub bytes : List ℕ
-  pub rest : List ℕ
-  pub is_line : line_of front.left ≡ Line bytes rest
+  pub at : LineOf source s input
   pub written : SinkTold
-  pub output : Grows before.output.taken written.taken front.output
-  pub ticks : ℕ
-  pub cut : IsCutShort (meant front.session.known (length front.session.stack) (source (behind_waiting front.session.waiting bytes))) front.session rest ticks written now.output
-  pub between : NotesTold
-  pub noted : AreNoted (notes_for front.told) notes_before between
+  pub output : Grows before.output.taken written.taken at.front.output
   pub cause : Cause
-  pub ends : EndsCut cause (min (front.ticks + ticks) most_ticks) between notes_now heard
+  pub ticks : ℕ
+  pub cut : IsCutShort cause (text_of at) at.front.session at.rest left ticks written now.output
+  pub between : NotesTold
+  pub noted : AreNoted (notes_for at.front.told) notes_before between
+  pub ends : EndsCut cause (min (at.front.ticks + ticks) most_ticks) between notes_now heard
   pub counts : DevicesCount before now (InputFailed cause) (OutputFailed cause)
 
 -- memory was wanted before the first line
@@ -119,11 +111,16 @@ pub record NoSession (input left : List ℕ) (before now : DevicesTold) (notes_b
   pub still : now ≡ before
   pub ends : EndsTold memory_note (bare NO_MEMORY 0) notes_before notes_now heard
 
+-- a session was cut short, from its first line on
+abbrev pub IsCutFrom : (List ℕ → Source) → Session → List ℕ → List ℕ → DevicesTold → DevicesTold → NotesTold → NotesTold → Heard → Type 0
+IsCutFrom source s input left before now notes_before notes_now heard =
+    CutBetween source s input left before now notes_before notes_now heard ⊎ (CutAtNote source s input left before now notes_before notes_now heard ⊎ CutInLine source s input left before now notes_before notes_now heard)
+
 -- the session that there is before the first line was cut short
 pub record CutShort (prelude : Source) (source : List ℕ → Source) (input left : List ℕ) (before now : DevicesTold) (notes_before notes_now : NotesTold) (heard : Heard) : Type 0 where
   pub session : Session
   pub is : session_of prelude ≡ Ok session
-  pub cut : CutBetween source session input left before now notes_before notes_now heard ⊎ CutInLine source session input left before now notes_before notes_now heard
+  pub cut : IsCutFrom source session input left before now notes_before notes_now heard
 
 -- how listening ends, by what the prelude and the texts come to
 abbrev pub ListensBy : Source → (List ℕ → Source) → List ℕ → List ℕ → DevicesTold → DevicesTold → NotesTold → NotesTold → Heard → Type 0

@@ -10,13 +10,14 @@ ghost use Rattle.fac_listen.specs.Devices.{devices_of};
 ghost use Rattle.fac_listen.specs.Fronts.{Front};
 ghost use Rattle.fac_listen.specs.SessionNotes.{EndsTold, TellsLine, bare as bare_ending, memory_note, notes_told};
 ghost use Rattle.fac_notes.specs.declared.status.TheConstants.{NO_MEMORY};
-ghost use Rattle.fac_listen.specs.inner.Hearings.{IsBehind, OnReply};
+ghost use Rattle.fac_listen.specs.inner.Hearings.{IsBehind, OnReply, passed, ticks_in};
 ghost use Rattle.fac_listen.specs.inner.NextLines.{EndsThere, EndsWithout, TakesLine, TakesNext};
 
 use crate::Heard;
 use crate::telling::{done, tell_fault, tell_line, tell_no_memory, tell_refusal, tell_too_long};
 use fac_base::{Bytes, List, Text};
 use fac_io::{Sink, Source};
+use fac_judge::one_source;
 use fac_lines::{Channels, LineFault};
 use fac_listener::{Reply, Session};
 use fac_notes::Report;
@@ -35,6 +36,23 @@ pub struct Hearing {
     waits: Option<Report>,
     // The sum of the ticks of the lines.
     ticks: u64,
+}
+
+// The ticks of a line of which this was answered.
+fn ticks_of(reply: &Reply) -> u64
+    ensures { result ≡ ticks_in reply.now }
+{
+    match reply {
+        Reply::More(_) => 0,
+        Reply::Defined => 0,
+        Reply::Ran { ticks } => *ticks,
+        Reply::Refused(_) => 0,
+        Reply::Failed { ticks, .. } => *ticks,
+        Reply::Spent { ticks } => *ticks,
+        Reply::InputFault { ticks } => *ticks,
+        Reply::WriteFault { ticks } => *ticks,
+        Reply::Memory { ticks } => *ticks,
+    }
 }
 
 impl Hearing {
@@ -57,43 +75,11 @@ impl Hearing {
         tell_line(alloc, &self.names, why, self.ticks, notes)
     }
 
-    // Goes by what was answered of a line.
-    fn on_reply<N: Sink>(&mut self, alloc: Global, reply: Reply, notes: &mut N) -> Option<Heard>
-        ensures { OnReply self.old self.new reply (notes_told N.taken N.pieces N.faults notes.old) (notes_told N.taken N.pieces N.faults notes.new) result }
+    // What waits is this, or nothing.
+    fn wait(&mut self, waits: Option<Report>)
+        ensures { self.new ≡ record self.old { waits = waits } }
     {
-        self.waits = None;
-        match reply {
-            Reply::More(why) => {
-                self.waits = Some(why);
-                None
-            }
-            Reply::Defined => None,
-            Reply::Ran { ticks } => {
-                self.add(ticks);
-                None
-            }
-            Reply::Refused(why) => self.tell(alloc, &why, notes),
-            Reply::Failed { error, ticks } => {
-                self.add(ticks);
-                self.tell(alloc, &error, notes)
-            }
-            Reply::Spent { ticks } => {
-                self.add(ticks);
-                self.tell(alloc, &Report::Spent { ticks }, notes)
-            }
-            Reply::InputFault { ticks } => {
-                self.add(ticks);
-                Some(tell_fault(alloc, INPUT_FAULT, self.ticks, notes))
-            }
-            Reply::WriteFault { ticks } => {
-                self.add(ticks);
-                Some(tell_fault(alloc, WRITE_FAULT, self.ticks, notes))
-            }
-            Reply::Memory { ticks } => {
-                self.add(ticks);
-                Some(tell_no_memory(self.ticks, notes))
-            }
-        }
+        self.waits = waits;
     }
 
     // Adds the ticks of a line.
@@ -101,6 +87,35 @@ impl Hearing {
         ensures { self.new ≡ record self.old { ticks = min (self.old.ticks + ticks) most_ticks } }
     {
         self.ticks = self.ticks.saturating_add(ticks);
+    }
+
+    // Is behind a line of which this was answered. Nothing waits, as far as that tells.
+    fn pass(&mut self, reply: &Reply)
+        ensures { self.new ≡ passed self.old reply.now }
+    {
+        self.wait(None);
+        self.add(ticks_of(reply));
+    }
+
+    // Goes by what was answered of a line.
+    fn on_reply<N: Sink>(&mut self, alloc: Global, reply: Reply, notes: &mut N) -> Option<Heard>
+        ensures { OnReply self.old self.new reply (notes_told N.taken N.pieces N.faults notes.old) (notes_told N.taken N.pieces N.faults notes.new) result }
+    {
+        self.pass(&reply);
+        match reply {
+            Reply::More(why) => {
+                self.wait(Some(why));
+                None
+            }
+            Reply::Defined => None,
+            Reply::Ran { .. } => None,
+            Reply::Refused(why) => self.tell(alloc, &why, notes),
+            Reply::Failed { error, .. } => self.tell(alloc, &error, notes),
+            Reply::Spent { ticks } => self.tell(alloc, &Report::Spent { ticks }, notes),
+            Reply::InputFault { .. } => Some(tell_fault(alloc, INPUT_FAULT, self.ticks, notes)),
+            Reply::WriteFault { .. } => Some(tell_fault(alloc, WRITE_FAULT, self.ticks, notes)),
+            Reply::Memory { .. } => Some(tell_no_memory(self.ticks, notes)),
+        }
     }
 
     // Takes a line.
@@ -112,9 +127,10 @@ impl Hearing {
         notes: &mut N,
     ) -> Option<Heard>
         requires behind { (source : Items ℕ → Comes) × (f : Front) × AreSources source × IsBehind source f self.old }
-        requires open { has_ended self.old.session ≡ false }
+        requires is_open { has_ended self.old.session ≡ false }
         ensures { OnChannels channels.old channels.new (λ before now input left. (source : Items ℕ → Comes) (f : Front) → AreSources source → IsBehind source f self.old → TakesLine source f line input left (devices_of channels.old) (devices_of channels.new) (notes_told N.taken N.pieces N.faults notes.old) (notes_told N.taken N.pieces N.faults notes.new) self.new result) }
     {
+        one_source();
         let reply = self.session.line(workers, line.as_slice(), channels);
         self.on_reply(workers.alloc, reply, notes)
     }
@@ -148,7 +164,7 @@ impl Hearing {
         notes: &mut N,
     ) -> Option<Heard>
         requires behind { (source : Items ℕ → Comes) × (f : Front) × AreSources source × IsBehind source f self.old }
-        requires open { has_ended self.old.session ≡ false }
+        requires is_open { has_ended self.old.session ≡ false }
         ensures { OnChannels channels.old channels.new (λ before now input left. (source : Items ℕ → Comes) (f : Front) → AreSources source → IsBehind source f self.old → f.left ≡ input → TakesNext source f self.old.waits left (devices_of channels.old) (devices_of channels.new) (notes_told N.taken N.pieces N.faults notes.old) (notes_told N.taken N.pieces N.faults notes.new) self.new result) }
     {
         match channels.line() {

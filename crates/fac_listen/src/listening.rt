@@ -11,7 +11,7 @@ ghost use Rattle.fac_listen.specs.Fronts.{front_of};
 ghost use Rattle.fac_listen.specs.Listens.{Listens};
 ghost use Rattle.fac_listen.specs.SessionNotes.{notes_told};
 ghost use Rattle.fac_listen.specs.inner.Hearings.{IsBehind};
-ghost use Rattle.fac_listen.specs.inner.Endings.{EndsFrom};
+ghost use Rattle.fac_listen.specs.inner.Endings.{EndsFrom, EndsUnbegun};
 
 use crate::Heard;
 use crate::hearing::Hearing;
@@ -22,6 +22,7 @@ use fac_judge::{SessionFault, every_text_is_a_source};
 use fac_lines::Channels;
 use fac_listener::Session;
 use fac_par::{Gate, Workers};
+use std::alloc::Global;
 use std::thread::Threads;
 
 // Hears a session to its end. A source gives fewer lines than are counted here, so that the count ends is never told.
@@ -32,7 +33,7 @@ fn hear<R: Threads + Sync, G: Gate + Sync, S: Source, K: Sink, N: Sink>(
     notes: &mut N,
 ) -> Heard
     requires behind { (source : Items ℕ → Comes) × (s : Standing) × AreSources source × IsBehind source (front_of s []) hearing }
-    requires open { has_ended hearing.session ≡ false }
+    requires is_open { has_ended hearing.session ≡ false }
     ensures { OnChannels channels.old channels.new (λ before now input left. (source : Items ℕ → Comes) (s : Standing) → AreSources source → IsBehind source (front_of s input) hearing → EndsFrom source s input left (devices_of channels.old) (devices_of channels.new) (notes_told N.taken N.pieces N.faults notes.old) (notes_told N.taken N.pieces N.faults notes.new) result) }
 {
     for _ in 0..u64::MAX {
@@ -41,6 +42,21 @@ fn hear<R: Threads + Sync, G: Gate + Sync, S: Source, K: Sink, N: Sink>(
         }
     }
     hearing.end_for_memory(notes)
+}
+
+// Ends where there is no session for this reason.
+fn end_unbegun<N: Sink>(
+    alloc: Global,
+    names: &List<Text>,
+    fault: SessionFault,
+    notes: &mut N,
+) -> Heard
+    ensures { EndsUnbegun fault names.now (notes_told N.taken N.pieces N.faults notes.old) (notes_told N.taken N.pieces N.faults notes.new) result }
+{
+    match fault {
+        SessionFault::Prelude(why) => tell_refusal(alloc, names, why, 0, notes),
+        SessionFault::Memory => tell_no_memory(0, notes),
+    }
 }
 
 // Begins a session whose files have these names, and hears it.
@@ -56,8 +72,7 @@ fn begin<R: Threads + Sync, G: Gate + Sync, S: Source, K: Sink, N: Sink>(
     every_text_is_a_source();
     match Session::new(workers) {
         Ok(session) => hear(workers, Hearing::new(session, names), channels, notes),
-        Err(SessionFault::Prelude(why)) => tell_refusal(workers.alloc, &names, why, 0, notes),
-        Err(SessionFault::Memory) => tell_no_memory(0, notes),
+        Err(fault) => end_unbegun(workers.alloc, &names, fault, notes),
     }
 }
 
@@ -69,6 +84,7 @@ pub fn listen<R: Threads + Sync, G: Gate + Sync, S: Source, K: Sink, N: Sink>(
 ) -> Heard
     ensures { Listens channels.old channels.new (notes_told N.taken N.pieces N.faults notes.old) (notes_told N.taken N.pieces N.faults notes.new) result }
 {
+    every_text_is_a_source();
     match file_names(workers.alloc) {
         Ok(names) => begin(workers, names, channels, notes),
         Err(_) => tell_no_memory(0, notes),

@@ -1,4 +1,6 @@
 pub mod TextLemmas
+pub mod StepTicks
+pub mod RunTicks
 pub mod RunLemmas
 pub mod ToldLemmas
 pub mod StopLemmas

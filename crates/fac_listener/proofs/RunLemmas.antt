@@ -20,6 +20,7 @@ use Rattle.fac_machine.specs.Machine.{Machine, End, done, failed, spent, trap, E
 use Rattle.fac_machine.specs.MachineLaws.{RunsHaveOneEnd, RunsDontTellAddresses, RunsLeaveValuesBelow}
 use Rattle.fac_machine.specs.Renaming.{Renaming, renamed, renamed_values, renamed_error, RenamesWorld, Renames, RenamesEnd}
 use Rattle.fac_machine.proofs.RenamingLaws.{through, renames_through}
+use Rattle.fac_machine.proofs.RenamingRuns.{ends_back}
 use Rattle.fac_vm.specs.Runs.{Held, Stands, begun}
 use Rattle.fac_vm.specs.SeenMachine.{MachineSeen}
 use Rattle.fac_carry.specs.Carries.{SameEnd, top_run}
@@ -106,6 +107,16 @@ module _
       let r = addresses ρ M (begun M input (kept held)) (begun M input (kept old)) n f (kept_renames ρ M input held old stack world) there in
       let same = one_end M (begun M input (kept held)) n r.0 (under_end held.stack d.0) r.1 low in
       (d.0, d.1, d.2, subst (λ (e : End). RenamesEnd ρ e f) same r.2)
+
+  -- and with any ticks that machine ends
+  pub machine_comes :
+      (ρ : Renaming) (old : Held) → held.stack ≡ renamed_values ρ old.stack → RenamesWorld ρ (held_world [] held) (held_world [] old) → (n : ℕ) →
+      (e : End) × (f : End) × Ends M (begun M input (kept old)) n f × SameEnd T (session_run s input n) e × RenamesEnd ρ (under_end held.stack e) f
+  machine_comes ρ old stack world n =
+      let d = definition_ends n in
+      let low = below M held.stack (begun M input held) n d.0 d.1 (lacks_none T (session_run s input n) d.0 d.2) in
+      let r = ends_back ρ M (begun M input (kept held)) (begun M input (kept old)) (kept_renames ρ M input held old stack world) n (under_end held.stack d.0) low in
+      (d.0, r.0, r.1, d.2, r.2)
 
 -- By the kind of the end.
 

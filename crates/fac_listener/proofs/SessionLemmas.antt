@@ -1,9 +1,10 @@
 -- A session's text: what is answered of it is what it comes to.
-use Rattle.std.proofs.Common.{◌≡◌, ◌-◌, ℕ, suc, List, [], ◌∷◌, ◌++◌, length, drop, Bool, true, false, None, Some, refl, sym, ap, subst, ◌∙◌}
+use Rattle.std.proofs.Common.{◌≡◌, ℕ, suc, List, [], ◌∷◌, ◌++◌, length, drop, Bool, true, false, None, Some, inl, inr, refl, sym, ap, subst, ◌∙◌}
+use Rattle.std.specs.Prelude.{◌⊎◌}
 use Rattle.std.specs.declared.option.Option.{Option}
 use Rattle.fac_base.specs.declared.limits.TheConstants.{TICKS}
 use Rattle.fac_base.specs.HeightArithmetic.{fits}
-use Rattle.fac_io.specs.Told.{SinkTold, Grows, GrowsByPrefix}
+use Rattle.fac_io.specs.Told.{SinkTold, Grows}
 use Rattle.fac_lang.specs.Eval.{Result as Run, Done, Failed, Spent, Stuck}
 use Rattle.fac_lang.specs.Meaning.{run, with_arrays, word_phrase}
 use Rattle.fac_lang.specs.Phrases.{Phrase, end, then, Value}
@@ -21,7 +22,8 @@ use Rattle.fac_vm.specs.SeenMachine.{MachineSeen}
 use Rattle.fac_session.specs.Sessions.{Session, Meant, waits, refuses, goes_on, meant}
 use Rattle.fac_session.specs.SessionLines.{Said, more, defined, ran, refused, failed, spent, Behind, line_run, line_world, of_phrase, of_run, on_meant, session_with, with_waiting}
 use Rattle.fac_judge.specs.KnownTexts.{IsKnownBehind}
-use Rattle.fac_listener.specs.Replies.{AreSources, IsAnswer, IsCutShort, StopsBehind, StopsWithin, TextReplies, ends_session, before_run, behind_run, in_run, run_output}
+use Rattle.fac_listener.specs.CutRuns.{FaultBehindRun, FaultInRun, InputFaultInRun, RunPieces, WantedWithRun, stack_behind}
+use Rattle.fac_listener.specs.Replies.{AnswerPieces, AreSources, Cause, IsAnswer, IsCutShort, OfItems, TextReplies, by_input, by_memory, by_output, ends_session}
 use Rattle.fac_listener.specs.StandingSessions.{HasMachine, HoldsSession, Stands, session_world}
 use Rattle.fac_judge.specs.TextMeanings.{has_item}
 use Rattle.fac_judge.specs.MeantTexts.{ComesTo, Means}
@@ -29,8 +31,8 @@ use Rattle.fac_judge.specs.TextSources.{OneSource}
 use Rattle.fac_listener.specs.declared.reply.Reply.{Reply}
 use Rattle.fac_listener.specs.declared.reply.Reply.TheVariants as reply
 use Rattle.fac_listener.specs.declared.session.Session.{Session as SessionSeen}
-use Rattle.fac_listener.specs.inner.PhraseRuns.{AnswersPhrase, IsPhraseAnswer, IsPhraseCutShort, StopsBehindPhrase, before_phrase, behind_phrase, in_phrase, phrase_behind, session_run}
-use Rattle.fac_listener.specs.inner.SessionSteps.{AnswersLine, has_phrase, line_session}
+use Rattle.fac_listener.specs.inner.PhraseRuns.{AnswersPhrase, IsPhraseAnswer, IsPhraseCutShort, phrase_behind, session_run}
+use Rattle.fac_listener.specs.inner.SessionSteps.{AnswersLine, TextAnswers, has_phrase, line_session}
 use Rattle.fac_listener.proofs.PhraseLemmas.{grows_none}
 
 -- The world in which a line's phrase begins.
@@ -90,17 +92,22 @@ module _ (s : Session) (q : Known) where
   comes_to_phrase : (text input : List ℕ) → IsNotStuck (session_run d input TICKS) → has_phrase d ≡ true → phrase_behind d input ≡ on_meant s text input (goes_on q)
   comes_to_phrase text input never e = sym (with_phrase (word_phrase Q Q.top) input e ∙ behind_same input never)
 
-  stops_same : (input : List ℕ) (n : ℕ) (before now : SinkTold) → StopsWithin (session_run d input) n before now → StopsWithin (line_run s Q input) n before now
-  stops_same input n before now h = record {
-    within = h.within;
-    spent_before = λ some. let first = h.spent_before some in (first.0, first.1, run_same input (n - 1) ∙ first.2, first.3);
-    at_most = subst (λ (r : Run). GrowsByPrefix before.taken now.taken (run_output r)) (sym (run_same input n)) h.at_most;
-  }
+  runs_same : (input : List ℕ) → session_run d input ≡ line_run s Q input
+  runs_same input = λ i n. sym (run_same input n) i
 
-  cut_short : (input : List ℕ) (n : ℕ) (before now : SinkTold) → IsPhraseCutShort d input n before now → IsCutShort (goes_on q) s input n before now
-  cut_short input n before now (before_phrase none same) = before_run none same
-  cut_short input n before now (in_phrase h) = in_run q refl (stops_same input n before now h)
-  cut_short input n before now (behind_phrase h) = behind_run q refl (record { state = h.state; more_ticks = h.more_ticks; done = run_same input TICKS ∙ h.done; used = h.used; at_most = h.at_most })
+  -- what holds of its run is so of the phrase of the text
+  of_items : (t : Phrase) (Holds : Type 0) → has_item t ≡ true → Holds → OfItems t Holds
+  of_items end Holds e h = absurd cc
+  of_items (then i p t) Holds e h = h
+
+  of_line : (input : List ℕ) (Holds : (ℕ → Run) → Type 0) → has_phrase d ≡ true → Holds (session_run d input) → OfItems (word_phrase Q Q.top) (Holds (line_run s Q input))
+  of_line input Holds e h = of_items (word_phrase Q Q.top) (Holds (line_run s Q input)) e (subst Holds (runs_same input) h)
+
+  cut_short : (cause : Cause) (input left : List ℕ) (n : ℕ) (before now : SinkTold) → has_phrase d ≡ true → IsPhraseCutShort cause d input left n before now → IsCutShort cause (goes_on q) s input left n before now
+  cut_short by_input input left n before now e h = of_line input (λ (go : ℕ → Run). InputFaultInRun go left n before now) e h
+  cut_short by_output input left n before now e h = of_line input (λ (go : ℕ → Run). FaultInRun go left n before now ⊎ FaultBehindRun Q go left n before now) e h
+  cut_short by_memory input left n before now e (inl h) = inl h
+  cut_short by_memory input left n before now e (inr h) = inr (of_line input (λ (go : ℕ → Run). WantedWithRun go left n before now) e h)
 
   answer_same : (text input : List ℕ) (said : Said) (before now : SinkTold) (code : SessionSeen) (left : List ℕ) → IsNotStuck (session_run d input TICKS) → has_phrase d ≡ true → IsAnswer (phrase_behind d input) said before now code left → IsAnswer (on_meant s text input (goes_on q)) said before now code left
   answer_same text input said before now code left never e h = subst (λ (b : Behind). IsAnswer b said before now code left) (comes_to_phrase text input never e) h
@@ -108,15 +115,27 @@ module _ (s : Session) (q : Known) where
   defined_session : (input : List ℕ) → d ≡ session_with q s.stack (line_world s Q input)
   defined_session input = ap (session_with q s.stack) (sym (world_is input))
 
+  -- in which pieces
+  text_pieces : (input left : List ℕ) (before now : SinkTold) (code : SessionSeen) (a : Reply) → AnswersLine d before now code a input left → AnswerPieces (goes_on q) s input before now a
+  text_pieces input left before now code (reply.Ran n) h = of_line input (λ (go : ℕ → Run). RunPieces go n (stack_behind Q (go TICKS)) before now) h.0 h.2
+  text_pieces input left before now code (reply.Failed why n) h = of_line input (λ (go : ℕ → Run). RunPieces go n [] before now) h.0 h.2
+  text_pieces input left before now code (reply.Spent n) h = of_line input (λ (go : ℕ → Run). RunPieces go n [] before now) h.0 h.2
+  text_pieces input left before now code (reply.InputFault n) h = tt
+  text_pieces input left before now code (reply.WriteFault n) h = tt
+  text_pieces input left before now code (reply.Memory n) h = tt
+  text_pieces input left before now code reply.Defined h = h.2
+  text_pieces input left before now code (reply.More why) h = absurd h
+  text_pieces input left before now code (reply.Refused why) h = absurd h
+
   -- what is answered of the phrase is what is answered of the text
-  pub text_replies :
+  text_replies :
       (text input left : List ℕ) (before now : SinkTold) (code : SessionSeen) (a : Reply) → IsNotStuck (session_run d input TICKS) → AnswersLine d before now code a input left → TextReplies s text (goes_on q) before now code a input left
   text_replies text input left before now code (reply.Ran n) never h = answer_same text input (ran n) before now code left never h.0 h.1
   text_replies text input left before now code (reply.Failed why n) never h = answer_same text input (failed why n) before now code left never h.0 h.1
   text_replies text input left before now code (reply.Spent n) never h = answer_same text input (spent n) before now code left never h.0 h.1
-  text_replies text input left before now code (reply.InputFault n) never h = cut_short input n before now h
-  text_replies text input left before now code (reply.WriteFault n) never h = cut_short input n before now h
-  text_replies text input left before now code (reply.Memory n) never h = cut_short input n before now h
+  text_replies text input left before now code (reply.InputFault n) never h = cut_short by_input input left n before now h.0 h.1
+  text_replies text input left before now code (reply.WriteFault n) never h = cut_short by_output input left n before now h.0 h.1
+  text_replies text input left before now code (reply.Memory n) never h = cut_short by_memory input left n before now h.0 h.1
   text_replies text input left before now code reply.Defined never h =
       subst (λ (b : Behind). IsAnswer b defined before now code left) (sym (without_phrase (word_phrase Q Q.top) input h.0))
       (record {
@@ -127,6 +146,10 @@ module _ (s : Session) (q : Known) where
       })
   text_replies text input left before now code (reply.More why) never h = absurd h
   text_replies text input left before now code (reply.Refused why) never h = absurd h
+
+  pub text_answered :
+      (text input left : List ℕ) (before now : SinkTold) (code : SessionSeen) (a : Reply) → IsNotStuck (session_run d input TICKS) → AnswersLine d before now code a input left → TextAnswers s text (goes_on q) before now code a input left
+  text_answered text input left before now code a never h = (text_replies text input left before now code a never h, text_pieces input left before now code a h)
 
 -- The session behind a phrase.
 
@@ -161,12 +184,12 @@ phrase_stands s input said before now m code left known waiting machine h =
 pub line_answers :
     (s : Session) (before now : SinkTold) (m : MachineSeen) (code : SessionSeen) (a : Reply) (input left : List ℕ) → IsKnownBehind code.texts s.known → code.waiting ≡ [] → (ends_session a ≡ false → code.machine ≡ Some m) → has_phrase s ≡ true →
     AnswersPhrase s before now m a input left → AnswersLine s before now code a input left
-line_answers s before now m code (reply.Ran n) input left known waiting machine e h = (e, phrase_stands s input (ran n) before now m code left known waiting (machine refl) h)
-line_answers s before now m code (reply.Failed why n) input left known waiting machine e h = (e, phrase_stands s input (failed why n) before now m code left known waiting (machine refl) h)
-line_answers s before now m code (reply.Spent n) input left known waiting machine e h = (e, phrase_stands s input (spent n) before now m code left known waiting (machine refl) h)
-line_answers s before now m code (reply.InputFault n) input left known waiting machine e h = h
-line_answers s before now m code (reply.WriteFault n) input left known waiting machine e h = h
-line_answers s before now m code (reply.Memory n) input left known waiting machine e h = h
+line_answers s before now m code (reply.Ran n) input left known waiting machine e h = (e, phrase_stands s input (ran n) before now m code left known waiting (machine refl) h.0, h.1)
+line_answers s before now m code (reply.Failed why n) input left known waiting machine e h = (e, phrase_stands s input (failed why n) before now m code left known waiting (machine refl) h.0, h.1)
+line_answers s before now m code (reply.Spent n) input left known waiting machine e h = (e, phrase_stands s input (spent n) before now m code left known waiting (machine refl) h.0, h.1)
+line_answers s before now m code (reply.InputFault n) input left known waiting machine e h = (e, h)
+line_answers s before now m code (reply.WriteFault n) input left known waiting machine e h = (e, h)
+line_answers s before now m code (reply.Memory n) input left known waiting machine e h = (e, h)
 line_answers s before now m code (reply.More why) input left known waiting machine e h = absurd h
 line_answers s before now m code reply.Defined input left known waiting machine e h = absurd h
 line_answers s before now m code (reply.Refused why) input left known waiting machine e h = absurd h
@@ -205,12 +228,12 @@ still_answer s text input said before code m known holds waiting machine = recor
 
 pub waiting_replies :
     (s : Session) (text input : List ℕ) (m : Meant) (at : ℕ) (before : SinkTold) (code : SessionSeen) (machine : MachineSeen) → m ≡ waits at → IsKnownBehind code.texts s.known → HoldsSession s machine → code.waiting ≡ text → code.machine ≡ Some machine →
-    TextReplies s text m before before code (reply.More (report.Syntax 1 at End)) input input
+    TextAnswers s text m before before code (reply.More (report.Syntax 1 at End)) input input
 waiting_replies s text input m at before code machine e known holds waiting is =
-    subst (λ (m : Meant). TextReplies s text m before before code (reply.More (report.Syntax 1 at End)) input input) (sym e) (still_answer s text input (more (report.Syntax 1 at End)) before code machine known holds waiting is)
+    subst (λ (m : Meant). TextAnswers s text m before before code (reply.More (report.Syntax 1 at End)) input input) (sym e) (still_answer s text input (more (report.Syntax 1 at End)) before code machine known holds waiting is, refl)
 
 pub refused_replies :
     (s : Session) (text input : List ℕ) (m : Meant) (why : Report) (before : SinkTold) (code : SessionSeen) (machine : MachineSeen) → m ≡ refuses why → IsKnownBehind code.texts s.known → HoldsSession s machine → code.waiting ≡ [] → code.machine ≡ Some machine →
-    TextReplies s text m before before code (reply.Refused why) input input
+    TextAnswers s text m before before code (reply.Refused why) input input
 refused_replies s text input m why before code machine e known holds waiting is =
-    subst (λ (m : Meant). TextReplies s text m before before code (reply.Refused why) input input) (sym e) (still_answer s [] input (refused why) before code machine known holds waiting is)
+    subst (λ (m : Meant). TextAnswers s text m before before code (reply.Refused why) input input) (sym e) (still_answer s [] input (refused why) before code machine known holds waiting is, refl)

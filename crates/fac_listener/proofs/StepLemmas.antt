@@ -22,7 +22,7 @@ use Rattle.fac_session.specs.Sessions.{Session, Meant, goes_on, meant, on_names,
 use Rattle.fac_session.specs.SessionLines.{behind_waiting}
 use Rattle.fac_judge.specs.JudgedPrograms.{IsAccepted}
 use Rattle.fac_judge.specs.KnownTexts.{GoesOn, GoesOnWith, IsKnownBehind, KnownBehindAreKnown, OneKnown}
-use Rattle.fac_listener.specs.Replies.{AreSources, Replies, TextReplies}
+use Rattle.fac_listener.specs.Replies.{AnswerPieces, AreSources, LinePieces, Replies, TextReplies}
 use Rattle.fac_listener.specs.StandingSessions.{HasMachine, HoldsSession, Stands}
 use Rattle.fac_judge.specs.TextMeanings.{IsAcceptedText, IsMeaning}
 use Rattle.fac_judge.specs.TextSources.{OneSource}
@@ -31,9 +31,9 @@ use Rattle.fac_judge.specs.declared.meaning.Meaning.{Meaning}
 use Rattle.fac_listener.specs.declared.reply.Reply.{Reply}
 use Rattle.fac_listener.specs.declared.session.Session.{Session as SessionSeen}
 use Rattle.fac_listener.specs.inner.SessionLaws.{PhrasesAreNotStuck}
-use Rattle.fac_listener.specs.inner.SessionSteps.{AnswersLine, HoldsReady, MachineGoesOn, TextGoesOn, has_phrase, line_session}
+use Rattle.fac_listener.specs.inner.SessionSteps.{AnswersLine, HoldsReady, MachineGoesOn, TextAnswers, TextGoesOn, has_phrase, line_session}
 use Rattle.fac_judge.proofs.KnownLemmas.{one_more_text}
-use Rattle.fac_listener.proofs.SessionLemmas.{text_replies}
+use Rattle.fac_listener.proofs.SessionLemmas.{text_answered}
 
 -- The number of values.
 
@@ -122,20 +122,20 @@ pub text_answers :
     PhrasesAreNotStuck → KnownStays → KnownBehindAreKnown → (texts now_texts : List (List ℕ)) (m next : MachineSeen) (accepted : Accepted) (text : List ℕ) → MachineGoesOn m accepted.checked.closed next → now_texts ≡ texts ++ text ∷ [] →
     (before now : SinkTold) (code : SessionSeen) (a : Reply) (input left : List ℕ) →
     ((s : Session) → IsKnownBehind now_texts s.known → HoldsReady s next → s.waiting ≡ [] → accepted.runs ≡ has_phrase s → AnswersLine s before now code a input left) →
-    (s : Session) (q : Known) → TextGoesOn texts m accepted text s q → TextReplies s text (goes_on q) before now code a input left
+    (s : Session) (q : Known) → TextGoesOn texts m accepted text s q → TextAnswers s text (goes_on q) before now code a input left
 text_answers never law are texts now_texts m next accepted text goes more before now code a input left h s q on =
     let holds = holds_next law are texts m next accepted text s q goes on in
     let known : IsKnownBehind now_texts q = subst (λ (ts : List (List ℕ)). IsKnownBehind ts q) (sym more) (one_more_text texts s.known text q on.known on.goes_on) in
-    text_replies s q text input left before now code a (never (line_session s q) next holds input TICKS) (h (line_session s q) known holds refl on.runs)
+    text_answered s q text input left before now code a (never (line_session s q) next holds input TICKS) (h (line_session s q) known holds refl on.runs)
 
 -- what is answered of what an accepted text goes on with is what is answered of the text
 pub text_replies_as :
     OneSource → (source : List ℕ → Source) → AreSources source → (texts : List (List ℕ)) (m : MachineSeen) (accepted : Accepted) (text : List ℕ) (s : Session) (count : ℕ) → IsKnownBehind texts s.known → HoldsSession s m → count ≡ length s.stack → IsAcceptedText s.known count text accepted →
-    (before now : SinkTold) (code : SessionSeen) (a : Reply) (input left : List ℕ) → ((q : Known) → TextGoesOn texts m accepted text s q → TextReplies s text (goes_on q) before now code a input left) →
-    TextReplies s text (meant s.known (length s.stack) (source text)) before now code a input left
+    (before now : SinkTold) (code : SessionSeen) (a : Reply) (input left : List ℕ) → ((q : Known) → TextGoesOn texts m accepted text s q → TextAnswers s text (goes_on q) before now code a input left) →
+    TextAnswers s text (meant s.known (length s.stack) (source text)) before now code a input left
 text_replies_as law source are texts m accepted text s count known holds many h before now code a input left answered =
     let on = goes_with texts m accepted text s count known holds many h in
-    subst (λ (x : Meant). TextReplies s text x before now code a input left) (sym (text_means law source are texts m accepted text s on.0 on.1)) (answered on.0 on.1)
+    subst (λ (x : Meant). TextAnswers s text x before now code a input left) (sym (text_means law source are texts m accepted text s on.0 on.1)) (answered on.0 on.1)
 
 -- definitions alone stand
 pub defined_stands : (s : Session) (code : SessionSeen) (m : MachineSeen) → IsKnownBehind code.texts s.known → HoldsReady s m → s.waiting ≡ [] → code.waiting ≡ [] → code.machine ≡ Some m → Stands s code
@@ -153,7 +153,14 @@ has_machine s o m e h = subst (λ (o : Option MachineSeen). HasMachine s o) e h
 
 pub line_replies :
     (source : List ℕ → Source) (s : Session) (waiting line text : List ℕ) (before now : SinkTold) (code : SessionSeen) (a : Reply) (input left : List ℕ) → waiting ≡ s.waiting → text ≡ behind_waiting waiting line →
-    TextReplies s text (meant s.known (length s.stack) (source text)) before now code a input left →
+    TextAnswers s text (meant s.known (length s.stack) (source text)) before now code a input left →
     Replies source s line before now code a input left
 line_replies source s waiting line text before now code a input left same is h =
-    subst (λ (t : List ℕ). TextReplies s t (meant s.known (length s.stack) (source t)) before now code a input left) (is ∙ ap (λ (w : List ℕ). behind_waiting w line) same) h
+    subst (λ (t : List ℕ). TextReplies s t (meant s.known (length s.stack) (source t)) before now code a input left) (is ∙ ap (λ (w : List ℕ). behind_waiting w line) same) h.0
+
+pub line_pieces :
+    (source : List ℕ → Source) (s : Session) (waiting line text : List ℕ) (before now : SinkTold) (code : SessionSeen) (a : Reply) (input left : List ℕ) → waiting ≡ s.waiting → text ≡ behind_waiting waiting line →
+    TextAnswers s text (meant s.known (length s.stack) (source text)) before now code a input left →
+    LinePieces source s line input before now a
+line_pieces source s waiting line text before now code a input left same is h =
+    subst (λ (t : List ℕ). AnswerPieces (meant s.known (length s.stack) (source t)) s input before now a) (is ∙ ap (λ (w : List ℕ). behind_waiting w line) same) h.1

@@ -1,17 +1,16 @@
 -- What is answered of a line.
-use Rattle.std.specs.Prelude.{◌≡◌, ◌<◌, ◌≤◌, ◌-◌, ℕ, List, [], ◌++◌, length, Option, Result, Ok, Err, Bool, true, false}
+use Rattle.std.specs.Prelude.{◌≡◌, ◌⊎◌, ℕ, List, [], length, Result, Ok, Err, Bool, true, false}
 use Rattle.fac_base.specs.declared.limits.TheConstants.{TICKS}
-use Rattle.fac_io.specs.Told.{SinkTold, Grows, GrowsByPrefix}
-use Rattle.fac_lang.specs.Phrases.{Item, Value}
-use Rattle.fac_lang.specs.World.{State}
-use Rattle.fac_lang.specs.Eval.{Result as Run, Done, Failed, Spent, Stuck}
-use Rattle.fac_vm.specs.Runs.{GrowsBeyond}
+use Rattle.fac_io.specs.Told.{SinkTold, Grows}
+use Rattle.fac_lang.specs.Meaning.{word_phrase}
+use Rattle.fac_lang.specs.Phrases.{Phrase, end, then}
 use Rattle.fac_names.specs.declared.known.Known.{Known}
 use Rattle.fac_notes.specs.Sources.{Source}
 use Rattle.fac_prelude.specs.PreludeText.{prelude_text}
-use Rattle.fac_session.specs.Sessions.{Session, Meant, goes_on, meant, session_of}
-use Rattle.fac_session.specs.SessionLines.{Said, more, defined, ran, refused, failed, spent, Behind, behind_waiting, line_run, on_meant, stack_text}
+use Rattle.fac_session.specs.Sessions.{Session, Meant, waits, refuses, goes_on, meant, session_of}
+use Rattle.fac_session.specs.SessionLines.{Said, more, defined, ran, refused, failed, spent, Behind, behind_waiting, line_run, on_meant}
 use Rattle.fac_judge.specs.KnownTexts.{IsPreludeRefusal}
+use Rattle.fac_listener.specs.CutRuns.{InputFaultInRun, FaultInRun, FaultBehindRun, RunPieces, WantedBefore, WantedWithRun, stack_behind}
 use Rattle.fac_listener.specs.StandingSessions.{Stands}
 use Rattle.fac_judge.specs.TextSources.{IsReadAs}
 use Rattle.fac_judge.specs.declared.known_texts.SessionFault.{SessionFault}
@@ -48,33 +47,29 @@ pub record IsAnswer (b : Behind) (said : Said) (before now : SinkTold) (code : S
   pub output : Grows before.taken now.taken b.output
   pub left_is : left ≡ b.left
 
--- what a run wrote so far
-abbrev pub run_output : Run → List ℕ
-run_output (Done st left) = st.world.output
-run_output (Failed e st left) = st.world.output
-run_output (Spent st i) = st.world.output
-run_output Stuck = []
+-- Something is so of the phrase of a text: the text was accepted, and the phrase has an item.
+abbrev pub OfItems : Phrase → Type 0 → Type 0
+OfItems end Holds = ⊥
+OfItems (then i p t) Holds = Holds
 
--- How far a run came that used so many ticks, however it ended. With one tick less it is spent, and what it wrote till then was taken. Of what it writes in
--- these ticks a prefix was taken.
-pub record StopsWithin (go : ℕ → Run) (ticks : ℕ) (before now : SinkTold) : Type 0 where
-  pub within : ticks ≤ TICKS
-  pub spent_before : 0 < ticks → (st : State Value) × (i : Option Item) × (go (ticks - 1) ≡ Spent st i) × GrowsBeyond before.taken now.taken st.world.output
-  pub at_most : GrowsByPrefix before.taken now.taken (run_output (go ticks))
+abbrev pub OfPhrase : Meant → (Known → Type 0) → Type 0
+OfPhrase (waits at) Holds = ⊥
+OfPhrase (refuses why) Holds = ⊥
+OfPhrase (goes_on k) Holds = OfItems (word_phrase k.program k.program.top) (Holds k)
 
--- A run was done with so many ticks, and of its output and the stack that is written behind it a prefix was taken.
-pub record StopsBehind (s : Session) (k : Known) (input : List ℕ) (ticks : ℕ) (before now : SinkTold) : Type 0 where
-  pub state : State Value
-  pub more_ticks : ℕ
-  pub done : line_run s k.program input TICKS ≡ Done state more_ticks
-  pub used : ticks ≡ TICKS - more_ticks
-  pub at_most : GrowsByPrefix before.taken now.taken (state.world.output ++ stack_text k.program state.world state.stack)
+-- what cuts a line short: a fault of the input or the output, or want of memory
+pub data Cause : Type 0 where
+  by_input : Cause
+  by_output : Cause
+  by_memory : Cause
 
--- A line was cut short, by a fault or for want of memory, with so many ticks of its phrase: before the phrase ran, in its run, or behind it.
-pub data IsCutShort (m : Meant) (s : Session) (input : List ℕ) (ticks : ℕ) (before now : SinkTold) : Type 0 where
-  before_run : ticks ≡ 0 → now ≡ before → IsCutShort m s input ticks before now
-  in_run : (k : Known) → m ≡ goes_on k → StopsWithin (line_run s k.program input) ticks before now → IsCutShort m s input ticks before now
-  behind_run : (k : Known) → m ≡ goes_on k → StopsBehind s k input ticks before now → IsCutShort m s input ticks before now
+-- A line was cut short, with so many ticks of its phrase, and this was left of the input behind it: by the input in the run of its phrase, by the output there or where
+-- the stack is written behind it, or for want of memory before the run, in it, or behind it.
+abbrev pub IsCutShort : Cause → Meant → Session → List ℕ → List ℕ → ℕ → SinkTold → SinkTold → Type 0
+IsCutShort by_input m s input left ticks before now = OfPhrase m (λ k. InputFaultInRun (line_run s k.program input) left ticks before now)
+IsCutShort by_output m s input left ticks before now =
+    OfPhrase m (λ k. FaultInRun (line_run s k.program input) left ticks before now ⊎ FaultBehindRun k.program (line_run s k.program input) left ticks before now)
+IsCutShort by_memory m s input left ticks before now = WantedBefore input left ticks before now ⊎ OfPhrase m (λ k. WantedWithRun (line_run s k.program input) left ticks before now)
 
 module _ (s : Session) (text : List ℕ) (m : Meant) where
   -- what is answered of a text that comes to this: what a line comes to with it, or how far it came
@@ -85,13 +80,29 @@ module _ (s : Session) (text : List ℕ) (m : Meant) where
   TextReplies before now code (reply.Refused why) input left = IsAnswer (on_meant s text input m) (refused why) before now code left
   TextReplies before now code (reply.Failed why n) input left = IsAnswer (on_meant s text input m) (failed why n) before now code left
   TextReplies before now code (reply.Spent n) input left = IsAnswer (on_meant s text input m) (spent n) before now code left
-  TextReplies before now code (reply.InputFault n) input left = IsCutShort m s input n before now
-  TextReplies before now code (reply.WriteFault n) input left = IsCutShort m s input n before now
-  TextReplies before now code (reply.Memory n) input left = IsCutShort m s input n before now
+  TextReplies before now code (reply.InputFault n) input left = IsCutShort by_input m s input left n before now
+  TextReplies before now code (reply.WriteFault n) input left = IsCutShort by_output m s input left n before now
+  TextReplies before now code (reply.Memory n) input left = IsCutShort by_memory m s input left n before now
 
 -- What is answered of a line with these bytes: what `line` comes to, or how far it came.
 abbrev pub Replies : (List ℕ → Source) → Session → List ℕ → SinkTold → SinkTold → SessionSeen → Reply → List ℕ → List ℕ → Type 0
 Replies source s bytes = let text = behind_waiting s.waiting bytes in TextReplies s text (meant s.known (length s.stack) (source text))
+
+-- In which pieces the output of a line was taken that wasn't cut short: one for each item of its phrase that writes, and behind a phrase that ran one for its stack. A
+-- text without a phrase writes nothing. Where a line was cut short, `IsCutShort` tells the pieces.
+abbrev pub AnswerPieces : Meant → Session → List ℕ → SinkTold → SinkTold → Reply → Type 0
+AnswerPieces m s input before now (reply.Ran n) = OfPhrase m (λ k. RunPieces (line_run s k.program input) n (stack_behind k.program (line_run s k.program input TICKS)) before now)
+AnswerPieces m s input before now (reply.Failed why n) = OfPhrase m (λ k. RunPieces (line_run s k.program input) n [] before now)
+AnswerPieces m s input before now (reply.Spent n) = OfPhrase m (λ k. RunPieces (line_run s k.program input) n [] before now)
+AnswerPieces m s input before now (reply.More why) = now ≡ before
+AnswerPieces m s input before now reply.Defined = now ≡ before
+AnswerPieces m s input before now (reply.Refused why) = now ≡ before
+AnswerPieces m s input before now (reply.InputFault n) = Unit {0}
+AnswerPieces m s input before now (reply.WriteFault n) = Unit {0}
+AnswerPieces m s input before now (reply.Memory n) = Unit {0}
+
+abbrev pub LinePieces : (List ℕ → Source) → Session → List ℕ → List ℕ → SinkTold → SinkTold → Reply → Type 0
+LinePieces source s bytes = AnswerPieces (meant s.known (length s.stack) (source (behind_waiting s.waiting bytes))) s
 
 -- the input or the output failed
 abbrev pub IsInputFault : Reply → Type 0

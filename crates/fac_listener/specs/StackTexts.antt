@@ -1,5 +1,5 @@
 -- The stack as it is written behind a phrase.
-use Rattle.std.specs.Prelude.{◌≡◌, ◌≤◌, ℕ, List, [], ◌∷◌, ◌++◌, codes, Result, Ok, Err}
+use Rattle.std.specs.Prelude.{◌≡◌, ◌<◌, ◌≤◌, ℕ, List, [], ◌∷◌, ◌++◌, codes, length, Result, Ok, Err}
 use Rattle.fac_io.specs.Faults.{Rose}
 use Rattle.fac_io.specs.Told.{TookFront, TookWhole}
 use Rattle.fac_lines.specs.Channels.{ChannelsTold, CountsStand, IsUnread}
@@ -18,8 +18,9 @@ pub record WroteLines (lines : List ℕ) (before now : ChannelsTold) : Type 0 wh
   pub counts : CountsStand before now
   pub unread : IsUnread before now
 
--- a front of them was written, and the output failed
+-- a front of them was written, and the output failed; there were some
 pub record WroteFront (lines : List ℕ) (before now : ChannelsTold) : Type 0 where
+  pub some : 0 < length lines
   pub took : TookFront before.output now.output lines
   pub later : before.output_faults ≤ now.output_faults
   pub rose : Rose before.output_faults now.output_faults

@@ -8,13 +8,13 @@ ghost use Rattle.fac_session.specs.Sessions.{Session as Standing, goes_on, meant
 ghost use Rattle.fac_session.specs.SessionLines.{behind_waiting};
 ghost use Rattle.fac_judge.specs.JudgedPrograms.{IsAccepted};
 ghost use Rattle.fac_judge.specs.KnownTexts.{GoesOn, IsKnownBehind};
-ghost use Rattle.fac_listener.specs.Replies.{AreSources, IsInputFault, IsWriteFault, Replies, StartsSession, TextReplies, ends_session};
+ghost use Rattle.fac_listener.specs.Replies.{AreSources, IsInputFault, IsWriteFault, LinePieces, Replies, StartsSession, ends_session};
 ghost use Rattle.fac_listener.specs.StandingSessions.{HoldsSession, Stands, has_ended};
 ghost use Rattle.fac_lang.specs.LongerPrograms.{IsLonger};
 ghost use Rattle.fac_vm.specs.GoingOn.{GoesOnFrom, IsLongerImage};
 ghost use Rattle.fac_vm.specs.SeenMachine.{held_in};
 ghost use Rattle.fac_judge.specs.TextMeanings.{IsMeaning};
-ghost use Rattle.fac_listener.specs.inner.SessionSteps.{AnswersLine, HoldsReady, MachineBegins, MachineGoesOn, TextGoesOn, has_phrase};
+ghost use Rattle.fac_listener.specs.inner.SessionSteps.{AnswersLine, HoldsReady, MachineBegins, MachineGoesOn, TextAnswers, TextGoesOn, has_phrase};
 
 use crate::Reply;
 use crate::running::run_phrase;
@@ -200,7 +200,7 @@ impl Session {
     ) -> Reply
         requires none { self.old.machine ≡ no_machine }
         requires goes_on { (s : Standing) × (q : KnownSeen) × TextGoesOn self.old.texts machine.now accepted text s q }
-        ensures replies { OnChannels channels.old channels.new (λ before now input left. (s : Standing) (q : KnownSeen) → TextGoesOn self.old.texts machine.now accepted text s q → TextReplies s text (goes_on q) before now self.new result input left) }
+        ensures replies { OnChannels channels.old channels.new (λ before now input left. (s : Standing) (q : KnownSeen) → TextGoesOn self.old.texts machine.now accepted text s q → TextAnswers s text (goes_on q) before now self.new result input left) }
         ensures ended { has_ended self.new ≡ ends_session result }
         ensures faults { CountsFaults channels.old channels.new (IsInputFault result) (IsWriteFault result) }
     {
@@ -227,7 +227,7 @@ impl Session {
     ) -> Reply
         requires none { self.old.machine ≡ no_machine }
         requires stands { (s : Standing) × IsKnownBehind self.old.texts s.known × HoldsSession s machine }
-        ensures replies { OnChannels channels.old channels.new (λ before now input left. (source : Items ℕ → Comes) → AreSources source → (s : Standing) → IsKnownBehind self.old.texts s.known → HoldsSession s machine → TextReplies s text (meant s.known (length s.stack) (source text)) before now self.new result input left) }
+        ensures replies { OnChannels channels.old channels.new (λ before now input left. (source : Items ℕ → Comes) → AreSources source → (s : Standing) → IsKnownBehind self.old.texts s.known → HoldsSession s machine → TextAnswers s text (meant s.known (length s.stack) (source text)) before now self.new result input left) }
         ensures ended { has_ended self.new ≡ ends_session result }
         ensures faults { CountsFaults channels.old channels.new (IsInputFault result) (IsWriteFault result) }
     {
@@ -265,6 +265,7 @@ impl Session {
         requires open { has_ended self.old ≡ false }
         requires stands { (s : Standing) × Stands s self.old }
         ensures replies { OnChannels channels.old channels.new (λ before now input left. (source : Items ℕ → Comes) → AreSources source → (s : Standing) → Stands s self.old → Replies source s text.now before now self.new result input left) }
+        ensures pieces { OnChannels channels.old channels.new (λ before now input left. (source : Items ℕ → Comes) → AreSources source → (s : Standing) → Stands s self.old → LinePieces source s text.now input before now result) }
         ensures ended { has_ended self.new ≡ ends_session result }
         ensures faults { CountsFaults channels.old channels.new (IsInputFault result) (IsWriteFault result) }
     {

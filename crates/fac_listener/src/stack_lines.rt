@@ -1,5 +1,5 @@
 //! The stack as it is written behind a phrase.
-ghost use Rattle.std.specs.Prelude.{◌≡◌, ◌++◌, codes, string_bytes, IfOk, OnOk};
+ghost use Rattle.std.specs.Prelude.{◌≡◌, ◌<◌, ◌++◌, codes, length, string_bytes, IfOk, OnErr, OnOk};
 ghost use Rattle.fac_lines.specs.Channels.{TakesPiece};
 ghost use Rattle.fac_notes.specs.Told.{stack_lines as lines_of_stack};
 ghost use Rattle.fac_listener.specs.StackTexts.{WritesStack, lines_with_header};
@@ -52,7 +52,8 @@ pub enum Unwritten {
 
 // Writes bytes in one write, or nothing where there are none.
 fn write_all<S: Source, K: Sink>(channels: &mut Channels<S, K>, bytes: &[u8]) -> Result<(), Failed>
-    ensures { TakesPiece channels.old channels.new bytes.now result }
+    ensures takes { TakesPiece channels.old channels.new bytes.now result }
+    ensures some { OnErr result (0 < length bytes.now) }
 {
     if bytes.is_empty() {
         return Ok(());

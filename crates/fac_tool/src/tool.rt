@@ -49,6 +49,7 @@ fn hear<R: Threads + Sync, G: Gate + Sync, S: Source, K: Sink, N: Sink>(
         result }
 {
     let heard = listen(workers, channels, notes);
+    channels.nothing_is_behind_the_end();
     ended_of(heard)
 }
 

@@ -56,6 +56,10 @@ waits_in _ = None
 abbrev pub ticks_behind : Hearing → Reply → ℕ
 ticks_behind hearing r = min (hearing.ticks + ticks_in r) most_ticks
 
+-- behind a line of which this was answered, where nothing waits
+abbrev pub passed : Hearing → Reply → Hearing
+passed hearing r = record hearing { waits = None; ticks = ticks_behind hearing r }
+
 -- the session goes on behind a reply, which was told
 pub record GoesOnBehind (old new : Hearing) (r : Reply) (notes_before notes_now : NotesTold) : Type 0 where
   pub stays : ends_session r ≡ false

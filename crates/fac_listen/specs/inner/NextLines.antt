@@ -12,11 +12,11 @@ use Rattle.fac_notes.specs.declared.status.TheConstants.{SUCCESS, SYNTAX_REFUSED
 use Rattle.fac_session.specs.Heard.{file_names, most_ticks, told_of, too_long}
 use Rattle.fac_session.specs.Sessions.{Session, meant}
 use Rattle.fac_session.specs.SessionLines.{Behind, behind_waiting, line}
-use Rattle.fac_listener.specs.Replies.{IsCutShort}
+use Rattle.fac_listener.specs.Replies.{Cause, IsCutShort}
 use Rattle.fac_listener.specs.StandingSessions.{has_ended}
 use Rattle.fac_listen.specs.Devices.{DevicesTold, DevicesStand, DevicesCount}
 use Rattle.fac_listen.specs.Fronts.{Front, with_last}
-use Rattle.fac_listen.specs.Listens.{Cause, EndsCut, InputFailed, OutputFailed, notes_for}
+use Rattle.fac_listen.specs.Listens.{EndsCut, InputFailed, OutputFailed, notes_for}
 use Rattle.fac_listen.specs.SessionNotes.{NotesTold, AreNoted, EndsByLine, EndsTold, EndsToldIfMemory, bare, refused, fault_note, memory_note, too_long_note}
 use Rattle.fac_listen.specs.declared.heard.Heard.{Heard}
 use Rattle.fac_listen.specs.declared.hearing.Hearing.{Hearing}
@@ -42,9 +42,9 @@ pub record NoteEnds (f : Front) (b : Behind) (left : List ℕ) (before now : Dev
 
 -- a line is cut short
 pub record LineEnds (source : List ℕ → Source) (f : Front) (bytes input left : List ℕ) (before now : DevicesTold) (notes_before notes_now : NotesTold) (heard : Heard) : Type 0 where
-  pub ticks : ℕ
-  pub cut : IsCutShort (meant f.session.known (length f.session.stack) (source (behind_waiting f.session.waiting bytes))) f.session input ticks before.output now.output
   pub cause : Cause
+  pub ticks : ℕ
+  pub cut : IsCutShort cause (meant f.session.known (length f.session.stack) (source (behind_waiting f.session.waiting bytes))) f.session input left ticks before.output now.output
   pub ends : EndsCut cause (min (f.ticks + ticks) most_ticks) notes_before notes_now heard
   pub counts : DevicesCount before now (InputFailed cause) (OutputFailed cause)
 

@@ -1,10 +1,8 @@
 -- Inner contracts: the run of a line's phrase on a copy of the stack that stands.
-use Rattle.std.specs.Prelude.{◌≡◌, ◌≤◌, ◌-◌, ◌++◌, ℕ, List, length, take, drop}
+use Rattle.std.specs.Prelude.{◌≡◌, ◌≤◌, ◌-◌, ◌++◌, ◌⊎◌, ℕ, List, [], length, take, drop}
 use Rattle.fac_base.specs.declared.limits.TheConstants.{TICKS}
-use Rattle.fac_io.specs.Told.{SinkTold, Grows, GrowsByPrefix}
-use Rattle.fac_lang.specs.Eval.{Result as Run, Done}
-use Rattle.fac_lang.specs.Phrases.{Value}
-use Rattle.fac_lang.specs.World.{State}
+use Rattle.fac_io.specs.Told.{SinkTold, Grows}
+use Rattle.fac_lang.specs.Eval.{Result as Run}
 use Rattle.fac_check.specs.CallableEffects.{callable_height}
 use Rattle.fac_carry.specs.Carries.{top_run}
 use Rattle.fac_lines.specs.Channels.{ChannelsTold}
@@ -13,9 +11,10 @@ use Rattle.fac_vm.specs.declared.machine.RunError.{RunError}
 use Rattle.fac_vm.specs.declared.machine.StopKind.{StopKind}
 use Rattle.fac_vm.specs.declared.machine.StopKind.TheVariants as stop
 use Rattle.fac_session.specs.Sessions.{Session}
-use Rattle.fac_session.specs.SessionLines.{Said, ran, failed, spent, Behind, of_run, stack_text}
+use Rattle.fac_session.specs.SessionLines.{Said, ran, failed, spent, Behind, of_run}
 use Rattle.fac_listener.specs.MachineTexts.{AreStackTexts, IsReportOf}
-use Rattle.fac_listener.specs.Replies.{StopsWithin}
+use Rattle.fac_listener.specs.CutRuns.{InputFaultInRun, FaultInRun, FaultBehindRun, RunPieces, WantedBefore, WantedWithRun, stack_behind}
+use Rattle.fac_listener.specs.Replies.{Cause, by_input, by_output, by_memory}
 use Rattle.fac_listener.specs.StackTexts.{WroteFront, WroteLines, lines_with_header}
 use Rattle.fac_listener.specs.StandingSessions.{HoldsSession, IsReady, session_world}
 use Rattle.fac_listener.specs.declared.reply.Reply.{Reply}
@@ -36,28 +35,20 @@ pub record IsPhraseAnswer (b : Behind) (said : Said) (before now : SinkTold) (m 
   pub output : Grows before.taken now.taken b.output
   pub left_is : left ≡ b.left
 
--- the phrase was done with so many ticks, and of what it wrote with the stack behind it a prefix was taken
-pub record StopsBehindPhrase (s : Session) (input : List ℕ) (ticks : ℕ) (before now : SinkTold) : Type 0 where
-  pub state : State Value
-  pub more_ticks : ℕ
-  pub done : session_run s input TICKS ≡ Done state more_ticks
-  pub used : ticks ≡ TICKS - more_ticks
-  pub at_most : GrowsByPrefix before.taken now.taken (state.world.output ++ stack_text s.known.program state.world state.stack)
-
--- the phrase was cut short
-pub data IsPhraseCutShort (s : Session) (input : List ℕ) (ticks : ℕ) (before now : SinkTold) : Type 0 where
-  before_phrase : ticks ≡ 0 → now ≡ before → IsPhraseCutShort s input ticks before now
-  in_phrase : StopsWithin (session_run s input) ticks before now → IsPhraseCutShort s input ticks before now
-  behind_phrase : StopsBehindPhrase s input ticks before now → IsPhraseCutShort s input ticks before now
+-- the phrase was cut short, and this was left of the input
+abbrev pub IsPhraseCutShort : Cause → Session → List ℕ → List ℕ → ℕ → SinkTold → SinkTold → Type 0
+IsPhraseCutShort by_input s input left ticks before now = InputFaultInRun (session_run s input) left ticks before now
+IsPhraseCutShort by_output s input left ticks before now = FaultInRun (session_run s input) left ticks before now ⊎ FaultBehindRun s.known.program (session_run s input) left ticks before now
+IsPhraseCutShort by_memory s input left ticks before now = WantedBefore input left ticks before now ⊎ WantedWithRun (session_run s input) left ticks before now
 
 -- what is answered of a session's phrase
 abbrev pub AnswersPhrase : Session → SinkTold → SinkTold → MachineSeen → Reply → List ℕ → List ℕ → Type 0
-AnswersPhrase s before now m (reply.Ran n) input left = IsPhraseAnswer (phrase_behind s input) (ran n) before now m left
-AnswersPhrase s before now m (reply.Failed why n) input left = IsPhraseAnswer (phrase_behind s input) (failed why n) before now m left
-AnswersPhrase s before now m (reply.Spent n) input left = IsPhraseAnswer (phrase_behind s input) (spent n) before now m left
-AnswersPhrase s before now m (reply.InputFault n) input left = IsPhraseCutShort s input n before now
-AnswersPhrase s before now m (reply.WriteFault n) input left = IsPhraseCutShort s input n before now
-AnswersPhrase s before now m (reply.Memory n) input left = IsPhraseCutShort s input n before now
+AnswersPhrase s before now m (reply.Ran n) input left = IsPhraseAnswer (phrase_behind s input) (ran n) before now m left × RunPieces (session_run s input) n (stack_behind s.known.program (session_run s input TICKS)) before now
+AnswersPhrase s before now m (reply.Failed why n) input left = IsPhraseAnswer (phrase_behind s input) (failed why n) before now m left × RunPieces (session_run s input) n [] before now
+AnswersPhrase s before now m (reply.Spent n) input left = IsPhraseAnswer (phrase_behind s input) (spent n) before now m left × RunPieces (session_run s input) n [] before now
+AnswersPhrase s before now m (reply.InputFault n) input left = IsPhraseCutShort by_input s input left n before now
+AnswersPhrase s before now m (reply.WriteFault n) input left = IsPhraseCutShort by_output s input left n before now
+AnswersPhrase s before now m (reply.Memory n) input left = IsPhraseCutShort by_memory s input left n before now
 AnswersPhrase s before now m (reply.More why) input left = ⊥
 AnswersPhrase s before now m reply.Defined input left = ⊥
 AnswersPhrase s before now m (reply.Refused why) input left = ⊥

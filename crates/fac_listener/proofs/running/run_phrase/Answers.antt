@@ -1,14 +1,14 @@
-use Rattle.std.proofs.Common.{length, refl}
+use Rattle.std.proofs.Common.{inl, length, refl}
 use Rattle.fac_lines.proofs.ChannelLemmas.{no_faults}
 use Rattle.fac_lines.proofs.InputLemmas.{unread}
-use Rattle.fac_listener.specs.inner.PhraseRuns.{before_phrase}
 use Rattle.fac_listener.proofs.AnsweredLemmas.{answered_behind, can_cut_behind}
+use Rattle.fac_listener.proofs.PhraseLemmas.{nothing_taken}
 use Rattle.fac_listener.proofs.StepLemmas.{values_count}
 use Rattle.fac_listener.proofs.StopLemmas.{stop_counts}
 use Rattle.fac_listener.proofs.running.run_phrase.Goals as goal
 
 pub returns-in-Err-clause-answers : goal.returns-in-Err-clause-answers
-returns-in-Err-clause-answers g c = unread _ _ (λ input s ready. before_phrase refl refl)
+returns-in-Err-clause-answers g c = unread _ _ (λ input s ready. inl (nothing_taken input _))
 
 pub returns-in-Err-clause-faults : goal.returns-in-Err-clause-faults
 returns-in-Err-clause-faults g c = no_faults c.args.channels.now (λ e. e) (λ e. e)

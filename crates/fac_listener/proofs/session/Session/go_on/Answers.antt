@@ -1,8 +1,8 @@
-use Rattle.std.proofs.Common.{refl}
+use Rattle.std.proofs.Common.{inl, refl}
 use Rattle.fac_lines.proofs.ChannelLemmas.{no_faults}
 use Rattle.fac_lines.proofs.InputLemmas.{reads_so, unread}
-use Rattle.fac_listener.specs.Replies.{before_run}
 use Rattle.fac_listener.specs.inner.SessionSteps.{line_session}
+use Rattle.fac_listener.proofs.PhraseLemmas.{nothing_taken}
 use Rattle.fac_listener.proofs.StepLemmas.{holds_next, text_answers, text_goes_longer, whole_for}
 use Rattle.fac_listener.proofs.session.Session.go_on.Goals as goal
 
@@ -22,10 +22,10 @@ run-requires-clause-ready g c =
     (line_session on.0 on.1, holds_next c.known_programs_stay.ensures c.known_behind_texts_is_known.ensures c.args.self.now.texts c.args.machine.now c.in-Ok-machine_for.next c.args.accepted c.args.text on.0 on.1 c.in-Ok-machine_for.ensures on.2)
 
 pub returns-in-Err-clause-replies : goal.returns-in-Err-clause-replies
-returns-in-Err-clause-replies g c = unread _ _ (λ input s q on. before_run refl refl)
+returns-in-Err-clause-replies g c = unread _ _ (λ input s q on. (inl (nothing_taken input _), tt))
 
 pub returns-in-Err-machine_for-clause-replies : goal.returns-in-Err-machine_for-clause-replies
-returns-in-Err-machine_for-clause-replies g c = unread _ _ (λ input s q on. before_run refl refl)
+returns-in-Err-machine_for-clause-replies g c = unread _ _ (λ input s q on. (inl (nothing_taken input _), tt))
 
 pub returns-in-Err-clause-faults : goal.returns-in-Err-clause-faults
 returns-in-Err-clause-faults g c = no_faults c.args.channels.now (λ e. e) (λ e. e)

@@ -1,9 +1,9 @@
-use Rattle.std.proofs.Common.{length, refl, sym, ◌∙◌}
+use Rattle.std.proofs.Common.{inl, length, refl, sym, ◌∙◌}
 use Rattle.fac_lines.proofs.ChannelLemmas.{no_faults}
 use Rattle.fac_lines.proofs.InputLemmas.{reads_so, unread}
 use Rattle.fac_session.specs.Sessions.{refuses, waits}
-use Rattle.fac_listener.specs.Replies.{before_run}
 use Rattle.fac_listener.proofs.SessionLemmas.{comes_once, refused_replies, waiting_replies}
+use Rattle.fac_listener.proofs.PhraseLemmas.{nothing_taken}
 use Rattle.fac_listener.proofs.StepLemmas.{goes_with, stack_count, text_replies_as, values_count}
 use Rattle.fac_listener.proofs.session.Session.take.Goals as goal
 
@@ -17,7 +17,7 @@ go_on-requires-clause-goes_on g c =
     (s, goes_with c.args.self.now.texts c.args.machine c.in-Accepted.accepted c.args.text s (length c.stack-count.result.now) c.requires.stands.1 c.requires.stands.2 many (c.in-Accepted.ensures s.known c.requires.stands.1))
 
 pub returns-in-Memory-clause-replies : goal.returns-in-Memory-clause-replies
-returns-in-Memory-clause-replies g c = unread _ _ (λ input source are s known holds. before_run refl refl)
+returns-in-Memory-clause-replies g c = unread _ _ (λ input source are s known holds. (inl (nothing_taken input _), tt))
 
 pub returns-in-Memory-clause-faults : goal.returns-in-Memory-clause-faults
 returns-in-Memory-clause-faults g c = no_faults c.args.channels.now (λ e. e) (λ e. e)
