@@ -19,7 +19,7 @@ pub loop-preserved : goal.loop-preserved
 loop-preserved g c =
     let notes = notes_told g.N.Sink.taken g.N.Sink.pieces g.N.Sink.faults in
     let inside =
-        inside_then c.args.hearing.now c.loop.hearing c.next.new.self c.args.channels.now c.loop.channels c.next.new.channels (notes c.args.notes.now) (notes c.loop.notes) (notes c.next.new.notes) c.loop.invariant.inside c.in_default.ensures
+    inside_then c.args.hearing.now c.loop.hearing c.next.new.self c.args.channels.now c.loop.channels c.next.new.channels (notes c.args.notes.now) (notes c.loop.notes) (notes c.next.new.notes) c.loop.invariant.inside c.in_default.ensures
     in
     record { opened = open_there c.args.hearing.now c.next.new.self c.args.channels.now c.next.new.channels (notes c.args.notes.now) (notes c.next.new.notes) inside c.requires.behind; inside = inside }
 
