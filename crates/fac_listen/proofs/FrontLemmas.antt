@@ -53,12 +53,12 @@ module _ (source : List ℕ → Source) where
       let b : Behind = line source s bs left in
       let m : (g : Front) × (follow b.session b.left ≡ Some g) × (with_first b g ≡ f) = mapped (with_first b) (follow b.session b.left) f e in
       subst (λ (x : Front). line_of x.left ≡ Line bytes rest → option_map (with_first b) (more b.session b.left) ≡ Some (with_last x (line source x.session bytes rest))) m.2
-        (λ h'. ap (option_map (with_first b)) (again b.session b.left m.0 bytes rest m.1 h') ∙ ap Some (first_and_last b (line source m.0.session bytes rest) m.0)) h
+      (λ h'. ap (option_map (with_first b)) (again b.session b.left m.0 bytes rest m.1 h') ∙ ap Some (first_and_last b (line source m.0.session bytes rest) m.0)) h
 
   none_behind : (s : Session) (input : List ℕ) (f : Front) (bytes rest : List ℕ) → front_of s input ≡ f → line_of f.left ≡ Line bytes rest → lines_behind source 1 s input ≡ Some (with_last f (line source f.session bytes rest))
   none_behind s input f bytes rest e h =
       subst (λ (x : Front). line_of x.left ≡ Line bytes rest → lines_behind source 1 s input ≡ Some (with_last x (line source x.session bytes rest))) e
-        (λ h'. ap (behind_first source s (lines_behind source 0)) h' ∙ ap Some (first_alone (line source s bytes rest) s input)) h
+      (λ h'. ap (behind_first source s (lines_behind source 0)) h' ∙ ap Some (first_alone (line source s bytes rest) s input)) h
 
   one_more : (n : ℕ) → OneMore (lines_behind source n) (lines_behind source (suc n))
   one_more zero s input f bytes rest e h = none_behind s input f bytes rest (cc) h
@@ -103,7 +103,7 @@ module _ (source : List ℕ → Source) where
         let b : Behind = line source s bs left in
         let m : (g : Front) × (follow b.session b.left ≡ Some g) × (with_first b g ≡ f) = mapped (with_first b) (follow b.session b.left) f e in
         subst (λ (x : Front). EndsThere x status refusal → heard source (suc n) s input ≡ behind_front x status refusal) m.2
-          (λ h'. heard_line n s input bs left is ∙ ap (before b) (again b.session b.left m.0 m.1 (omega (arith, line_falls source s bs left, rest_shorter input bs left is, le)) h')) h
+        (λ h'. heard_line n s input bs left is ∙ ap (before b) (again b.session b.left m.0 m.1 (omega (arith, line_falls source s bs left, rest_shorter input bs left is, le)) h')) h
 
     heard_zero : (n : ℕ) → HeardIs n (lines_behind source 0)
     heard_zero zero s input f e le h = absurd (omega (arith, le))
@@ -127,7 +127,7 @@ module _ (source : List ℕ → Source) where
         let b : Behind = line source s bs rest in
         let m : (g : Front) × (follow b.session b.left ≡ Some g) × (with_first b g ≡ f) = mapped (with_first b) (follow b.session b.left) f e in
         subst (λ (x : Front). LeavesThere x left → left_behind source n b.session b.left ≡ left) m.2
-          (λ h'. again b.session b.left m.0 m.1 (omega (arith, line_falls source s bs rest, rest_shorter input bs rest is, le)) h') h
+        (λ h'. again b.session b.left m.0 m.1 (omega (arith, line_falls source s bs rest, rest_shorter input bs rest is, le)) h') h
 
     left_zero : (n : ℕ) → LeftIs n (lines_behind source 0)
     left_zero zero s input f e le h = absurd (omega (arith, le))

@@ -70,7 +70,7 @@ module _ (hearing new : Hearing) (notes_before notes_now : NotesTold) where
   ends_behind : (source : List ℕ → Source) (f : Front) (heard : Heard) → IsBehind source f hearing → EndsThere hearing notes_before notes_now heard → EndsAt hearing.waits file_names f.ticks notes_before notes_now heard
   ends_behind source f heard behind h =
       subst (λ (n : ℕ). EndsAt hearing.waits file_names n notes_before notes_now heard) behind.ticks
-        (subst (λ (ns : List (List ℕ)). EndsAt hearing.waits ns hearing.ticks notes_before notes_now heard) behind.names h)
+      (subst (λ (ns : List (List ℕ)). EndsAt hearing.waits ns hearing.ticks notes_before notes_now heard) behind.names h)
 
   pub next_none : (old mid : ChannelsTold) (heard : Heard) → TakesALine old mid (Ok None) → EndsThere hearing notes_before notes_now heard → OnChannels old mid (λ before after. NextOn old mid (Some heard))
   next_none old mid heard t h =
@@ -178,7 +178,7 @@ module _ (source : List ℕ → Source) (s : Session) (input mid_left left : Lis
       rest = rest;
       output =
           subst (λ (bytes : List ℕ). Grows first.output.taken now.output.taken bytes) (sym (ap (λ (y : HeardOf). y.output) is ∙ output))
-            (grows_still first.output.taken mid.output.taken now.output.taken x.front.output x.output (ap (λ o. o.taken) still));
+          (grows_still first.output.taken mid.output.taken now.output.taken x.front.output x.output (ap (λ o. o.taken) still));
       counts = stand_then first mid now x.counts counts;
       between = notes_mid;
       told = subst (λ (rs : List Report). AreNoted (notes_for rs) notes_first notes_mid) (sym (ap (λ (y : HeardOf). y.told) is ∙ told)) x.noted;
@@ -209,20 +209,20 @@ module _ (source : List ℕ → Source) (s : Session) (input mid_left left : Lis
           is = ap (at_end (b ∷ bs)) w.1;
           ends =
               ends_whole (behind_front source x.front SYNTAX_REFUSED (Some why)) (note_of file_names why) notes_mid notes_now ending (some_bytes file_names why)
-                (subst (λ (o : Option Report). EndsAt o file_names x.front.ticks notes_mid notes_now ending) w.2 e);
+              (subst (λ (o : Option Report). EndsAt o file_names x.front.ticks notes_mid notes_now ending) w.2 e);
         }
 
     nothing_left : NothingLeft x.front left mid now notes_mid notes_now old.waits ending → HeardFrom source s input left first now notes_first notes_now ending
     nothing_left n =
         let e : AtTheEnd x.front.session.waiting = end_is x.front.session.waiting old.waits x.behind.waits n.ends in
         heard_so (behind_front source x.front e.status e.refusal) (heard_to_the_end source s input x.front e.status e.refusal x.stands (no_line_ends source x.front e.status e.refusal n.none e.is))
-          (n.rest ∙ sym (left_at_the_end source s input [] x.front x.stands (no_line_leaves source x.front n.none))) refl refl n.still n.counts e.ends
+        (n.rest ∙ sym (left_at_the_end source s input [] x.front x.stands (no_line_leaves source x.front n.none))) refl refl n.still n.counts e.ends
 
     line_too_long : NextTooLong x.front left mid now notes_mid notes_now ending → HeardFrom source s input left first now notes_first notes_now ending
     line_too_long n =
         heard_so (behind_front source x.front SYNTAX_REFUSED (Some too_long)) (heard_to_the_end source s input x.front SYNTAX_REFUSED (Some too_long) x.stands (long_line_ends source x.front left n.long))
-          (sym (left_at_the_end source s input left x.front x.stands (long_line_leaves source x.front left n.long))) refl refl n.still n.counts
-          (ends_whole (behind_front source x.front SYNTAX_REFUSED (Some too_long)) too_long_note notes_mid notes_now ending (omega arith) n.ends)
+        (sym (left_at_the_end source s input left x.front x.stands (long_line_leaves source x.front left n.long))) refl refl n.still n.counts
+        (ends_whole (behind_front source x.front SYNTAX_REFUSED (Some too_long)) too_long_note notes_mid notes_now ending (omega arith) n.ends)
 
     input_fails : InputFails x.front left mid now notes_mid notes_now ending → CutBetween source s input left first now notes_first notes_now ending
     input_fails n = record {
@@ -350,7 +350,7 @@ listens_from hearing code names before now notes_before notes_now ending every b
       are_read = are;
       ends = by_session begun.source source input left (devices_of before) (devices_of now) notes_before notes_now ending begun.session begun.is
           (e source begun.session are
-            (subst (λ (x : Hearing). IsBehind source (front_of begun.session input) x) (sym begins) (begins_behind source begun.session input code names begun.stands (first_waits_never begun.source begun.session begun.is) is)));
+          (subst (λ (x : Hearing). IsBehind source (front_of begun.session input) x) (sym begins) (begins_behind source begun.session input code names begun.stands (first_waits_never begun.source begun.session begun.is) is)));
     })
 
 -- There is no session.
@@ -363,7 +363,7 @@ prelude_refused still notes_before notes_now ending names why every r is e =
     let told : EndsToldIfMemory (note_of file_names why) (refused (status_of why) 0 why) notes_before notes_now ending = subst (λ (ns : List (List ℕ)). EndsToldIfMemory (note_of ns why) (refused (status_of why) 0 why) notes_before notes_now ending) is e in
     let h : HeardOf = ended_with (status_of why) (Some why) in
     let last : EndsWhole h (last_note (Some why)) notes_before notes_now ending =
-        subst (λ (note : List ℕ). EndsWhole h note notes_before notes_now ending) (sym (prelude_note r.source why r.refuses)) (ends_whole h (note_of file_names why) notes_before notes_now ending (some_bytes file_names why) told)
+    subst (λ (note : List ℕ). EndsWhole h note notes_before notes_now ending) (sym (prelude_note r.source why r.refuses)) (ends_whole h (note_of file_names why) notes_before notes_now ending (some_bytes file_names why) told)
     in
     unread still.input (λ input left. ListensOn input left (devices_of still) (devices_of still) notes_before notes_now ending)
     (λ input.
@@ -374,7 +374,7 @@ prelude_refused still notes_before notes_now ending names why every r is e =
       are_read = λ text. (every 1 text).1;
       ends =
           inl (whole_so r.source source input input (devices_of still) (devices_of still) notes_before notes_now ending h notes_before (ap (heard_from source input) (is_refused r.source why r.refuses)) (ap (left_from source input) (sym (is_refused r.source why r.refuses)))
-            (grows_none still.output.taken) (stand_still (devices_of still)) (none_noted notes_before) last);
+          (grows_none still.output.taken) (stand_still (devices_of still)) (none_noted notes_before) last);
     })
 
 pub no_session : (still : ChannelsTold) (notes_before notes_now : NotesTold) (ending : Heard) → EverySource → EndsTold memory_note (bare NO_MEMORY 0) notes_before notes_now ending → Listens still still notes_before notes_now ending

@@ -33,7 +33,7 @@ line_run_leaves : (s : Session) (P : Program) (input : List ℕ) (n : ℕ) → L
 line_run_leaves s P input n =
     let world : World Value = record { objects = s.objects; literals = s.literals; input = input; asked = 0; output = [] } in
     subst (λ (bytes : List ℕ). LeavesAtMost (length bytes) (line_run s P input n)) (arrays_take_nothing P (length s.known.program.arrays) (drop (length s.known.program.arrays) P.arrays) world)
-      (run_falls P fits (callable_height P) n (word_phrase P P.top) (record { stack = s.stack; world = line_world s P input }))
+    (run_falls P fits (callable_height P) n (word_phrase P P.top) (record { stack = s.stack; world = line_world s P input }))
 
 phrase_leaves : (s : Session) (k : Known) (t : Phrase) (input : List ℕ) → length (of_phrase s k t input).left ≤ length input
 phrase_leaves s k end input = omega arith

@@ -98,7 +98,7 @@ module _ (source : List ℕ → Source) (f : Front) (bytes input left : List ℕ
     counts = counts;
     noted =
         subst (λ (rs : List Report). AreNoted (notes_for rs) notes_before notes_now) (sym (ap told_of a.said_is ∙ told))
-          (subst (λ (ns : List (List ℕ)). AreNoted (map (note_of ns) (told_in r)) notes_before notes_now) names g.noted);
+        (subst (λ (ns : List (List ℕ)). AreNoted (map (note_of ns) (told_in r)) notes_before notes_now) names g.noted);
   }
 
   note_ends :
@@ -112,7 +112,7 @@ module _ (source : List ℕ → Source) (f : Front) (bytes input left : List ℕ
     counts = counts;
     ends =
         subst (λ (n : ℕ). EndsByLine (note_of file_names why) n notes_before notes_now heard) (sum_is r said a.said_is t)
-          (subst (λ (ns : List (List ℕ)). EndsByLine (note_of ns why) (ticks_behind mid r) notes_before notes_now heard) names e);
+        (subst (λ (ns : List (List ℕ)). EndsByLine (note_of ns why) (ticks_behind mid r) notes_before notes_now heard) names e);
   }
 
   line_ends :

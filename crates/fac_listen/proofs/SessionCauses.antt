@@ -119,7 +119,7 @@ module _ (input left : List ℕ) (before now : DevicesTold) (notes_before notes_
   whole_caused : (prelude : Source) (source : List ℕ → Source) → HeardWhole prelude source input left before now notes_before notes_now ending → HasCauses before now notes_before notes_now ending
   whole_caused prelude source h =
       plain_caused before now notes_before h.between notes_now ending h.told.count (listened prelude source input).status (listened_is_plain source prelude input)
-        (whole_with (listened prelude source input) (last_note (listened prelude source input).refusal) h.between notes_now ending h.ends)
+      (whole_with (listened prelude source input) (last_note (listened prelude source input).refusal) h.between notes_now ending h.ends)
 
   between_caused : (source : List ℕ → Source) (s : Session) → CutBetween source s input left before now notes_before notes_now ending → HasCauses before now notes_before notes_now ending
   between_caused source s h =

@@ -46,7 +46,7 @@ told_on old new r why before now stays told waits e noted = record {
   ticks = ap (λ (h : Hearing). h.ticks) e;
   noted =
       subst (λ (rs : List Report). AreNoted (map (note_of old.names) rs) before now) (sym told)
-        (subst (λ (names : List (List ℕ)). AreNoted (note_of names why ∷ []) before now) (ap (λ (h : Hearing). h.names) e) (one_noted (note_of new.names why) before now (some_bytes new.names why) noted));
+      (subst (λ (names : List (List ℕ)). AreNoted (note_of names why ∷ []) before now) (ap (λ (h : Hearing). h.names) e) (one_noted (note_of new.names why) before now (some_bytes new.names why) noted));
 }
 
 ends_by : (old new : Hearing) (r : Reply) (why : Report) (before now : NotesTold) (ending : Heard) → new ≡ passed old r → EndsByLine (note_of new.names why) new.ticks before now ending → EndsByLine (note_of old.names why) (ticks_behind old r) before now ending

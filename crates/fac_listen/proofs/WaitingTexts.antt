@@ -55,4 +55,3 @@ text_waits s text input (tree forms) why e = absurd (names_wait_never s text inp
 
 pub line_waits : (source : List ℕ → Source) (s : Session) (bytes input : List ℕ) (why : Report) → (line source s bytes input).said ≡ more why → WaitsFor (source (behind_waiting s.waiting bytes)) why
 line_waits source s bytes input why e = text_waits s (behind_waiting s.waiting bytes) input (source (behind_waiting s.waiting bytes)) why e
-

@@ -28,13 +28,13 @@ use std::thread::Threads;
 // Hears a session to its end. A source gives fewer lines than are counted here, so that the count ends is never told.
 fn hear<R: Threads + Sync, G: Gate + Sync, S: Source, K: Sink, N: Sink>(
     workers: &Workers<'_, R, G>,
-    mut hearing: Hearing,
+    hearing: &mut Hearing,
     channels: &mut Channels<S, K>,
     notes: &mut N,
 ) -> Heard
-    requires behind { (source : Items ℕ → Comes) × (s : Standing) × AreSources source × IsBehind source (front_of s []) hearing }
-    requires is_open { has_ended hearing.session ≡ false }
-    ensures { OnChannels channels.old channels.new (λ before now input left. (source : Items ℕ → Comes) (s : Standing) → AreSources source → IsBehind source (front_of s input) hearing → EndsFrom source s input left (devices_of channels.old) (devices_of channels.new) (notes_told N.taken N.pieces N.faults notes.old) (notes_told N.taken N.pieces N.faults notes.new) result) }
+    requires behind { (source : Items ℕ → Comes) × (s : Standing) × AreSources source × IsBehind source (front_of s []) hearing.old }
+    requires is_open { has_ended hearing.old.session ≡ false }
+    ensures { OnChannels channels.old channels.new (λ before now input left. (source : Items ℕ → Comes) (s : Standing) → AreSources source → IsBehind source (front_of s input) hearing.old → EndsFrom source s input left (devices_of channels.old) (devices_of channels.new) (notes_told N.taken N.pieces N.faults notes.old) (notes_told N.taken N.pieces N.faults notes.new) result) }
 {
     for _ in 0..u64::MAX {
         if let Some(heard) = hearing.next(workers, channels, notes) {
@@ -71,7 +71,10 @@ fn begin<R: Threads + Sync, G: Gate + Sync, S: Source, K: Sink, N: Sink>(
 {
     every_text_is_a_source();
     match Session::new(workers) {
-        Ok(session) => hear(workers, Hearing::new(session, names), channels, notes),
+        Ok(session) => {
+            let mut hearing = Hearing::new(session, names);
+            hear(workers, &mut hearing, channels, notes)
+        }
         Err(fault) => end_unbegun(workers.alloc, &names, fault, notes),
     }
 }

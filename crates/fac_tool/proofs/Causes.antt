@@ -4,7 +4,7 @@ use Rattle.std.specs.declared.option.Option.{Option}
 use Rattle.fac_io.specs.Faults.{Rose}
 use Rattle.fac_tool.specs.declared.ended.Ended.{Ended}
 use Rattle.fac_tool.specs.SeenObjects.{SinkSeen, FilesSeen, InputSeen}
-use Rattle.fac_command.specs.Command.{Command, Request, listen, work, files_of}
+use Rattle.fac_command.specs.Command.{Command, Request, listen, work as asked, files_of}
 use Rattle.fac_command.specs.Command as command
 use Rattle.fac_lang.specs.declared.program.Program.{Program}
 use Rattle.fac_code.specs.declared.image.Image.{Image}
@@ -153,24 +153,24 @@ of_session seen out notes ended h =
 pub file_cause : (c : Option Request) (files : FilesSeen) (seen : InputSeen) (out notes : SinkSeen) (ended : Ended) → AnswersBy c files seen out notes ended → ended.status ≡ 8 → Rose files.faults_before files.faults_now
 file_cause None files seen out notes ended h e = elim (of_usage notes ended h.1) [ inl r ↦ absurd (omega (arith, r, e)) | inr r ↦ absurd (omega (arith, r.0, e)) ]
 file_cause (Some listen) files seen out notes ended h e = absurd ((of_session seen out notes ended h.1).file e)
-file_cause (Some (work c)) files seen out notes ended h e =
+file_cause (Some (asked c)) files seen out notes ended h e =
     (of_command c files seen out h.0 h.1.ending).file (status-Tells 8 (numbered_names (files_of c)) h.0 notes ended (omega arith) (omega arith) h.2 e)
 
 pub input_cause : (c : Option Request) (files : FilesSeen) (seen : InputSeen) (out notes : SinkSeen) (ended : Ended) → AnswersBy c files seen out notes ended → ended.status ≡ 9 → Rose seen.faults_before seen.faults_now
 input_cause None files seen out notes ended h e = elim (of_usage notes ended h.1) [ inl r ↦ absurd (omega (arith, r, e)) | inr r ↦ absurd (omega (arith, r.0, e)) ]
 input_cause (Some listen) files seen out notes ended h e = (of_session seen out notes ended h.1).input e
-input_cause (Some (work c)) files seen out notes ended h e =
+input_cause (Some (asked c)) files seen out notes ended h e =
     (of_command c files seen out h.0 h.1.ending).input (status-Tells 9 (numbered_names (files_of c)) h.0 notes ended (omega arith) (omega arith) h.2 e)
 
 pub write_cause :
     (c : Option Request) (files : FilesSeen) (seen : InputSeen) (out notes : SinkSeen) (ended : Ended) → AnswersBy c files seen out notes ended → ended.status ≡ 10 → Rose out.faults_before out.faults_now ⊎ Rose notes.faults_before notes.faults_now
 write_cause None files seen out notes ended h e = elim (of_usage notes ended h.1) [ inl r ↦ absurd (omega (arith, r, e)) | inr r ↦ inr r.1 ]
 write_cause (Some listen) files seen out notes ended h e = (of_session seen out notes ended h.1).write e
-write_cause (Some (work c)) files seen out notes ended h e =
+write_cause (Some (asked c)) files seen out notes ended h e =
     elim (ten_of (numbered_names (files_of c)) h.0 notes ended h.2 e) [ inl r ↦ inl ((of_command c files seen out h.0 h.1.ending).write r) | inr r ↦ inr r ]
 
 pub usage_cause : (c : Option Request) (files : FilesSeen) (seen : InputSeen) (out notes : SinkSeen) (ended : Ended) → AnswersBy c files seen out notes ended → ended.status ≡ 2 → c ≡ None
 usage_cause None files seen out notes ended h e = refl
 usage_cause (Some listen) files seen out notes ended h e = absurd ((of_session seen out notes ended h.1).usage e)
-usage_cause (Some (work c)) files seen out notes ended h e =
+usage_cause (Some (asked c)) files seen out notes ended h e =
     absurd ((of_command c files seen out h.0 h.1.ending).usage (status-Tells 2 (numbered_names (files_of c)) h.0 notes ended (omega arith) (omega arith) h.2 e))
