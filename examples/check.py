@@ -69,7 +69,7 @@ BEFORE_INSTEAD = f"{ALL[:-2]} assocs hashtables math.functions vectors ; TUPLE: 
 
 MANUAL = "man/factorc.1"
 # A command that names a file, on a line of its own or in backticks, and has no word in capital letters, which stands for others.
-COMMAND = re.compile(r"^    ((?:factorc|printf) .*\.\w.*)$|`((?:printf [^`]*)?factorc \w+ [^`]*\.\w[^`]*)`", re.MULTILINE)
+COMMAND = re.compile(r"^    ((?:factorc|printf|cat) .*\.\w.*)$|`((?:printf [^`]*)?factorc \w+ [^`]*\.\w[^`]*)`", re.MULTILINE)
 CAPITALS = re.compile(r"\b[A-Z]+\b(?![\w.])")
 
 REFUSALS = "docs/REFUSALS.md"
