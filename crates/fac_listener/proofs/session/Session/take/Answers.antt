@@ -7,8 +7,8 @@ use Rattle.fac_listener.proofs.PhraseLemmas.{nothing_taken}
 use Rattle.fac_listener.proofs.StepLemmas.{goes_with, stack_count, text_replies_as, values_count}
 use Rattle.fac_listener.proofs.session.Session.take.Goals as goal
 
-pub meaning_behind-requires : goal.meaning_behind-requires
-meaning_behind-requires g c = (c.requires.stands.0.known, c.requires.stands.1)
+pub meaning_behind-requires-after_bounds : goal.meaning_behind-requires-after_bounds
+meaning_behind-requires-after_bounds g c κs within = (c.requires.stands.0.known, c.requires.stands.1)
 
 pub go_on-requires-clause-goes_on : goal.go_on-requires-clause-goes_on
 go_on-requires-clause-goes_on g c =
