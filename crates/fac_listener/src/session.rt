@@ -1,5 +1,5 @@
 //! The session of the listener.
-ghost use Rattle.std.specs.Prelude.{◌≡◌, [], length, List as Items, ℕ, None as no_machine, false, IfOk};
+ghost use Rattle.std.specs.Prelude.{◌≡◌, [], length, List as Items, ℕ, None as no_machine, Some as some_machine, false, true, IfOk};
 ghost use Rattle.fac_lines.specs.Channels.{CountsFaults, OnChannels};
 ghost use Rattle.fac_names.specs.declared.known.Known.{Known as KnownSeen};
 ghost use Rattle.fac_notes.specs.Sources.{Source as Comes};
@@ -129,6 +129,14 @@ fn ends(reply: &Reply) -> bool
     }
 }
 
+// The machine that stands behind a reply. There is none behind one with which the session ends.
+fn kept(machine: Machine, reply: &Reply) -> Option<Machine>
+    ensures stands { ends_session reply.now ≡ false → result ≡ some_machine machine }
+    ensures none { ends_session reply.now ≡ true → result ≡ no_machine }
+{
+    if ends(reply) { None } else { Some(machine) }
+}
+
 impl Session {
     /// The session before the first line. The prelude's refusal and want of memory are the errors.
     pub fn new<R: Threads + Sync, G: Gate + Sync>(
@@ -182,10 +190,7 @@ impl Session {
             return Reply::Defined;
         }
         let reply = run_phrase(alloc, &mut machine, channels);
-        if ends(&reply) {
-            return reply;
-        }
-        self.machine = Some(machine);
+        self.machine = kept(machine, &reply);
         reply
     }
 

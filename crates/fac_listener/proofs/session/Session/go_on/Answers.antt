@@ -3,7 +3,7 @@ use Rattle.fac_lines.proofs.ChannelLemmas.{no_faults}
 use Rattle.fac_lines.proofs.InputLemmas.{reads_so, unread}
 use Rattle.fac_listener.specs.inner.SessionSteps.{line_session}
 use Rattle.fac_listener.proofs.PhraseLemmas.{nothing_taken}
-use Rattle.fac_listener.proofs.StepLemmas.{holds_next, text_answers, text_goes_longer, whole_for}
+use Rattle.fac_listener.proofs.StepLemmas.{holds_next, none_kept, text_answers, text_goes_longer, whole_for}
 use Rattle.fac_listener.proofs.session.Session.go_on.Goals as goal
 
 pub machine_for-requires-clause-whole : goal.machine_for-requires-clause-whole
@@ -39,3 +39,18 @@ returns-in-Ok-machine_for-clause-replies g c =
     (λ input left h s q on.
     text_answers c.phrases_are_not_stuck.ensures c.known_programs_stay.ensures c.known_behind_texts_is_known.ensures c.args.self.now.texts _ c.args.machine.now c.in-Ok-machine_for.next c.args.accepted c.args.text c.in-Ok-machine_for.ensures c.in-Ok.ensures
     _ _ _ c.run.result input left h s q on)
+
+pub returns-in-Err-clause-ended : goal.returns-in-Err-clause-ended
+returns-in-Err-clause-ended g c = none_kept c.args.self.now.machine c.requires.none
+
+pub returns-in-Err-machine_for-clause-ended : goal.returns-in-Err-machine_for-clause-ended
+returns-in-Err-machine_for-clause-ended g c = none_kept c.args.self.now.machine c.requires.none
+
+pub returns-in-Ok-machine_for-clause-ended : goal.returns-in-Ok-machine_for-clause-ended
+returns-in-Ok-machine_for-clause-ended g c = c.run.ensures.ended
+
+pub returns-in-Ok-machine_for-clause-faults : goal.returns-in-Ok-machine_for-clause-faults
+returns-in-Ok-machine_for-clause-faults g c = c.run.ensures.faults
+
+pub run-requires-clause-none : goal.run-requires-clause-none
+run-requires-clause-none g c = c.requires.none

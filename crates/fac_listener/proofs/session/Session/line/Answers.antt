@@ -41,3 +41,18 @@ returns-in-Ok-clause-pieces g c =
     (λ input left h source are s stands.
     line_pieces source s c.args.self.now.waiting c.args.text.now c.in-Ok.text _ _ _ c.take-in-Ok.result input left stands.waiting c.in-Ok.ensures
     (h source are s stands.known (has_machine s c.args.self.now.machine c.in-Some.machine c.in-Some.is stands.machine)))
+
+pub returns-in-None-clause-ended : goal.returns-in-None-clause-ended
+returns-in-None-clause-ended g c = refl
+
+pub returns-in-Err-clause-ended : goal.returns-in-Err-clause-ended
+returns-in-Err-clause-ended g c = refl
+
+pub returns-in-Ok-clause-ended : goal.returns-in-Ok-clause-ended
+returns-in-Ok-clause-ended g c = c.take-in-Ok.ensures.ended
+
+pub returns-in-Ok-clause-faults : goal.returns-in-Ok-clause-faults
+returns-in-Ok-clause-faults g c = c.take-in-Ok.ensures.faults
+
+pub take-requires-in-Ok-clause-none : goal.take-requires-in-Ok-clause-none
+take-requires-in-Ok-clause-none g c = refl

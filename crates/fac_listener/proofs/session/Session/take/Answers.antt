@@ -4,7 +4,7 @@ use Rattle.fac_lines.proofs.InputLemmas.{reads_so, unread}
 use Rattle.fac_session.specs.Sessions.{refuses, waits}
 use Rattle.fac_listener.proofs.SessionLemmas.{comes_once, refused_replies, waiting_replies}
 use Rattle.fac_listener.proofs.PhraseLemmas.{nothing_taken}
-use Rattle.fac_listener.proofs.StepLemmas.{goes_with, stack_count, text_replies_as, values_count}
+use Rattle.fac_listener.proofs.StepLemmas.{goes_with, none_kept, stack_count, text_replies_as, values_count}
 use Rattle.fac_listener.proofs.session.Session.take.Goals as goal
 
 pub meaning_behind-requires-after_bounds : goal.meaning_behind-requires-after_bounds
@@ -51,3 +51,21 @@ returns-in-Accepted-clause-replies g c =
     reads_so _ _ _ _ c.go_on.ensures.replies
     (λ input left h source are s known holds.
     text_replies_as law source are c.args.self.now.texts c.args.machine c.in-Accepted.accepted c.args.text s (length c.stack-count.result.now) known holds (many ∙ sym (stack_count s c.args.machine holds)) (c.in-Accepted.ensures s.known known) _ _ _ c.go_on.result input left (h s))
+
+pub returns-in-Memory-clause-ended : goal.returns-in-Memory-clause-ended
+returns-in-Memory-clause-ended g c = none_kept c.args.self.now.machine c.requires.none
+
+pub returns-in-Waits-clause-ended : goal.returns-in-Waits-clause-ended
+returns-in-Waits-clause-ended g c = refl
+
+pub returns-in-Refused-clause-ended : goal.returns-in-Refused-clause-ended
+returns-in-Refused-clause-ended g c = refl
+
+pub returns-in-Accepted-clause-ended : goal.returns-in-Accepted-clause-ended
+returns-in-Accepted-clause-ended g c = c.go_on.ensures.ended
+
+pub returns-in-Accepted-clause-faults : goal.returns-in-Accepted-clause-faults
+returns-in-Accepted-clause-faults g c = c.go_on.ensures.faults
+
+pub go_on-requires-clause-none : goal.go_on-requires-clause-none
+go_on-requires-clause-none g c = c.requires.none
