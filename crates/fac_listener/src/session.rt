@@ -94,8 +94,7 @@ fn machine_for<R: Threads + Sync, G: Gate + Sync>(
     machine: &Machine,
     checked: Checked,
 ) -> Result<Machine, Memory>
-    requires whole { StandsForWhole checked.closed }
-    requires goes_on { (s : Standing) × (q : KnownSeen) × HoldsSession s machine.now × IsLonger s.known.program q.program × IsAccepted q.program (length s.stack) checked.closed }
+    requires { StandsForWhole checked.closed × ((s : Standing) × (q : KnownSeen) × HoldsSession s machine.now × IsLonger s.known.program q.program × IsAccepted q.program (length s.stack) checked.closed) }
     ensures { IfOk result (MachineGoesOn machine.now checked.closed) }
 {
     images_are_longer();
@@ -109,7 +108,7 @@ fn first_machine<R: Threads + Sync, G: Gate + Sync>(
     workers: &Workers<'_, R, G>,
     checked: Checked,
 ) -> Result<Machine, Memory>
-    requires whole { StandsForWhole checked.closed }
+    requires { StandsForWhole checked.closed }
     ensures { IfOk result (MachineBegins checked.closed) }
 {
     machines_begin();
@@ -203,8 +202,7 @@ impl Session {
         text: Bytes,
         channels: &mut Channels<S, K>,
     ) -> Reply
-        requires none { self.old.machine ≡ no_machine }
-        requires goes_on { (s : Standing) × (q : KnownSeen) × TextGoesOn self.old.texts machine.now accepted text s q }
+        requires { (self.old.machine ≡ no_machine) × ((s : Standing) × (q : KnownSeen) × TextGoesOn self.old.texts machine.now accepted text s q) }
         ensures replies { OnChannels channels.old channels.new (λ before now input left. (s : Standing) (q : KnownSeen) → TextGoesOn self.old.texts machine.now accepted text s q → TextAnswers s text (goes_on q) before now self.new result input left) }
         ensures ended { has_ended self.new ≡ ends_session result }
         ensures faults { CountsFaults channels.old channels.new (IsInputFault result) (IsWriteFault result) }
@@ -230,8 +228,7 @@ impl Session {
         text: Bytes,
         channels: &mut Channels<S, K>,
     ) -> Reply
-        requires none { self.old.machine ≡ no_machine }
-        requires stands { (s : Standing) × IsKnownBehind self.old.texts s.known × HoldsSession s machine }
+        requires { (self.old.machine ≡ no_machine) × ((s : Standing) × IsKnownBehind self.old.texts s.known × HoldsSession s machine) }
         ensures replies { OnChannels channels.old channels.new (λ before now input left. (source : Items ℕ → Comes) → AreSources source → (s : Standing) → IsKnownBehind self.old.texts s.known → HoldsSession s machine → TextAnswers s text (meant s.known (length s.stack) (source text)) before now self.new result input left) }
         ensures ended { has_ended self.new ≡ ends_session result }
         ensures faults { CountsFaults channels.old channels.new (IsInputFault result) (IsWriteFault result) }
@@ -267,8 +264,7 @@ impl Session {
         text: &[u8],
         channels: &mut Channels<S, K>,
     ) -> Reply
-        requires open { has_ended self.old ≡ false }
-        requires stands { (s : Standing) × Stands s self.old }
+        requires { (s : Standing) × Stands s self.old }
         ensures replies { OnChannels channels.old channels.new (λ before now input left. (source : Items ℕ → Comes) → AreSources source → (s : Standing) → Stands s self.old → Replies source s text.now before now self.new result input left) }
         ensures pieces { OnChannels channels.old channels.new (λ before now input left. (source : Items ℕ → Comes) → AreSources source → (s : Standing) → Stands s self.old → LinePieces source s text.now input before now result) }
         ensures ended { has_ended self.new ≡ ends_session result }
