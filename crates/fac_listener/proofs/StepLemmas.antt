@@ -159,6 +159,9 @@ kept_ends o m a kept none = ends_by o m (ends_session a) kept none
 pub none_kept : (o : Option MachineSeen) → o ≡ None → has_ended (with_machine o) ≡ true
 none_kept o e = ap (λ (x : Option MachineSeen). has_ended (with_machine x)) e
 
+pub some_kept : (o : Option MachineSeen) (m : MachineSeen) → o ≡ Some m → has_ended (with_machine o) ≡ false
+some_kept o m e = ap (λ (x : Option MachineSeen). has_ended (with_machine x)) e
+
 -- two tests of one reply agree
 pub closed_not_open : (b x : Bool) (A : Type 0) → b ≡ x → b ≡ true → x ≡ false → A
 closed_not_open b x A e t f = absurd (cc)

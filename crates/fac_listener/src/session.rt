@@ -169,28 +169,53 @@ impl Session {
         self.machine.is_none()
     }
 
-    // Runs the phrase of the text that was taken, where it has one.
-    fn run<S: Source, K: Sink>(
+    // Keeps the machine of a text that was taken, which has definitions alone.
+    fn define(&mut self, alloc: Global, machine: Machine)
+        ensures texts { self.new.texts ≡ self.old.texts }
+        ensures waiting { self.new.waiting ≡ [] }
+        ensures machine { self.new.machine ≡ some_machine machine }
+    {
+        self.waiting = Bytes::new(alloc);
+        self.machine = Some(machine);
+    }
+
+    // Runs the phrase of the text that was taken.
+    fn run_it<S: Source, K: Sink>(
         &mut self,
         alloc: Global,
         mut machine: Machine,
-        runs: bool,
         channels: &mut Channels<S, K>,
     ) -> Reply
-        requires none { self.old.machine ≡ no_machine }
-        requires ready { (s : Standing) × HoldsReady s machine }
-        ensures answers { OnChannels channels.old channels.new (λ before now input left. (s : Standing) → IsKnownBehind self.old.texts s.known → HoldsReady s machine → s.waiting ≡ [] → runs ≡ has_phrase s → AnswersLine s before now self.new result input left) }
+        requires { (s : Standing) × HoldsReady s machine }
+        ensures answers { OnChannels channels.old channels.new (λ before now input left. (s : Standing) → IsKnownBehind self.old.texts s.known → HoldsReady s machine → has_phrase s ≡ true → AnswersLine s before now self.new result input left) }
         ensures ended { has_ended self.new ≡ ends_session result }
         ensures faults { CountsFaults channels.old channels.new (IsInputFault result) (IsWriteFault result) }
     {
         self.waiting = Bytes::new(alloc);
-        if !runs {
-            self.machine = Some(machine);
-            return Reply::Defined;
-        }
         let reply = run_phrase(alloc, &mut machine, channels);
         self.machine = kept(machine, &reply);
         reply
+    }
+
+    // Runs the phrase of the text that was taken, where it has one.
+    fn run<S: Source, K: Sink>(
+        &mut self,
+        alloc: Global,
+        machine: Machine,
+        runs: bool,
+        channels: &mut Channels<S, K>,
+    ) -> Reply
+        requires { (s : Standing) × HoldsReady s machine }
+        ensures answers { OnChannels channels.old channels.new (λ before now input left. (s : Standing) → IsKnownBehind self.old.texts s.known → HoldsReady s machine → s.waiting ≡ [] → runs ≡ has_phrase s → AnswersLine s before now self.new result input left) }
+        ensures ended { has_ended self.new ≡ ends_session result }
+        ensures faults { CountsFaults channels.old channels.new (IsInputFault result) (IsWriteFault result) }
+    {
+        if runs {
+            self.run_it(alloc, machine, channels)
+        } else {
+            self.define(alloc, machine);
+            Reply::Defined
+        }
     }
 
     // Goes on with an accepted text.

@@ -14,8 +14,8 @@ machine_for-requires-after_bounds g c κs within =
       (on.0, on.1, on.2.holds, text_goes_longer c.known_programs_stay.ensures c.known_behind_texts_is_known.ensures c.args.self.now.texts c.args.machine.now c.args.accepted c.args.text on.0 on.1 on.2, on.2.accepts),
     )
 
-pub run-requires-clause-ready : goal.run-requires-clause-ready
-run-requires-clause-ready g c =
+pub run-requires : goal.run-requires
+run-requires g c =
     let on = c.requires.1 in
     (line_session on.0 on.1, holds_next c.known_programs_stay.ensures c.known_behind_texts_is_known.ensures c.args.self.now.texts c.args.machine.now c.in-Ok-machine_for.next c.args.accepted c.args.text on.0 on.1 c.in-Ok-machine_for.ensures on.2)
 
@@ -49,6 +49,3 @@ returns-in-Ok-machine_for-clause-ended g c = c.run.ensures.ended
 
 pub returns-in-Ok-machine_for-clause-faults : goal.returns-in-Ok-machine_for-clause-faults
 returns-in-Ok-machine_for-clause-faults g c = c.run.ensures.faults
-
-pub run-requires-clause-none : goal.run-requires-clause-none
-run-requires-clause-none g c = c.requires.0
