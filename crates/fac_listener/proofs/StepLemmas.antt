@@ -22,8 +22,8 @@ use Rattle.fac_session.specs.Sessions.{Session, Meant, goes_on, meant, on_names,
 use Rattle.fac_session.specs.SessionLines.{behind_waiting}
 use Rattle.fac_judge.specs.JudgedPrograms.{IsAccepted}
 use Rattle.fac_judge.specs.KnownTexts.{GoesOn, GoesOnWith, IsKnownBehind, KnownBehindAreKnown, OneKnown}
-use Rattle.fac_listener.specs.Replies.{AnswerPieces, AreSources, LinePieces, Replies, TextReplies}
-use Rattle.fac_listener.specs.StandingSessions.{HasMachine, HoldsSession, Stands}
+use Rattle.fac_listener.specs.Replies.{AnswerPieces, AreSources, LinePieces, Replies, TextReplies, ends_session}
+use Rattle.fac_listener.specs.StandingSessions.{HasMachine, HoldsSession, Stands, has_ended}
 use Rattle.fac_judge.specs.TextMeanings.{IsAcceptedText, IsMeaning}
 use Rattle.fac_judge.specs.TextSources.{OneSource}
 use Rattle.fac_judge.specs.declared.meaning.Accepted.{Accepted}
@@ -144,6 +144,30 @@ defined_stands s code m known ready waiting none machine = record {
   waiting = none ∙ sym waiting;
   machine = subst (λ (o : Option MachineSeen). HasMachine s o) (sym machine) ready.holds;
 }
+
+-- a session has ended where no machine is kept
+abbrev with_machine : Option MachineSeen → SessionSeen
+with_machine o = record { texts = []; waiting = []; machine = o }
+
+ends_by : (o : Option MachineSeen) (m : MachineSeen) (b : Bool) → (b ≡ false → o ≡ Some m) → (b ≡ true → o ≡ None) → has_ended (with_machine o) ≡ b
+ends_by o m true kept none = ap (λ (x : Option MachineSeen). has_ended (with_machine x)) (none refl)
+ends_by o m false kept none = ap (λ (x : Option MachineSeen). has_ended (with_machine x)) (kept refl)
+
+pub kept_ends : (o : Option MachineSeen) (m : MachineSeen) (a : Reply) → (ends_session a ≡ false → o ≡ Some m) → (ends_session a ≡ true → o ≡ None) → has_ended (with_machine o) ≡ ends_session a
+kept_ends o m a kept none = ends_by o m (ends_session a) kept none
+
+pub none_kept : (o : Option MachineSeen) → o ≡ None → has_ended (with_machine o) ≡ true
+none_kept o e = ap (λ (x : Option MachineSeen). has_ended (with_machine x)) e
+
+pub some_kept : (o : Option MachineSeen) (m : MachineSeen) → o ≡ Some m → has_ended (with_machine o) ≡ false
+some_kept o m e = ap (λ (x : Option MachineSeen). has_ended (with_machine x)) e
+
+-- two tests of one reply agree
+pub closed_not_open : (b x : Bool) (A : Type 0) → b ≡ x → b ≡ true → x ≡ false → A
+closed_not_open b x A e t f = absurd (cc)
+
+pub open_not_closed : (b x : Bool) (A : Type 0) → b ≡ x → b ≡ false → x ≡ true → A
+open_not_closed b x A e f t = absurd (cc)
 
 -- A line.
 

@@ -1,5 +1,5 @@
 //! The session of the listener.
-ghost use Rattle.std.specs.Prelude.{◌≡◌, [], length, List as Items, ℕ, None as no_machine, false, IfOk};
+ghost use Rattle.std.specs.Prelude.{◌≡◌, [], length, List as Items, ℕ, None as no_machine, Some as some_machine, false, true, IfOk};
 ghost use Rattle.fac_lines.specs.Channels.{CountsFaults, OnChannels};
 ghost use Rattle.fac_names.specs.declared.known.Known.{Known as KnownSeen};
 ghost use Rattle.fac_notes.specs.Sources.{Source as Comes};
@@ -94,8 +94,7 @@ fn machine_for<R: Threads + Sync, G: Gate + Sync>(
     machine: &Machine,
     checked: Checked,
 ) -> Result<Machine, Memory>
-    requires whole { StandsForWhole checked.closed }
-    requires goes_on { (s : Standing) × (q : KnownSeen) × HoldsSession s machine.now × IsLonger s.known.program q.program × IsAccepted q.program (length s.stack) checked.closed }
+    requires { StandsForWhole checked.closed × ((s : Standing) × (q : KnownSeen) × HoldsSession s machine.now × IsLonger s.known.program q.program × IsAccepted q.program (length s.stack) checked.closed) }
     ensures { IfOk result (MachineGoesOn machine.now checked.closed) }
 {
     images_are_longer();
@@ -109,7 +108,7 @@ fn first_machine<R: Threads + Sync, G: Gate + Sync>(
     workers: &Workers<'_, R, G>,
     checked: Checked,
 ) -> Result<Machine, Memory>
-    requires whole { StandsForWhole checked.closed }
+    requires { StandsForWhole checked.closed }
     ensures { IfOk result (MachineBegins checked.closed) }
 {
     machines_begin();
@@ -127,6 +126,14 @@ fn ends(reply: &Reply) -> bool
         Reply::Memory { .. } => true,
         _ => false,
     }
+}
+
+// The machine that stands behind a reply. There is none behind one with which the session ends.
+fn kept(machine: Machine, reply: &Reply) -> Option<Machine>
+    ensures stands { ends_session reply.now ≡ false → result ≡ some_machine machine }
+    ensures none { ends_session reply.now ≡ true → result ≡ no_machine }
+{
+    if ends(reply) { None } else { Some(machine) }
 }
 
 impl Session {
@@ -162,31 +169,53 @@ impl Session {
         self.machine.is_none()
     }
 
-    // Runs the phrase of the text that was taken, where it has one.
-    fn run<S: Source, K: Sink>(
+    // Keeps the machine of a text that was taken, which has definitions alone.
+    fn define(&mut self, alloc: Global, machine: Machine)
+        ensures texts { self.new.texts ≡ self.old.texts }
+        ensures waiting { self.new.waiting ≡ [] }
+        ensures machine { self.new.machine ≡ some_machine machine }
+    {
+        self.waiting = Bytes::new(alloc);
+        self.machine = Some(machine);
+    }
+
+    // Runs the phrase of the text that was taken.
+    fn run_it<S: Source, K: Sink>(
         &mut self,
         alloc: Global,
         mut machine: Machine,
-        runs: bool,
         channels: &mut Channels<S, K>,
     ) -> Reply
-        requires none { self.old.machine ≡ no_machine }
-        requires ready { (s : Standing) × HoldsReady s machine }
-        ensures answers { OnChannels channels.old channels.new (λ before now input left. (s : Standing) → IsKnownBehind self.old.texts s.known → HoldsReady s machine → s.waiting ≡ [] → runs ≡ has_phrase s → AnswersLine s before now self.new result input left) }
+        requires { (s : Standing) × HoldsReady s machine }
+        ensures answers { OnChannels channels.old channels.new (λ before now input left. (s : Standing) → IsKnownBehind self.old.texts s.known → HoldsReady s machine → has_phrase s ≡ true → AnswersLine s before now self.new result input left) }
         ensures ended { has_ended self.new ≡ ends_session result }
         ensures faults { CountsFaults channels.old channels.new (IsInputFault result) (IsWriteFault result) }
     {
         self.waiting = Bytes::new(alloc);
-        if !runs {
-            self.machine = Some(machine);
-            return Reply::Defined;
-        }
         let reply = run_phrase(alloc, &mut machine, channels);
-        if ends(&reply) {
-            return reply;
-        }
-        self.machine = Some(machine);
+        self.machine = kept(machine, &reply);
         reply
+    }
+
+    // Runs the phrase of the text that was taken, where it has one.
+    fn run<S: Source, K: Sink>(
+        &mut self,
+        alloc: Global,
+        machine: Machine,
+        runs: bool,
+        channels: &mut Channels<S, K>,
+    ) -> Reply
+        requires { (s : Standing) × HoldsReady s machine }
+        ensures answers { OnChannels channels.old channels.new (λ before now input left. (s : Standing) → IsKnownBehind self.old.texts s.known → HoldsReady s machine → s.waiting ≡ [] → runs ≡ has_phrase s → AnswersLine s before now self.new result input left) }
+        ensures ended { has_ended self.new ≡ ends_session result }
+        ensures faults { CountsFaults channels.old channels.new (IsInputFault result) (IsWriteFault result) }
+    {
+        if runs {
+            self.run_it(alloc, machine, channels)
+        } else {
+            self.define(alloc, machine);
+            Reply::Defined
+        }
     }
 
     // Goes on with an accepted text.
@@ -198,8 +227,7 @@ impl Session {
         text: Bytes,
         channels: &mut Channels<S, K>,
     ) -> Reply
-        requires none { self.old.machine ≡ no_machine }
-        requires goes_on { (s : Standing) × (q : KnownSeen) × TextGoesOn self.old.texts machine.now accepted text s q }
+        requires { (self.old.machine ≡ no_machine) × ((s : Standing) × (q : KnownSeen) × TextGoesOn self.old.texts machine.now accepted text s q) }
         ensures replies { OnChannels channels.old channels.new (λ before now input left. (s : Standing) (q : KnownSeen) → TextGoesOn self.old.texts machine.now accepted text s q → TextAnswers s text (goes_on q) before now self.new result input left) }
         ensures ended { has_ended self.new ≡ ends_session result }
         ensures faults { CountsFaults channels.old channels.new (IsInputFault result) (IsWriteFault result) }
@@ -225,8 +253,7 @@ impl Session {
         text: Bytes,
         channels: &mut Channels<S, K>,
     ) -> Reply
-        requires none { self.old.machine ≡ no_machine }
-        requires stands { (s : Standing) × IsKnownBehind self.old.texts s.known × HoldsSession s machine }
+        requires { (self.old.machine ≡ no_machine) × ((s : Standing) × IsKnownBehind self.old.texts s.known × HoldsSession s machine) }
         ensures replies { OnChannels channels.old channels.new (λ before now input left. (source : Items ℕ → Comes) → AreSources source → (s : Standing) → IsKnownBehind self.old.texts s.known → HoldsSession s machine → TextAnswers s text (meant s.known (length s.stack) (source text)) before now self.new result input left) }
         ensures ended { has_ended self.new ≡ ends_session result }
         ensures faults { CountsFaults channels.old channels.new (IsInputFault result) (IsWriteFault result) }
@@ -262,8 +289,7 @@ impl Session {
         text: &[u8],
         channels: &mut Channels<S, K>,
     ) -> Reply
-        requires open { has_ended self.old ≡ false }
-        requires stands { (s : Standing) × Stands s self.old }
+        requires { (s : Standing) × Stands s self.old }
         ensures replies { OnChannels channels.old channels.new (λ before now input left. (source : Items ℕ → Comes) → AreSources source → (s : Standing) → Stands s self.old → Replies source s text.now before now self.new result input left) }
         ensures pieces { OnChannels channels.old channels.new (λ before now input left. (source : Items ℕ → Comes) → AreSources source → (s : Standing) → Stands s self.old → LinePieces source s text.now input before now result) }
         ensures ended { has_ended self.new ≡ ends_session result }

@@ -17,13 +17,13 @@ pub answer-requires : goal.answer-requires
 answer-requires g c =
     let run = c.run-stop in
     let many = values_count c.args.machine.now c.stack-count.result.now c.stack-count.ensures in
-    can_cut_behind c.args.machine.now c.keep_stack.new.self run.new.self c.in-Ok.ensures run.result.what (length c.stack-count.result.now) run.result.ticks many c.stacks_are_kept.ensures c.requires.0 c.requires.1 c.args.channels.now run.new.channels run.ensures.runs
+    can_cut_behind c.args.machine.now c.keep_stack.new.self run.new.self c.in-Ok.ensures.ok run.result.what (length c.stack-count.result.now) run.result.ticks many c.stacks_are_kept.ensures c.requires.0 c.requires.1 c.args.channels.now run.new.channels run.ensures.runs
 
 pub returns-in-Ok-clause-answers : goal.returns-in-Ok-clause-answers
 returns-in-Ok-clause-answers g c =
     let run = c.run-stop in
     let many = values_count c.args.machine.now c.stack-count.result.now c.stack-count.ensures in
-    answered_behind c.args.machine.now c.keep_stack.new.self run.new.self c.in-Ok.ensures run.result.what (length c.stack-count.result.now) run.result.ticks many c.phrases_are_answered.ensures
+    answered_behind c.args.machine.now c.keep_stack.new.self run.new.self c.in-Ok.ensures.ok run.result.what (length c.stack-count.result.now) run.result.ticks many c.phrases_are_answered.ensures
     c.args.channels.now run.new.channels c.answer.new.channels c.answer.new.machine c.answer.result run.ensures.image run.ensures.literals run.ensures.within run.ensures.runs c.answer.ensures
 
 pub returns-in-Ok-clause-faults : goal.returns-in-Ok-clause-faults

@@ -1,3 +1,4 @@
+use Rattle.std.proofs.Common.{rules}
 use Rattle.fac_listener.proofs.StepLemmas.{line_alone, line_behind}
 use Rattle.fac_listener.proofs.session.whole_text.Goals as goal
 

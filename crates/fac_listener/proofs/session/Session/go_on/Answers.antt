@@ -3,22 +3,20 @@ use Rattle.fac_lines.proofs.ChannelLemmas.{no_faults}
 use Rattle.fac_lines.proofs.InputLemmas.{reads_so, unread}
 use Rattle.fac_listener.specs.inner.SessionSteps.{line_session}
 use Rattle.fac_listener.proofs.PhraseLemmas.{nothing_taken}
-use Rattle.fac_listener.proofs.StepLemmas.{holds_next, text_answers, text_goes_longer, whole_for}
+use Rattle.fac_listener.proofs.StepLemmas.{holds_next, none_kept, text_answers, text_goes_longer, whole_for}
 use Rattle.fac_listener.proofs.session.Session.go_on.Goals as goal
 
-pub machine_for-requires-clause-whole : goal.machine_for-requires-clause-whole
-machine_for-requires-clause-whole g c =
-    let on = c.requires.goes_on in
-    whole_for on.1.program _ c.args.accepted.checked.closed on.2.accepts
+pub machine_for-requires-after_bounds : goal.machine_for-requires-after_bounds
+machine_for-requires-after_bounds g c κs within =
+    let on = c.requires.1 in
+    (
+      whole_for on.1.program _ c.args.accepted.checked.closed on.2.accepts,
+      (on.0, on.1, on.2.holds, text_goes_longer c.known_programs_stay.ensures c.known_behind_texts_is_known.ensures c.args.self.now.texts c.args.machine.now c.args.accepted c.args.text on.0 on.1 on.2, on.2.accepts),
+    )
 
-pub machine_for-requires-clause-goes_on : goal.machine_for-requires-clause-goes_on
-machine_for-requires-clause-goes_on g c =
-    let on = c.requires.goes_on in
-    (on.0, on.1, on.2.holds, text_goes_longer c.known_programs_stay.ensures c.known_behind_texts_is_known.ensures c.args.self.now.texts c.args.machine.now c.args.accepted c.args.text on.0 on.1 on.2, on.2.accepts)
-
-pub run-requires-clause-ready : goal.run-requires-clause-ready
-run-requires-clause-ready g c =
-    let on = c.requires.goes_on in
+pub run-requires : goal.run-requires
+run-requires g c =
+    let on = c.requires.1 in
     (line_session on.0 on.1, holds_next c.known_programs_stay.ensures c.known_behind_texts_is_known.ensures c.args.self.now.texts c.args.machine.now c.in-Ok-machine_for.next c.args.accepted c.args.text on.0 on.1 c.in-Ok-machine_for.ensures on.2)
 
 pub returns-in-Err-clause-replies : goal.returns-in-Err-clause-replies
@@ -39,3 +37,15 @@ returns-in-Ok-machine_for-clause-replies g c =
     (λ input left h s q on.
     text_answers c.phrases_are_not_stuck.ensures c.known_programs_stay.ensures c.known_behind_texts_is_known.ensures c.args.self.now.texts _ c.args.machine.now c.in-Ok-machine_for.next c.args.accepted c.args.text c.in-Ok-machine_for.ensures c.in-Ok.ensures
     _ _ _ c.run.result input left h s q on)
+
+pub returns-in-Err-clause-ended : goal.returns-in-Err-clause-ended
+returns-in-Err-clause-ended g c = none_kept c.args.self.now.machine c.requires.0
+
+pub returns-in-Err-machine_for-clause-ended : goal.returns-in-Err-machine_for-clause-ended
+returns-in-Err-machine_for-clause-ended g c = none_kept c.args.self.now.machine c.requires.0
+
+pub returns-in-Ok-machine_for-clause-ended : goal.returns-in-Ok-machine_for-clause-ended
+returns-in-Ok-machine_for-clause-ended g c = c.run.ensures.ended
+
+pub returns-in-Ok-machine_for-clause-faults : goal.returns-in-Ok-machine_for-clause-faults
+returns-in-Ok-machine_for-clause-faults g c = c.run.ensures.faults

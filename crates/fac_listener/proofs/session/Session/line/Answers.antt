@@ -5,10 +5,10 @@ use Rattle.fac_listener.proofs.PhraseLemmas.{nothing_taken}
 use Rattle.fac_listener.proofs.StepLemmas.{has_machine, line_pieces, line_replies}
 use Rattle.fac_listener.proofs.session.Session.line.Goals as goal
 
-pub take-requires-in-Ok-clause-stands : goal.take-requires-in-Ok-clause-stands
-take-requires-in-Ok-clause-stands g c =
-    let stands = c.requires.stands.1 in
-    (c.requires.stands.0, stands.known, has_machine c.requires.stands.0 c.args.self.now.machine c.in-Some.machine c.in-Some.is stands.machine)
+pub take-requires-in-Ok-after_bounds : goal.take-requires-in-Ok-after_bounds
+take-requires-in-Ok-after_bounds g c κs within =
+    let stands = c.requires.1 in
+    (refl, (c.requires.0, stands.known, has_machine c.requires.0 c.args.self.now.machine c.in-Some.machine c.in-Some.is stands.machine))
 
 pub returns-in-None-clause-replies : goal.returns-in-None-clause-replies
 returns-in-None-clause-replies g c = unread _ _ (λ input source are s stands. inl (nothing_taken input _))
@@ -41,3 +41,15 @@ returns-in-Ok-clause-pieces g c =
     (λ input left h source are s stands.
     line_pieces source s c.args.self.now.waiting c.args.text.now c.in-Ok.text _ _ _ c.take-in-Ok.result input left stands.waiting c.in-Ok.ensures
     (h source are s stands.known (has_machine s c.args.self.now.machine c.in-Some.machine c.in-Some.is stands.machine)))
+
+pub returns-in-None-clause-ended : goal.returns-in-None-clause-ended
+returns-in-None-clause-ended g c = refl
+
+pub returns-in-Err-clause-ended : goal.returns-in-Err-clause-ended
+returns-in-Err-clause-ended g c = refl
+
+pub returns-in-Ok-clause-ended : goal.returns-in-Ok-clause-ended
+returns-in-Ok-clause-ended g c = c.take-in-Ok.ensures.ended
+
+pub returns-in-Ok-clause-faults : goal.returns-in-Ok-clause-faults
+returns-in-Ok-clause-faults g c = c.take-in-Ok.ensures.faults

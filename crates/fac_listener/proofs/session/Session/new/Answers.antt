@@ -3,11 +3,11 @@ use Rattle.fac_listener.proofs.FirstLemmas.{first_stands, first_whole, prelude_r
 use Rattle.fac_listener.proofs.StepLemmas.{whole_for}
 use Rattle.fac_listener.proofs.session.Session.new.Goals as goal
 
-pub judge-requires : goal.judge-requires
-judge-requires g c = first_whole c.known_behind_texts_is_known.ensures c.in-Ok.first c.program_of.result c.in-Ok.ensures c.program_of.ensures
+pub judge-requires-after_bounds : goal.judge-requires-after_bounds
+judge-requires-after_bounds g c κs within = first_whole c.known_behind_texts_is_known.ensures c.in-Ok.first c.program_of.result c.in-Ok.ensures c.program_of.ensures
 
-pub first_machine-requires : goal.first_machine-requires
-first_machine-requires g c = whole_for c.program_of.result 0 c.in-Accepted.checked.closed c.in-Accepted.ensures
+pub first_machine-requires-after_bounds : goal.first_machine-requires-after_bounds
+first_machine-requires-after_bounds g c κs within = whole_for c.program_of.result 0 c.in-Accepted.checked.closed c.in-Accepted.ensures
 
 pub returns-in-Refused : goal.returns-in-Refused
 returns-in-Refused g c = prelude_refused c.in-Ok.first c.program_of.result c.in-Refused.why c.in-Ok.ensures c.program_of.ensures c.in-Refused.ensures
