@@ -14,4 +14,4 @@ returns-in-Refused g c = prelude_refused c.in-Ok.first c.program_of.result c.in-
 
 pub returns-in-Ok-first_machine : goal.returns-in-Ok-first_machine
 returns-in-Ok-first_machine g c =
-    first_stands c.in-Ok.first c.program_of.result c.in-Accepted.checked.closed _ c.in-Ok-first_machine.machine c.in-Ok.ensures c.program_of.ensures c.in-Accepted.ensures c.in-Ok-first_machine.ensures c.new.ensures c.new-2.ensures refl
+    first_stands c.in-Ok.first c.program_of.result c.in-Accepted.checked.closed _ c.in-Ok-first_machine.machine c.in-Ok.ensures c.program_of.ensures c.in-Accepted.ensures c.in-Ok-first_machine.ensures c.new.ensures c.new-in-Ok-first_machine.ensures refl
