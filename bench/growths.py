@@ -10,7 +10,8 @@ it is run once for each of its allocations, and that one is refused it; and once
 each K-th is. J processes share the work, as many as there are processors by default.
 
 Each run has to end in the command's own answer, or in status 12 with its note; then what it wrote is a front of its output, a session has told whole
-notes with which its own begin, and the image isn't there or is the whole one. The script ends with status 1 where a run ends otherwise, and tells the first such ones.
+notes with which its own begin, and the image isn't there or is the whole one. The script ends with status 1 where a run ends otherwise, and tells the
+first such ones.
 """
 
 import argparse

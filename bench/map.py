@@ -27,7 +27,7 @@ ROOMS = [
         "Image and machine",
         "fac_texts fac_code fac_bytes fac_machine fac_store fac_show fac_sequences fac_prim fac_vm fac_carry fac_emit fac_expand fac_standing",
     ),
-    ("Tool", "fac_notes fac_session fac_judge fac_gen fac_command fac_explain fac_tool fac_program factorc fac_explainer factorc_explain"),
+    ("Tool", "fac_notes fac_session fac_judge fac_listener fac_listen fac_gen fac_command fac_explain fac_tool fac_program factorc fac_explainer factorc_explain"),
     (
         "Programs of tests and measurements",
         "fac_cases fac_image_cases fac_number_cases fac_spelling_cases fac_tests fac_count factorc_refused factorc_library",

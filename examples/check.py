@@ -13,7 +13,8 @@ A listing of README.md and of docs/TUTORIAL.md is a block that begins with "```f
 that, and with the word `image` before them where it is built as an image too, which is executed then, or `stack` where it is run with `--stack`. It is
 run as `a.factor`, behind these.
 A block behind it that begins with "```input" is its input. The next block, which begins with "```text", has what it writes, with its note at
-the end, and behind that word `status=N` where it ends with another status than 0.
+the end, and behind that word `status=N` where it ends with another status than 0. A block that begins with "```listen", perhaps with such names too, has the
+lines of a session, which `PROGRAM listen` takes behind those of these files.
 
 An indented listing of docs/LANGUAGE.md is run as `a.factor`, behind all vocabularies where it uses none. Where the line behind it begins with "This prints",
 it has to write what stands between backticks in this sentence; otherwise it has to be accepted.
@@ -56,7 +57,7 @@ LANGUAGE = "docs/LANGUAGE.md"
 # The words behind `factor`, the text, the input, the words behind `text`, and what is written. None of the texts has a line that ends a block.
 BLOCK = rb"((?:(?!```)[^\n]*\n)*)```\n"
 LISTING = re.compile(
-    rb"^```factor([^\n]*)\n" + BLOCK + rb"\n+(?:```input\n" + BLOCK + rb"\n+)?```text([^\n]*)\n" + BLOCK, re.MULTILINE
+    rb"^```(factor|listen)([^\n]*)\n" + BLOCK + rb"\n+(?:```input\n" + BLOCK + rb"\n+)?```text([^\n]*)\n" + BLOCK, re.MULTILINE
 )
 
 INDENTED = re.compile(r"\n\n((?:    [^\n]*\n|\n(?=    ))+)\n([^\n]*(?:\n[^\n]+)*)")
@@ -68,20 +69,20 @@ BEFORE_INSTEAD = f"{ALL[:-2]} assocs hashtables math.functions vectors ; TUPLE: 
 
 MANUAL = "man/factorc.1"
 # A command that names a file, on a line of its own or in backticks, and has no word in capital letters, which stands for others.
-COMMAND = re.compile(r"^    ((?:factorc|printf) .*\.\w.*)$|`((?:printf [^`]*)?factorc \w+ [^`]*\.\w[^`]*)`", re.MULTILINE)
+COMMAND = re.compile(r"^    ((?:factorc|printf|cat) .*\.\w.*)$|`((?:printf [^`]*)?factorc \w+ [^`]*\.\w[^`]*)`", re.MULTILINE)
 CAPITALS = re.compile(r"\b[A-Z]+\b(?![\w.])")
 
 REFUSALS = "docs/REFUSALS.md"
 EXAMPLE = re.compile(rb"^- `([^`\n]+)` of\s+`([^`\n]+)`", re.MULTILINE)
 STATUSES = {b"error": 1, b"syntax": 3, b"name": 4, b"check": 5}
-NOTES = ["crates/fac_notes/specs/NoteRows.antt", "crates/fac_notes/specs/Notes.antt", "crates/fac_tool/specs/ToldNotes.antt"]
+NOTES = [f"crates/{name}.antt" for name in ("fac_notes/specs/NoteRows", "fac_notes/specs/Notes", "fac_tool/specs/ToldNotes", "fac_listen/specs/SessionNotes")]
 NOTE = re.compile(rb'codes "([^"]*)"')
 
 
 @dataclass
 class Program:
     """A program: what it is called here, the names of its files and their texts, the status and the text that it ends with, its input, whether it
-    is built as an image too, and the options of its run."""
+    is built as an image too, and the options of its run. A session has no names of files."""
 
     title: str
     names: list
@@ -117,13 +118,16 @@ def programs():
                 path = f"examples/{name}"
                 yield stored([*(f"lib/{needed}.factor" for needed in files.needs_of(path)), path])
     for page, number, found in ((page, *each) for page in (README, TUTORIAL) for each in enumerate(LISTING.finditer(read(page)), 1)):
-        library, text, given, status, wanted = found.groups()
+        sort, library, text, given, status, wanted = found.groups()
         names = library.decode().split()
         image, stack = (names[:1] == [word] for word in ("image", "stack"))
         names = names[image or stack :]
         texts = {name: read(name) for name in names} | {"a.factor": text}
         status = int(status.partition(b"status=")[2] or 0)
-        yield Program(f"listing {number} of {page}", [*names, "a.factor"], texts, status, wanted, given or b"", image, ("--stack",) if stack else ())
+        if sort == b"listen":
+            yield Program(f"listing {number} of {page}", [], {}, status, wanted, b"".join(texts.values()))
+        else:
+            yield Program(f"listing {number} of {page}", [*names, "a.factor"], texts, status, wanted, given or b"", image, ("--stack",) if stack else ())
     for note, text in EXAMPLE.findall(read(REFUSALS)):
         yield Program(f"the example {text.decode()} of {REFUSALS}", ["a.factor"], {"a.factor": text}, STATUSES[note.partition(b":")[0]], note + b"\n")
 
@@ -195,6 +199,11 @@ def unexplained():
     return [f"{REFUSALS} has nothing on the note {text.decode()}" for text in texts if text not in read(REFUSALS)]
 
 
+def command_of(program):
+    """The words of the command that runs a program."""
+    return ["run", *program.options, *program.names] if program.names else ["listen"]
+
+
 def run_built(built, program):
     """The status of the built program on these files, and what it writes, with its note at the end. Where an image is wanted too and the
     run ends as it should, these are of the image: of its build where that says anything, and else of its run."""
@@ -210,7 +219,7 @@ def run_built(built, program):
             found = subprocess.run(command, cwd=folder, input=program.given, capture_output=True, timeout=MOST_SECONDS, check=False)
             return found.returncode, found.stdout + found.stderr
 
-        ran = ended("run", *program.options, *program.names)
+        ran = ended(*command_of(program))
         if not program.image or ran != (program.status, program.wanted):
             return ran
         saved = ended("build", *program.names, "-o", "a.image")
@@ -219,7 +228,7 @@ def run_built(built, program):
 
 def run_model(program):
     """The same of the model."""
-    answer = model.answer(["run", *program.options, *program.names], program.texts, given=program.given)
+    answer = model.answer(command_of(program), program.texts, given=program.given)
     return answer.status, answer.output.encode() + answer.note.encode()
 
 

@@ -1,14 +1,14 @@
 # Completion of factorc's command line for bash.
-# The commands and options: build check exec gen list run --stack --steps -o.
+# The commands and options: build check exec gen list listen run --stack --steps -o.
 
 _factorc() {
     local word=${COMP_WORDS[COMP_CWORD]} before=${COMP_WORDS[COMP_CWORD - 1]}
     COMPREPLY=()
     if ((COMP_CWORD == 1)); then
-        mapfile -t COMPREPLY < <(compgen -W "build check exec gen list run" -- "$word")
+        mapfile -t COMPREPLY < <(compgen -W "build check exec gen list listen run" -- "$word")
         return
     fi
-    if [[ $before == --steps || ${COMP_WORDS[1]} == gen ]]; then
+    if [[ $before == --steps || ${COMP_WORDS[1]} == gen || ${COMP_WORDS[1]} == listen ]]; then
         return
     fi
     if [[ $word == -* ]]; then

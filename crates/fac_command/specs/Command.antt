@@ -124,6 +124,20 @@ abbrev pub command_of : List (List ℕ) → Option Command
 command_of [] = None
 command_of (word ∷ words) = (if bytes_eq word (codes "check") then check_of words else if bytes_eq word (codes "run") then run_of words else if bytes_eq word (codes "build") then build_of words else if bytes_eq word (codes "exec") then exec_of words else if bytes_eq word (codes "list") then list_of words else if bytes_eq word (codes "gen") then generate_of (word ∷ words) else None)
 
+-- what a command line asks for: the listener, or a command
+pub data Request : Type 0 where
+  listen : Request
+  work : Command → Request
+
+abbrev pub work_of : Option Command → Option Request
+work_of None = None
+work_of (Some command) = Some (work command)
+
+-- `listen` alone, or one of the commands
+abbrev pub request_of : List (List ℕ) → Option Request
+request_of (word ∷ []) = (if bytes_eq word (codes "listen") then Some listen else work_of (command_of (word ∷ [])))
+request_of words = work_of (command_of words)
+
 -- the names of the files of a command, or that of the text that it draws; those on an image have none
 abbrev pub files_of : Command → List (List ℕ)
 files_of (check files) = files

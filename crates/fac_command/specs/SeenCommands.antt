@@ -2,7 +2,9 @@
 use Rattle.std.specs.Prelude.{map, string_bytes}
 use Rattle.fac_command.specs.declared.command.Command.{Command as CommandRead}
 use Rattle.fac_command.specs.declared.command.Command.TheVariants as read
-use Rattle.fac_command.specs.Command.{Command, check, run, run_stack, build, exec, list, generate}
+use Rattle.fac_command.specs.declared.command.Request.{Request as RequestRead}
+use Rattle.fac_command.specs.declared.command.Request.TheVariants as asked
+use Rattle.fac_command.specs.Command.{Command, Request, check, run, run_stack, build, exec, list, generate, listen, work}
 
 -- what it asks for
 abbrev pub command_seen : CommandRead → Command
@@ -13,3 +15,7 @@ command_seen (read.Build files image) = build (map string_bytes files.now) image
 command_seen (read.Exec steps image) = exec steps image.now
 command_seen (read.List image) = list image.now
 command_seen (read.Generate steps name seed words) = generate steps (map string_bytes name.now) seed words
+
+abbrev pub request_seen : RequestRead → Request
+request_seen asked.Listen = listen
+request_seen (asked.Work command) = work (command_seen command)

@@ -1,13 +1,13 @@
 //! The command line.
 ghost use Rattle.std.specs.Prelude.{◌≡◌, ◌≤◌, ◌+◌, ◌∷◌, IfSome, length, map, string_bytes};
 ghost use Rattle.std.specs.Option.{option_map};
-ghost use Rattle.fac_command.specs.Command.{build_of, check_of, command_of, count_of, exec_by, exec_of, files_of, generate_by, generate_of, list_of, number_behind, number_within, on_files, on_image, plain_run_of, run_by, run_of, seed_of, steps_of};
+ghost use Rattle.fac_command.specs.Command.{build_of, check_of, command_of, count_of, exec_by, exec_of, files_of, generate_by, generate_of, list_of, number_behind, number_within, on_files, on_image, plain_run_of, request_of, run_by, run_of, seed_of, steps_of, work_of};
 ghost use Rattle.fac_command.specs.Command.{is_file_name as is_name, are_files as are_names, run as run_asked, run_stack as run_stack_asked, exec as exec_asked};
-ghost use Rattle.fac_command.specs.SeenCommands.{command_seen};
+ghost use Rattle.fac_command.specs.SeenCommands.{command_seen, request_seen};
 
 use fac_base::limits::{MOST_STEPS, MOST_STEPS_DIGITS, TICKS};
 
-/// What is told where the words of a command line meet no form. It has the commands, and `listen`, which is to come.
+/// What is told where the words of a command line meet no form.
 pub const USAGE: &str = "usage: factorc check, run, build, exec, list, listen or gen\n";
 
 /// The greatest seed that `gen` takes.
@@ -61,6 +61,15 @@ pub enum Command<'a> {
         seed: u32,
         words: u32,
     },
+}
+
+/// What a command line asks for: the listener, which takes no files, or a command.
+#[derive(Clone, Copy, Debug, PartialEq, Eq)]
+pub enum Request<'a> {
+    /// A session on the lines of the input.
+    Listen,
+    /// The work of this command.
+    Work(Command<'a>),
 }
 
 impl<'a> Command<'a> {
@@ -323,7 +332,7 @@ fn read_generate<'a>(words: &'a [String]) -> Option<Command<'a>>
     }
 }
 
-/// The command that the words ask for. None exactly where they meet no form.
+/// The command that the words ask for. None exactly where they ask for none.
 pub fn read_words<'a>(words: &'a [String]) -> Option<Command<'a>>
     ensures { option_map command_seen result ≡ command_of (map string_bytes words.now) }
 {
@@ -335,5 +344,25 @@ pub fn read_words<'a>(words: &'a [String]) -> Option<Command<'a>>
         [word, words @ ..] if word.as_str() == "list" => read_list(words),
         [word, ..] if word.as_str() == "gen" => read_generate(words),
         _ => None,
+    }
+}
+
+// What the words ask for where they don't ask for the listener.
+fn read_command<'a>(words: &'a [String]) -> Option<Request<'a>>
+    ensures { option_map request_seen result ≡ work_of (command_of (map string_bytes words.now)) }
+{
+    match read_words(words) {
+        None => None,
+        Some(command) => Some(Request::Work(command)),
+    }
+}
+
+/// What the words ask for. None exactly where they meet no form.
+pub fn read_request<'a>(words: &'a [String]) -> Option<Request<'a>>
+    ensures { option_map request_seen result ≡ request_of (map string_bytes words.now) }
+{
+    match words {
+        [word] if word.as_str() == "listen" => Some(Request::Listen),
+        _ => read_command(words),
     }
 }

@@ -3,4 +3,4 @@
 
 mod command;
 
-pub use command::{Command, USAGE, read_words};
+pub use command::{Command, Request, USAGE, read_request, read_words};

@@ -11,7 +11,7 @@ use Rattle.fac_check.specs.Verdicts.{verdict}
 use Rattle.fac_check.specs.declared.refusal.Broken.{Broken}
 use Rattle.fac_source.specs.declared.refusal.NameFault.{NameFault}
 use Rattle.fac_names.specs.Resolution.{resolved}
-use Rattle.fac_command.specs.Command.{Command}
+use Rattle.fac_command.specs.Command.{Command, Request, work}
 use Rattle.fac_command.specs.Command as command
 use Rattle.fac_tool.specs.declared.ended.Ended.{Ended}
 use Rattle.fac_tool.specs.Answer.{Sources, no_tokens_in, no_tree_in, trees, answer_on, on_resolved, on_verdict, own_definitions, come_to, accepted, limit}
@@ -123,8 +123,8 @@ module _ (law : SavedCodeRunsAsItsSource) (names : List (List ℕ)) (image : Lis
   ends_as_run (inl none) = inl none
   ends_as_run (inr e) = inr (e.loaded, does_as_run e)
 
-works_of : (o : Option Command) (c : Command) (files : FilesSeen) (seen : InputSeen) (out notes : SinkSeen) (ended : Ended) → o ≡ Some c → AnswersBy o files seen out notes ended → Works c files seen out notes ended
-works_of o c files seen out notes ended e h = subst (λ (x : Option Command). AnswersBy x files seen out notes ended) e h
+works_of : (o : Option Request) (c : Command) (files : FilesSeen) (seen : InputSeen) (out notes : SinkSeen) (ended : Ended) → o ≡ Some (work c) → AnswersBy o files seen out notes ended → Works c files seen out notes ended
+works_of o c files seen out notes ended e h = subst (λ (x : Option Request). AnswersBy x files seen out notes ended) e h
 
 -- the law
 pub exec_runs : SavedCodeRunsAsItsSource → ExecAfterBuildIsRun

@@ -4,7 +4,7 @@ use Rattle.std.specs.declared.option.Option.{Option}
 use Rattle.fac_io.specs.Faults.{Rose}
 use Rattle.fac_tool.specs.declared.ended.Ended.{Ended}
 use Rattle.fac_tool.specs.SeenObjects.{SinkSeen, FilesSeen, InputSeen}
-use Rattle.fac_command.specs.Command.{Command, files_of}
+use Rattle.fac_command.specs.Command.{Command, Request, listen, work as asked, files_of}
 use Rattle.fac_command.specs.Command as command
 use Rattle.fac_lang.specs.declared.program.Program.{Program}
 use Rattle.fac_code.specs.declared.image.Image.{Image}
@@ -15,7 +15,8 @@ use Rattle.fac_tool.specs.Loads.{LoadsEnd}
 use Rattle.fac_tool.specs.Saved.{since, Saves}
 use Rattle.fac_tool.specs.Executed.{BadImage, NoImageMemory, ExecutesBy, Executes, OnImage, DoesOnBytes, not_decoded, decoded, executed, listed, listed_answer}
 use Rattle.fac_tool.specs.Plans.{Task, SavesTask, DoesOnSources, DoesOnImage, checking, running, running_then, saving, summing_up, plan_of}
-use Rattle.fac_tool.specs.Answers.{Tells, ReachesBy, AnswersBy, TellsUsage, numbered_names}
+use Rattle.fac_tool.specs.Answers.{Tells, ReachesBy, AnswersBy, HearsSession, TellsUsage, devices_before, devices_now, notes_before, notes_now, numbered_names}
+use Rattle.fac_listen.proofs.SessionCauses.{HasCauses, session_caused}
 
 -- a status that is neither a write fault nor want of memory is the one that was reached
 pub status-Tells : (n : ℕ) (names : List (List ℕ)) (reached : Ended) (notes : SinkSeen) (ended : Ended) → n ≢ 10 → n ≢ 12 → Tells names reached notes ended → ended.status ≡ n → reached.status ≡ n
@@ -142,23 +143,34 @@ of_command c files seen out ended (inr loaded) =
     let causes = of_plan c loaded.texts (since files loaded.loaded) seen out ended loaded.does in
     record { usage = causes.usage; file = λ e. earlier files.faults_before loaded.loaded.faults files.faults_now loaded.loads.faults (causes.file e); input = causes.input; write = causes.write }
 
-pub file_cause : (c : Option Command) (files : FilesSeen) (seen : InputSeen) (out notes : SinkSeen) (ended : Ended) → AnswersBy c files seen out notes ended → ended.status ≡ 8 → Rose files.faults_before files.faults_now
+-- a session
+of_session : (seen : InputSeen) (out notes : SinkSeen) (ended : Ended) → HearsSession seen out notes ended → HasCauses (devices_before seen out) (devices_now seen out) (notes_before notes) (notes_now notes) (record { status = ended.status; ticks = ended.ticks; refusal = ended.refusal })
+of_session seen out notes ended h =
+    let causes = session_caused h.listens.input h.listens.left (devices_before seen out) (devices_now seen out) (notes_before notes) (notes_now notes) h.heard h.listens.holds in
+    let same : h.heard.status ≡ ended.status = sym (ap (λ (x : Ended). x.status) h.same) in
+    record { usage = λ e. causes.usage (same ∙ e); file = λ e. causes.file (same ∙ e); input = λ e. causes.input (same ∙ e); write = λ e. causes.write (same ∙ e) }
+
+pub file_cause : (c : Option Request) (files : FilesSeen) (seen : InputSeen) (out notes : SinkSeen) (ended : Ended) → AnswersBy c files seen out notes ended → ended.status ≡ 8 → Rose files.faults_before files.faults_now
 file_cause None files seen out notes ended h e = elim (of_usage notes ended h.1) [ inl r ↦ absurd (omega (arith, r, e)) | inr r ↦ absurd (omega (arith, r.0, e)) ]
-file_cause (Some c) files seen out notes ended h e =
+file_cause (Some listen) files seen out notes ended h e = absurd ((of_session seen out notes ended h.1).file e)
+file_cause (Some (asked c)) files seen out notes ended h e =
     (of_command c files seen out h.0 h.1.ending).file (status-Tells 8 (numbered_names (files_of c)) h.0 notes ended (omega arith) (omega arith) h.2 e)
 
-pub input_cause : (c : Option Command) (files : FilesSeen) (seen : InputSeen) (out notes : SinkSeen) (ended : Ended) → AnswersBy c files seen out notes ended → ended.status ≡ 9 → Rose seen.faults_before seen.faults_now
+pub input_cause : (c : Option Request) (files : FilesSeen) (seen : InputSeen) (out notes : SinkSeen) (ended : Ended) → AnswersBy c files seen out notes ended → ended.status ≡ 9 → Rose seen.faults_before seen.faults_now
 input_cause None files seen out notes ended h e = elim (of_usage notes ended h.1) [ inl r ↦ absurd (omega (arith, r, e)) | inr r ↦ absurd (omega (arith, r.0, e)) ]
-input_cause (Some c) files seen out notes ended h e =
+input_cause (Some listen) files seen out notes ended h e = (of_session seen out notes ended h.1).input e
+input_cause (Some (asked c)) files seen out notes ended h e =
     (of_command c files seen out h.0 h.1.ending).input (status-Tells 9 (numbered_names (files_of c)) h.0 notes ended (omega arith) (omega arith) h.2 e)
 
 pub write_cause :
-    (c : Option Command) (files : FilesSeen) (seen : InputSeen) (out notes : SinkSeen) (ended : Ended) → AnswersBy c files seen out notes ended → ended.status ≡ 10 → Rose out.faults_before out.faults_now ⊎ Rose notes.faults_before notes.faults_now
+    (c : Option Request) (files : FilesSeen) (seen : InputSeen) (out notes : SinkSeen) (ended : Ended) → AnswersBy c files seen out notes ended → ended.status ≡ 10 → Rose out.faults_before out.faults_now ⊎ Rose notes.faults_before notes.faults_now
 write_cause None files seen out notes ended h e = elim (of_usage notes ended h.1) [ inl r ↦ absurd (omega (arith, r, e)) | inr r ↦ inr r.1 ]
-write_cause (Some c) files seen out notes ended h e =
+write_cause (Some listen) files seen out notes ended h e = (of_session seen out notes ended h.1).write e
+write_cause (Some (asked c)) files seen out notes ended h e =
     elim (ten_of (numbered_names (files_of c)) h.0 notes ended h.2 e) [ inl r ↦ inl ((of_command c files seen out h.0 h.1.ending).write r) | inr r ↦ inr r ]
 
-pub usage_cause : (c : Option Command) (files : FilesSeen) (seen : InputSeen) (out notes : SinkSeen) (ended : Ended) → AnswersBy c files seen out notes ended → ended.status ≡ 2 → c ≡ None
+pub usage_cause : (c : Option Request) (files : FilesSeen) (seen : InputSeen) (out notes : SinkSeen) (ended : Ended) → AnswersBy c files seen out notes ended → ended.status ≡ 2 → c ≡ None
 usage_cause None files seen out notes ended h e = refl
-usage_cause (Some c) files seen out notes ended h e =
+usage_cause (Some listen) files seen out notes ended h e = absurd ((of_session seen out notes ended h.1).usage e)
+usage_cause (Some (asked c)) files seen out notes ended h e =
     absurd ((of_command c files seen out h.0 h.1.ending).usage (status-Tells 2 (numbered_names (files_of c)) h.0 notes ended (omega arith) (omega arith) h.2 e))

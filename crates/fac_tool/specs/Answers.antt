@@ -5,14 +5,18 @@ use Rattle.fac_io.specs.Faults.{Rose}
 use Rattle.fac_io.specs.Told.{Stays, TookNothing, TookWhole, TookFront}
 use Rattle.fac_lines.specs.Channels.{StaysUnless}
 use Rattle.fac_notes.specs.declared.status.TheConstants.{NO_COMMAND, INPUT_FAULT, WRITE_FAULT, NO_MEMORY}
-use Rattle.fac_command.specs.Command.{Command, command_of, files_of}
+use Rattle.fac_command.specs.Command.{Command, Request, listen, work, request_of, files_of}
 use Rattle.fac_tool.specs.declared.ended.Ended.{Ended}
 use Rattle.fac_tool.specs.ToldNotes.{note_of, memory_note, usage_note}
-use Rattle.fac_tool.specs.SeenObjects.{SinkSeen, FilesSeen, InputSeen, IsUnread}
+use Rattle.fac_tool.specs.SeenObjects.{SinkSeen, FilesSeen, InputSeen, OnInput, IsUnread}
 use Rattle.fac_tool.specs.Loads.{LoadsGive, LoadsEnd}
 use Rattle.fac_tool.specs.Ends.{IsBare}
 use Rattle.fac_tool.specs.Saved.{FilesTold, until, since}
-use Rattle.fac_tool.specs.Plans.{Plan, plan_of}
+use Rattle.fac_listen.specs.Devices.{DevicesTold}
+use Rattle.fac_listen.specs.SessionNotes.{NotesTold}
+use Rattle.fac_listen.specs.Listens.{ListensOn}
+use Rattle.fac_listen.specs.declared.heard.Heard.{Heard}
+use Rattle.fac_tool.specs.Plans.{Plan, AreKept, plan_of}
 
 -- the loads gave no texts, and that ended the call, with nothing read and nothing written
 pub record NoTexts (names : List (List ℕ)) (limit : ℕ) (files : FilesSeen) (seen : InputSeen) (out : SinkSeen) (ended : Ended) : Type 0 where
@@ -106,10 +110,34 @@ numbered_names names = codes "prelude" ∷ names
 abbrev pub Works : Command → FilesSeen → InputSeen → SinkSeen → SinkSeen → Ended → Type 0
 Works command files seen out notes ended = (reached : Ended) × Reaches command files seen out reached × Tells (numbered_names (files_of command)) reached notes ended
 
-abbrev pub AnswersBy : Option Command → FilesSeen → InputSeen → SinkSeen → SinkSeen → Ended → Type 0
+-- the ending of a session of the listener
+abbrev pub heard_ending : Heard → Ended
+heard_ending heard = record { status = heard.status; ticks = heard.ticks; stack = None; refusal = heard.refusal }
+
+-- what is told of the output, with the counts of faults, before and now, and of the notes
+abbrev pub devices_before : InputSeen → SinkSeen → DevicesTold
+devices_before seen out = record { output = out.before; input_faults = seen.faults_before; output_faults = out.faults_before }
+
+abbrev pub devices_now : InputSeen → SinkSeen → DevicesTold
+devices_now seen out = record { output = out.now; input_faults = seen.faults_now; output_faults = out.faults_now }
+
+abbrev pub notes_before : SinkSeen → NotesTold
+notes_before notes = record { sink = notes.before; faults = notes.faults_before }
+
+abbrev pub notes_now : SinkSeen → NotesTold
+notes_now notes = record { sink = notes.now; faults = notes.faults_now }
+
+-- a session of the listener ended so
+pub record HearsSession (seen : InputSeen) (out notes : SinkSeen) (ended : Ended) : Type 0 where
+  pub heard : Heard
+  pub same : ended ≡ heard_ending heard
+  pub listens : OnInput seen (λ input left. ListensOn input left (devices_before seen out) (devices_now seen out) (notes_before notes) (notes_now notes) heard)
+
+abbrev pub AnswersBy : Option Request → FilesSeen → InputSeen → SinkSeen → SinkSeen → Ended → Type 0
 AnswersBy None files seen out notes ended = IsIdle files seen out × TellsUsage notes ended
-AnswersBy (Some command) files seen out notes ended = Works command files seen out notes ended
+AnswersBy (Some listen) files seen out notes ended = AreKept files × HearsSession seen out notes ended
+AnswersBy (Some (work command)) files seen out notes ended = Works command files seen out notes ended
 
 -- what the tool does on a command line
 abbrev pub Answers : List (List ℕ) → FilesSeen → InputSeen → SinkSeen → SinkSeen → Ended → Type 0
-Answers words files seen out notes ended = AnswersBy (command_of words) files seen out notes ended
+Answers words files seen out notes ended = AnswersBy (request_of words) files seen out notes ended

@@ -4,7 +4,7 @@ use Rattle.fac_base.specs.declared.limits.TheConstants.{MOST_IMAGE_BYTES}
 use Rattle.fac_io.specs.Names.{Held}
 use Rattle.fac_lang.specs.declared.program.Program.{Program}
 use Rattle.fac_check.specs.Promises.{IsSafe}
-use Rattle.fac_command.specs.Command.{command_of}
+use Rattle.fac_command.specs.Command.{request_of, work}
 use Rattle.fac_command.specs.Command as command
 use Rattle.fac_notes.specs.declared.status.TheConstants.{SUCCESS}
 use Rattle.fac_tool.specs.declared.ended.Ended.{Ended}
@@ -40,5 +40,5 @@ pub record AnswersAsRun (names : List (List ℕ)) (image : List ℕ) (budget : �
 abbrev pub ExecAfterBuildIsRun : Type 0
 ExecAfterBuildIsRun =
     (names : List (List ℕ)) (image : List ℕ) (budget : ℕ) (first second : List (List ℕ)) (built files : FilesSeen) (unread seen : InputSeen) (unwritten first_notes out notes : SinkSeen) (saved ended : Ended) (old held : Held) →
-    command_of first ≡ Some (command.build names image) → command_of second ≡ Some (command.exec budget image) → built.held_before ≡ Some old → built.held_now ≡ Some held → files.held_before ≡ Some held →
+    request_of first ≡ Some (work (command.build names image)) → request_of second ≡ Some (work (command.exec budget image)) → built.held_before ≡ Some old → built.held_now ≡ Some held → files.held_before ≡ Some held →
     Answers first built unread unwritten first_notes saved → saved.status ≡ SUCCESS → Answers second files seen out notes ended → AnswersAsRun names image budget built files seen out notes ended

@@ -1,8 +1,10 @@
 //! How a call ends.
 ghost use Rattle.std.specs.Prelude.{◌≡◌};
+ghost use Rattle.fac_tool.specs.Answers.{heard_ending};
 ghost use Rattle.fac_tool.specs.inner.StepEnds.{bare as bare_ending, reported as reported_ending};
 
 use fac_base::{List, Text};
+use fac_listen::Heard;
 use fac_notes::Report;
 
 /// A call's exit status, the ticks of its run, the stack that it left and the refusal.
@@ -37,5 +39,17 @@ pub fn reported(ticks: u64, report: Report) -> Ended
         ticks,
         stack: None,
         refusal: Some(report),
+    }
+}
+
+/// The ending of a session of the listener, which tells no stack.
+pub fn ended_of(heard: Heard) -> Ended
+    ensures { result ≡ heard_ending heard }
+{
+    Ended {
+        status: heard.status,
+        ticks: heard.ticks,
+        stack: None,
+        refusal: heard.refusal,
     }
 }

@@ -20,7 +20,7 @@ mod value_texts;
 mod work;
 
 pub use ended::Ended;
-pub use fac_command::{Command, read_words};
+pub use fac_command::{Command, Request, read_request, read_words};
 pub use fac_notes::{ByteFault, Report};
 pub use laws::{
     every_text_is_a_source, exec_after_build_is_run, one_source, saved_code_runs_as_its_source,

@@ -1,0 +1,11 @@
+pub mod RunInputs
+pub mod LineInputs
+pub mod FrontLemmas
+pub mod NoteLemmas
+pub mod EmptyTexts
+pub mod WaitingTexts
+pub mod PreludeLemmas
+pub mod ToldReplies
+pub mod ReplyLemmas
+pub mod HearLemmas
+pub mod SessionCauses

@@ -1,0 +1,5 @@
+pub mod Devices
+pub mod Fronts
+pub mod SessionNotes
+pub mod Listens
+pub mod inner

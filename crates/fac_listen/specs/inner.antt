@@ -1,0 +1,4 @@
+-- What only the contracts of inner functions cite.
+pub mod Hearings
+pub mod NextLines
+pub mod Endings

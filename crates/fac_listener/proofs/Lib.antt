@@ -1,0 +1,12 @@
+pub mod TextLemmas
+pub mod StepTicks
+pub mod RunTicks
+pub mod RunLemmas
+pub mod ToldLemmas
+pub mod StopLemmas
+pub mod PhraseLemmas
+pub mod AnsweredLemmas
+pub mod GoOnLemmas
+pub mod SessionLemmas
+pub mod FirstLemmas
+pub mod StepLemmas

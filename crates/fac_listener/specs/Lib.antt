@@ -1,0 +1,6 @@
+pub mod MachineTexts
+pub mod StackTexts
+pub mod StandingSessions
+pub mod CutRuns
+pub mod Replies
+pub mod inner

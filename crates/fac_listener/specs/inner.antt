@@ -1,0 +1,4 @@
+-- What only the contracts of inner functions cite.
+pub mod PhraseRuns
+pub mod SessionSteps
+pub mod SessionLaws
