@@ -1,9 +1,9 @@
 #!/usr/bin/env python3
-"""Compares the cases of bench/explanations.txt with a model of explanations.
+"""Compares the cases of crates/fac_explain_cases with a model of explanations.
 
     python3 bench/explanations.py [FILE] [--answers]
 
-FILE has the cases with their answers, by default bench/explanations.txt. The answers are written by hand, and the model stands on the model of the
+FILE has the cases with their answers, by default crates/fac_explain_cases/stdout. The answers are written by hand, and the model stands on the model of the
 language in bench/model.py, which tells the note: here the token of a note is looked for in the source, and its line is drawn. Where the two differ one
 of them is wrong. Each such case is told, and the script ends with status 1 then. With --answers the cases of FILE come with what the model answers.
 """
@@ -15,7 +15,7 @@ import sys
 
 import model
 
-DEFAULT = pathlib.Path(__file__).resolve().parent / "explanations.txt"
+DEFAULT = pathlib.Path(__file__).resolve().parent.parent / "crates" / "fac_explain_cases" / "stdout"
 
 ANSWERS = ("  status ", "  |", "  notes ")
 VOCABULARIES = "accessors arrays combinators fry io kernel locals math math.parser prettyprint sequences strings syntax words".split()
