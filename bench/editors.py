@@ -8,7 +8,8 @@ The reserved tokens are those of docs/LANGUAGE.md, and the words those of the ta
 The check says where a written file isn't what would be written. It reads each program of examples/ and each file of lib/ by the patterns of the
 grammar for VS Code, and each token has to get the scope that the rules of tokens give it; where `vim` is installed, it asks that for the groups of one
 program too. The commands and options of man/factorc.1, of the completions and of the sections of README.md and docs/LANGUAGE.md have to be those that
-crates/fac_command reads, and bash has to complete words to them.
+crates/fac_command reads, and bash has to complete words to them. The problem matcher for VS Code and the compiler file for Vim have to find the place in what
+`factorc_explain` writes.
 """
 
 import json
@@ -23,6 +24,8 @@ import words
 
 ROOT = pathlib.Path(__file__).resolve().parent.parent
 VIM = "editors/vim/syntax/factorc.vim"
+PACKAGE = "editors/vscode/package.json"
+EXPLAINED = "a.factor:2:7: check: top-level, a.factor token 7: underflow, needs 2, has 1\n    1 2 + +\n          ^\n+ needs 2 values, and finds 1 value.\n"
 VSCODE = "editors/vscode/syntaxes/factorc.tmLanguage.json"
 PAGES = ["man/factorc.1", "editors/shell/factorc.bash", "editors/shell/_factorc", "README.md", "docs/LANGUAGE.md"]
 COMMANDS = "crates/fac_command/src/command.rt"
@@ -269,6 +272,26 @@ def untold():
     return faults
 
 
+def unmatched():
+    """What editors find wrongly in what `factorc_explain` writes."""
+    pattern = json.loads((ROOT / PACKAGE).read_text(encoding="utf-8"))["contributes"]["problemMatchers"][0]["pattern"]
+    found = [match for line in EXPLAINED.split("\n") if (match := re.match(pattern["regexp"], line))]
+    told = [tuple(match[pattern[part]] for part in ("file", "line", "column")) for match in found]
+    faults = [] if told == [("a.factor", "2", "7")] else [f"{PACKAGE}: the pattern finds {told}"]
+    if not shutil.which("vim"):
+        return faults
+    with tempfile.TemporaryDirectory() as folder:
+        pathlib.Path(folder, "errors").write_text(EXPLAINED, encoding="utf-8")
+        asked = "map(getqflist(), 'bufname(v:val.bufnr) .. \":\" .. v:val.lnum .. \":\" .. v:val.col')"
+        script = f"compiler! factorc\ncgetfile errors\ncall writefile({asked}, 'told')\nqa!\n"
+        pathlib.Path(folder, "ask.vim").write_text(f"set runtimepath^={ROOT}/editors/vim\n{script}", encoding="utf-8")
+        asking = ["vim", "-u", "NONE", "-N", "-es", "-S", "ask.vim"]
+        subprocess.run(asking, cwd=folder, stdin=subprocess.DEVNULL, capture_output=True, timeout=60, check=False)
+        told = pathlib.Path(folder, "told")
+        got = told.read_text(encoding="utf-8").split() if told.exists() else []
+    return faults + ([] if got == ["a.factor:2:7"] else [f"editors/vim/compiler/factorc.vim: vim finds {got}"])
+
+
 BASH = 'source "$0"; COMP_WORDS=(factorc "$@"); COMP_CWORD=$#; _factorc; echo "${COMPREPLY[@]}"'
 
 
@@ -300,7 +323,7 @@ def main():
     for path in sources:
         if path.name != "unicode.factor":
             faults += misread(str(path.relative_to(ROOT)), groups, known)
-    faults += misread_by_vim() + untold() + uncompleted()
+    faults += misread_by_vim() + untold() + uncompleted() + unmatched()
     print(*faults[:40], f"{len(sources)} sources read, and {len(faults)} faults found", sep="\n")
     return 1 if faults else 0
 
