@@ -7,9 +7,9 @@ use Rattle.fac_explain.specs.declared.nearness.TheConstants.{FEWEST}
 
 -- how many bytes two texts begin with alike
 abbrev pub alike : List ℕ → List ℕ → ℕ
-alike [] others = 0
-alike (a ∷ as) [] = 0
-alike (a ∷ as) (b ∷ bs) = (if a == b then suc (alike as bs) else 0)
+alike [] right = 0
+alike (a ∷ left) [] = 0
+alike (a ∷ left) (b ∷ right) = (if a == b then suc (alike left right) else 0)
 
 -- whether two neighbours are exchanged, and the rest is the same
 abbrev pub exchanged : ℕ → List ℕ → ℕ → List ℕ → Bool

@@ -99,11 +99,7 @@ fn push_primitives(
 }
 
 // Puts those of core words behind others.
-fn push_core_words(
-    alloc: Global,
-    names: &mut List<Bytes>,
-    rows: &[CoreRow],
-) -> Result<(), Memory>
+fn push_core_words(alloc: Global, names: &mut List<Bytes>, rows: &[CoreRow]) -> Result<(), Memory>
     ensures { OnOk result (names.new ≡ names.old ++ core_names (map written_core rows.now)) }
 {
     for row in rows {
@@ -113,11 +109,7 @@ fn push_core_words(
 }
 
 // Puts those of classes behind others.
-fn push_classes(
-    alloc: Global,
-    names: &mut List<Bytes>,
-    rows: &[ClassRow],
-) -> Result<(), Memory>
+fn push_classes(alloc: Global, names: &mut List<Bytes>, rows: &[ClassRow]) -> Result<(), Memory>
     ensures { OnOk result (names.new ≡ names.old ++ class_names (map written_class rows.now)) }
 {
     for row in rows {

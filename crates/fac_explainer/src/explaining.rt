@@ -93,14 +93,7 @@ fn explained<R: Threads + Sync, G: Gate + Sync>(
     let place = place_of(workers.alloc, text, report)?;
     let help = help_of(workers, given, report)?;
     let names = file_names(workers.alloc, files)?;
-    explained_at(
-        workers.alloc,
-        &names,
-        text,
-        report,
-        &place,
-        help.as_slice(),
-    )
+    explained_at(workers.alloc, &names, text, report, &place, help.as_slice())
 }
 
 /// What is written where files have this refusal, or none.

@@ -39,11 +39,7 @@ fn names_of(alloc: Global, given: &List<(Text, Bytes)>) -> Result<List<Bytes>, M
 }
 
 // Which of them was meant.
-fn meant(
-    alloc: Global,
-    given: &List<(Text, Bytes)>,
-    name: &Text,
-) -> Result<Bytes, Memory>
+fn meant(alloc: Global, given: &List<(Text, Bytes)>, name: &Text) -> Result<Bytes, Memory>
     ensures { IfOk result (Means (map (λ pair. pair.1) given.now) name.now) }
 {
     let names = names_of(alloc, given)?;
