@@ -15,14 +15,14 @@ alike (a ∷ left) (b ∷ right) = (if a == b then suc (alike left right) else 0
 abbrev pub exchanged : ℕ → List ℕ → ℕ → List ℕ → Bool
 exchanged a [] b others = false
 exchanged a (c ∷ rest) b [] = false
-exchanged a (c ∷ rest) b (d ∷ others) = a == d && (c == b && bytes_eq rest others)
+exchanged a (c ∷ rest) b (d ∷ others) = a == d && c == b && bytes_eq rest others
 
 -- whether two texts that differ at their first byte are one text but for one edit there: another byte, one byte less, one more, or two exchanged
 abbrev pub edited : List ℕ → List ℕ → Bool
 edited [] [] = false
 edited [] (b ∷ others) = length others == 0
 edited (a ∷ rest) [] = length rest == 0
-edited (a ∷ rest) (b ∷ others) = bytes_eq rest others || (bytes_eq (a ∷ rest) others || (bytes_eq rest (b ∷ others) || exchanged a rest b others))
+edited (a ∷ rest) (b ∷ others) = bytes_eq rest others || bytes_eq (a ∷ rest) others || bytes_eq rest (b ∷ others) || exchanged a rest b others
 
 -- whether one text comes from another one by one edit
 abbrev pub one_edit : List ℕ → List ℕ → Bool

@@ -17,14 +17,14 @@ fn is_like_image(text: &[u8]) -> bool
 fn has_mark(text: &[u8]) -> bool
     ensures { result ≡ may_have_mark text.now }
 {
-    front(text, 3) == [239, 187, 191].as_slice()
+    front(text, 3) == [239u8, 187, 191].as_slice()
 }
 
 // Whether a text begins with one of UTF-16.
 fn is_like_utf16(text: &[u8]) -> bool
     ensures { result ≡ may_be_utf16 text.now }
 {
-    front(text, 2) == [255, 254].as_slice() || front(text, 2) == [254, 255].as_slice()
+    front(text, 2) == [255u8, 254].as_slice() || front(text, 2) == [254u8, 255].as_slice()
 }
 
 /// Adds what is to be told of a file that begins as no source should.

@@ -77,6 +77,7 @@ fn push_behind(
 }
 
 /// Puts the names that a text defines behind others.
+#[tactic(auto, using(crate::proofs::NameLemmas::adds_defined))]
 pub fn push_defined(alloc: Global, names: &mut List<Bytes>, text: &[u8]) -> Result<(), Memory>
     ensures { OnOk result (AddsDefined text.now names.old names.new) }
 {

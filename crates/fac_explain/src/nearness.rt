@@ -11,6 +11,7 @@ use fac_base::Bytes;
 pub const FEWEST: usize = 3;
 
 // How many bytes two texts begin with alike.
+#[tactic(auto, using(crate::proofs::NearLemmas::alike_ends, crate::proofs::NearLemmas::alike_differs, crate::proofs::NearLemmas::alike_same))]
 fn alike(text: &[u8], other: &[u8]) -> usize
     ensures is { result ≡ alike_of text.now other.now }
     ensures most { result ≤ length text.now }

@@ -30,8 +30,9 @@ pub struct Case {
     held: List<(Text, Bytes)>,
     name: Text,
     source: Bytes,
-    output: List<(u64, u64)>,
-    note: List<(u64, u64)>,
+    // The number of the write that fails, and after how many bytes; no write has the number 0.
+    output: (u64, u64),
+    note: (u64, u64),
 }
 
 // The words of a text, with a space between two.
@@ -43,16 +44,24 @@ fn split(alloc: Global, text: &str) -> Result<Vec<String>, Memory> {
     Ok(words)
 }
 
-// Puts a pair of numbers behind others. False where the text isn't two numbers.
-fn push_pair(pairs: &mut List<(u64, u64)>, text: &str) -> Result<bool, Memory> {
-    let Some((first, second)) = text.split_once(' ') else {
-        return Ok(false);
-    };
+// Two numbers. None where the text isn't that.
+fn pair_of(text: &str) -> Option<(u64, u64)> {
+    let (first, second) = text.split_once(' ')?;
     let (Ok(first), Ok(second)) = (first.parse::<u64>(), second.parse::<u64>()) else {
-        return Ok(false);
+        return None;
     };
-    pairs.push((first, second))?;
-    Ok(true)
+    Some((first, second))
+}
+
+// Sets a pair of numbers. False where the text isn't that.
+fn set_pair(pair: &mut (u64, u64), text: &str) -> bool {
+    match pair_of(text) {
+        Some(found) => {
+            *pair = found;
+            true
+        }
+        None => false,
+    }
 }
 
 // Puts bytes behind others. False where the text isn't numbers of bytes.
@@ -91,10 +100,19 @@ fn tell_lines(told: &mut Text, mark: &str, bytes: &[u8]) -> Result<(), Memory> {
     Ok(())
 }
 
-// Tells a status.
-fn tell_status(alloc: Global, told: &mut Text, status: u8) -> Result<(), Memory> {
-    let line = format!(in alloc; "  status {status}\n")?;
-    told.push_str(line.as_str())
+// Tells what a call came to.
+fn tell(alloc: Global, status: u8, output: &[u8], note: &[u8]) -> Result<Text, Memory> {
+    let mut told = Text::from_string(format!(in alloc; "  status {status}\n")?);
+    tell_lines(&mut told, "  | ", output)?;
+    tell_lines(&mut told, "  notes ", note)?;
+    Ok(told)
+}
+
+// An output of which one write fails.
+fn sink(alloc: Global, fault: (u64, u64)) -> Result<MemSink, Memory> {
+    let mut faults = List::new(alloc);
+    faults.push(fault)?;
+    MemSink::new(alloc, ROOM, faults)
 }
 
 impl Case {
@@ -105,8 +123,8 @@ impl Case {
             held: List::new(alloc),
             name: Text::from_str(alloc, "a")?,
             source: Bytes::new(alloc),
-            output: List::new(alloc),
-            note: List::new(alloc),
+            output: (0, 0),
+            note: (0, 0),
         })
     }
 
@@ -141,8 +159,8 @@ impl Case {
                 self.words = split(alloc, text)?;
                 Ok(true)
             }
-            "output" => push_pair(&mut self.output, text),
-            "note" => push_pair(&mut self.note, text),
+            "output" => Ok(set_pair(&mut self.output, text)),
+            "note" => Ok(set_pair(&mut self.note, text)),
             _ => Ok(false),
         }
     }
@@ -162,22 +180,14 @@ impl Case {
         Ok(MemFiles::new(alloc, held, List::new(alloc)))
     }
 
-    // The output and the notes.
-    fn sinks(&mut self, alloc: Global) -> Result<(MemSink, MemSink), Memory> {
-        let output = mem::replace(&mut self.output, List::new(alloc));
-        let note = mem::replace(&mut self.note, List::new(alloc));
-        let output = MemSink::new(alloc, ROOM, output)?;
-        Ok((output, MemSink::new(alloc, ROOM, note)?))
-    }
-
     /// What the case comes to. Its sources are taken.
     pub fn told<R: Threads + Sync>(
         &mut self,
         workers: &Workers<'_, R, NoGate>,
     ) -> Result<Text, Memory> {
-        let alloc = workers.alloc;
-        let mut files = self.files(alloc)?;
-        let (mut output, mut note) = self.sinks(alloc)?;
+        let mut files = self.files(workers.alloc)?;
+        let mut output = sink(workers.alloc, self.output)?;
+        let mut note = sink(workers.alloc, self.note)?;
         let ended = explain_top(
             workers,
             self.words.as_slice(),
@@ -185,10 +195,6 @@ impl Case {
             &mut output,
             &mut note,
         );
-        let mut told = Text::new(alloc);
-        tell_status(alloc, &mut told, ended.status)?;
-        tell_lines(&mut told, "  | ", output.taken())?;
-        tell_lines(&mut told, "  notes ", note.taken())?;
-        Ok(told)
+        tell(workers.alloc, ended.status, output.taken(), note.taken())
     }
 }

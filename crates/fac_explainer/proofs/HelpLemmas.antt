@@ -1,9 +1,13 @@
 -- The names that texts define, text by text.
-use Rattle.std.proofs.Common.{◌≡◌, ◌<◌, ◌≤◌, ℕ, zero, suc, ◌+◌, List, [], ◌∷◌, ◌++◌, false, length, map, drop, drop-cons, get_or, refl, sym, subst, ap, ◌∙◌, arith, append_assoc}
+use Rattle.std.proofs.Common.{◌≡◌, ◌<◌, ◌≤◌, ℕ, zero, suc, ◌+◌, List, [], ◌∷◌, ◌++◌, false, Result, Ok, Err, OnOk, IfOk, length, map, drop, drop-cons, get_or, refl, sym, subst, ap, ◌∙◌, arith, append_assoc}
+use Rattle.std.specs.declared.option.Option.{Option}
 use Rattle.std.proofs.lemmas.List.{append-nil}
 use Rattle.fac_prelude.specs.PreludeText.{prelude_text}
 use Rattle.fac_explain.specs.Names.{AreDefined, none, more, AddsDefined, names_behind, language_names}
-use Rattle.fac_explainer.specs.Help.{AreNames}
+use Rattle.fac_explain.specs.Nearness.{closest}
+use Rattle.fac_explain.specs.Sentences.{meant}
+use Rattle.fac_explainer.specs.Homes.{HasHomes}
+use Rattle.fac_explainer.specs.Help.{AreNames, Means, HelpsBy, HelpsFind}
 use Rattle.fac_explainer.specs.inner.Steps.{AddsAll}
 use Rattle.fac_explainer.proofs.HomeLemmas.{none_left}
 
@@ -31,8 +35,21 @@ all_texts f texts i names now past so_far =
     let last = so_far [] (subst (λ (ts : List _). AreDefined (map f ts) []) (sym (none_left texts i past)) none) in subst (λ (ns : List (List ℕ)). AddsAll (map f texts) names ns) (append-nil now) last
 
 -- those of the language, then those of the prelude, then those of texts
-pub all_names : (texts first second last : List (List ℕ)) → first ≡ language_names → AddsDefined prelude_text first second → AddsAll texts second last → AreNames texts last
-all_names texts first second last e adds all =
-    let own = names_behind prelude_text false adds.spots in
+pub all_names : (texts first second last : List (List ℕ)) (text : List ℕ) → first ≡ language_names → text ≡ prelude_text → AddsDefined text first second → AddsAll texts second last → AreNames texts last
+all_names texts first second last text e same adds all =
+    let own = names_behind text false adds.spots in
     let is : last ≡ language_names ++ (own ++ all.0) = all.2 ∙ ap (λ (ns : List (List ℕ)). ns ++ all.0) (adds.is ∙ ap (λ (ns : List (List ℕ)). ns ++ own) e) ∙ append_assoc language_names own all.0 in
-    (own ++ all.0, more prelude_text texts all.0 adds.spots adds.are all.1, is)
+    let defined : AreDefined (text ∷ texts) (own ++ all.0) = more text texts all.0 adds.spots adds.are all.1 in
+    (own ++ all.0, subst (λ (t : List ℕ). AreDefined (t ∷ texts) (own ++ all.0)) same defined, is)
+
+-- which of them was meant
+pub means :
+    {A E : Type 0} (r : Result A E) (texts names : List (List ℕ)) (name before out : List ℕ) (near : Option (List ℕ)) → AreNames texts names → near ≡ closest name names → before ≡ [] → OnOk r (out ≡ before ++ meant name near) →
+    OnOk r (Means texts name out)
+means (Ok x) texts names name before out near are e none is = (names, are, is ∙ ap (λ (xs : List ℕ). xs ++ meant name near) none ∙ ap (meant name) e)
+means (Err x) texts names name before out near are e none is = tt
+
+-- with the vocabularies that hold a word of the name
+pub finds : {E : Type 0} (r : Result (List ℕ) E) (texts homes : List (List ℕ)) (name : List ℕ) → HasHomes name homes → IfOk r (HelpsBy texts name homes) → IfOk r (HelpsFind texts name)
+finds (Ok out) texts homes name has helps = (homes, has, helps)
+finds (Err x) texts homes name has helps = tt

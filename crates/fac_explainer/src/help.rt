@@ -39,6 +39,7 @@ fn names_of(alloc: Global, given: &List<(Text, Bytes)>) -> Result<List<Bytes>, M
 }
 
 // Which of them was meant.
+#[tactic(auto, using(crate::proofs::HelpLemmas::means))]
 fn meant(alloc: Global, given: &List<(Text, Bytes)>, name: &Text) -> Result<Bytes, Memory>
     ensures { IfOk result (Means (map (λ pair. pair.1) given.now) name.now) }
 {
@@ -69,6 +70,7 @@ fn help_by(
 }
 
 // What helps with a name that isn't found.
+#[tactic(auto, using(crate::proofs::HelpLemmas::finds))]
 fn help_to_find<R: Threads + Sync, G: Gate + Sync>(
     workers: &Workers<'_, R, G>,
     given: &List<(Text, Bytes)>,
