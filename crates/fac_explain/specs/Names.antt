@@ -2,7 +2,6 @@
 use Rattle.std.specs.Prelude.{◌≡◌, ℕ, List, [], ◌∷◌, ◌++◌, map, Bool, true, false}
 use Rattle.std.specs.List.{list_any}
 use Rattle.std.specs.Str.{bytes_eq}
-use denote.Bor.{Bor}
 use Rattle.fac_lang.specs.Primitives.{RowSeen, rows_seen}
 use Rattle.fac_lang.specs.CoreWords.{WrittenCore, built_core_words}
 use Rattle.fac_lang.specs.BuiltInClasses.{BuiltInClass, built_in_classes}
@@ -26,12 +25,12 @@ unfoldable pub language_names : List (List ℕ)
 language_names = primitive_names rows_seen ++ (core_names built_core_words ++ class_names built_in_classes)
 
 -- whether a token is one of these
-abbrev pub is_token : List ℕ → List (Bor (List ℕ)) → Bool
-is_token token words = list_any (λ word. bytes_eq token word.now) words
+abbrev pub is_token : List ℕ → List (List ℕ) → Bool
+is_token token words = list_any (bytes_eq token) words
 
 -- whether a name is defined behind a token
 abbrev pub is_defining : List ℕ → Bool
-is_defining token = is_token token DEFINING
+is_defining token = is_token token (map (λ word. word.now) DEFINING)
 
 -- a token, where it is a name
 abbrev pub name_if : Bool → List ℕ → List (List ℕ)

@@ -71,7 +71,7 @@ fn push_meant_sentence(out: &mut Bytes, is_same: bool, near: &[u8]) -> Result<()
 
 /// Adds which name was meant by one that isn't found, where that is known.
 pub fn push_meant(out: &mut Bytes, name: &[u8], near: Option<&[u8]>) -> Result<(), Memory>
-    ensures { OnOk result (out.new ≡ out.old ++ meant name.now (option_copied near)) }
+    ensures { OnOk result (out.new ≡ out.old ++ meant name.now (option_copied near.entry)) }
 {
     match near {
         None => Ok(()),

@@ -1,5 +1,5 @@
 //! The names that there are: those of the language's own words and classes, and those that sources define.
-ghost use Rattle.std.specs.Prelude.{◌≡◌, ◌++◌, ◌∷◌, [], map, IfOk, OnOk};
+ghost use Rattle.std.specs.Prelude.{◌≡◌, ◌++◌, ◌∷◌, [], map, false, IfOk, OnOk};
 ghost use Rattle.fac_lang.specs.BuiltInClasses.{built_in_classes as classes_built, written_class};
 ghost use Rattle.fac_lang.specs.CoreWords.{built_core_words, written_core};
 ghost use Rattle.fac_lang.specs.Primitives.{row_seen, rows_seen};
@@ -18,7 +18,7 @@ pub static DEFINING: [&str; 10] = [":", "::", "CONSTANT:", "SYMBOL:", "DEFER:", 
 
 // Whether a token is one of these.
 fn is_token(token: &[u8], words: &[&str]) -> bool
-    ensures { result ≡ may_be_token token.now words.now }
+    ensures { result ≡ may_be_token token.now (map (λ word. word.now) words.now) }
 {
     for word in words {
         if token == word.as_bytes() {

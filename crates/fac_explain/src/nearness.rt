@@ -125,7 +125,7 @@ fn is_among(names: &[Bytes], name: &[u8]) -> bool
 
 // The name that is near, where there is one and no other.
 fn alone<'a>(names: &[Bytes], name: &[u8], near: Option<&'a [u8]>) -> Option<&'a [u8]>
-    ensures { option_copied result ≡ alone_of name.now names.now (option_copied near) }
+    ensures { option_copied result ≡ alone_of name.now names.now (option_copied near.entry) }
 {
     match near {
         None => None,
