@@ -143,14 +143,21 @@ abbrev pub cure : List ℕ → List (List ℕ) → List ℕ
 cure vocab [] = around (codes ". Add ") vocab (codes " to USING: before this place.")
 cure vocab (other ∷ vocabs) = codes ". Add one of them to USING: before this place."
 
+-- in which they are, by their names
+abbrev pub held_in : List ℕ → List (List ℕ) → List ℕ
+held_in vocab vocabs = (codes "\nA word of this name is in " ++ vocab) ++ more_homes vocabs
+
 abbrev pub hint : List (List ℕ) → List ℕ
 hint [] = []
-hint (vocab ∷ vocabs) = (codes "\nA word of this name is in " ++ vocab) ++ (more_homes vocabs ++ cure vocab vocabs)
+hint (vocab ∷ vocabs) = held_in vocab vocabs ++ cure vocab vocabs
 
--- which name was meant, where it is known
+-- which name was meant, where it is known: this one, or one that is near
+abbrev pub near_sentence : List ℕ → List ℕ
+near_sentence near = around (codes "\nThe nearest name is ") (told near) (codes ".")
+
 abbrev pub meant_sentence : Bool → List ℕ → List ℕ
 meant_sentence true near = codes "\nA word of this name is defined, but not before this place in a vocabulary that is used here."
-meant_sentence false near = around (codes "\nThe nearest name is ") (told near) (codes ".")
+meant_sentence false near = near_sentence near
 
 abbrev pub meant : List ℕ → Option (List ℕ) → List ℕ
 meant name None = []

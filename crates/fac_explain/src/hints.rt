@@ -1,7 +1,7 @@
 //! What was meant by a name that isn't found: which vocabularies hold a word of it, or which name is near.
 ghost use Rattle.std.specs.Prelude.{◌≡◌, ◌++◌, codes, OnOk};
 ghost use Rattle.std.specs.Option.{option_copied};
-ghost use Rattle.fac_explain.specs.Sentences.{cure, hint, meant, meant_sentence, more_homes};
+ghost use Rattle.fac_explain.specs.Sentences.{cure, held_in, hint, meant, meant_sentence, more_homes, near_sentence};
 
 use crate::pushing::{push_around, push_told, say};
 use fac_base::{Bytes, Memory, Text};
@@ -39,6 +39,15 @@ fn push_cure(out: &mut Bytes, home: &Text, others: &[Text]) -> Result<(), Memory
     }
 }
 
+// Adds in which vocabularies a word is.
+fn push_held_in(out: &mut Bytes, home: &Text, others: &[Text]) -> Result<(), Memory>
+    ensures { OnOk result (out.new ≡ out.old ++ held_in home.now others.now) }
+{
+    say(out, "\nA word of this name is in ")?;
+    say(out, home.as_str())?;
+    push_more(out, others)
+}
+
 /// Adds which vocabularies hold a word of a name, where any does.
 pub fn push_hint(out: &mut Bytes, homes: &[Text]) -> Result<(), Memory>
     ensures { OnOk result (out.new ≡ out.old ++ hint homes.now) }
@@ -46,12 +55,19 @@ pub fn push_hint(out: &mut Bytes, homes: &[Text]) -> Result<(), Memory>
     match homes {
         [] => Ok(()),
         [first, rest @ ..] => {
-            say(out, "\nA word of this name is in ")?;
-            say(out, first.as_str())?;
-            push_more(out, rest)?;
+            push_held_in(out, first, rest)?;
             push_cure(out, first, rest)
         }
     }
+}
+
+// Adds which name is near.
+fn push_near(out: &mut Bytes, near: &[u8]) -> Result<(), Memory>
+    ensures { OnOk result (out.new ≡ out.old ++ near_sentence near.now) }
+{
+    say(out, "\nThe nearest name is ")?;
+    push_told(out, near)?;
+    say(out, ".")
 }
 
 // Adds which name was meant, or that it was this one.
@@ -64,9 +80,7 @@ fn push_meant_sentence(out: &mut Bytes, is_same: bool, near: &[u8]) -> Result<()
             "\nA word of this name is defined, but not before this place in a vocabulary that is used here.",
         );
     }
-    say(out, "\nThe nearest name is ")?;
-    push_told(out, near)?;
-    say(out, ".")
+    push_near(out, near)
 }
 
 /// Adds which name was meant by one that isn't found, where that is known.

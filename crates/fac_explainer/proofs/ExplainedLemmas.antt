@@ -22,7 +22,7 @@ use Rattle.fac_tool.specs.declared.ended.Ended.{Ended}
 use Rattle.fac_explain.specs.Places.{AreSpots, read, faulty, IsTokenPlace, spot_numbered, refused_token}
 use Rattle.fac_explain.specs.Pictures.{place_text, token_text}
 use Rattle.fac_explain.specs.Sentences.{meant}
-use Rattle.fac_explain.specs.Names.{AreDefined, none as no_text, more, language_names, names_behind}
+use Rattle.fac_explain.specs.Names.{AreDefined, none as no_text, more as one_text, language_names, names_behind}
 use Rattle.fac_explain.specs.Nearness.{closest}
 use Rattle.fac_explain.specs.Beginnings.{beginning}
 use Rattle.fac_explainer.specs.Reports.{IsPlace, text_in, file_of, picture, sentence}
@@ -112,7 +112,7 @@ one_has_homes one name homes others is has = by_case (nat_le (length name) 256) 
 
 one_defined : OneAnswer → OneListOfSpots → (texts names others : List (List ℕ)) → AreDefined texts names → AreDefined texts others → names ≡ others
 one_defined one list _ _ _ no_text no_text = refl
-one_defined one list _ _ _ (more text texts names spots are rest) (more _ _ others spaces have left) =
+one_defined one list _ _ _ (one_text text texts names spots are rest) (one_text _ _ others spaces have left) =
     let same = one_spots one list text spots spaces are have in
     let alike = one_defined one list texts names others rest left in
     ap (λ (places : List Spot). names_behind text false places ++ names) same ∙ ap (λ (ns : List (List ℕ)). names_behind text false spaces ++ ns) alike
