@@ -36,7 +36,7 @@ short : is_near (codes "ro") (codes "rot") ≡ false
 short = refl
 
 -- the one that is near, though it is there twice; none of two; and the name itself before any other
-names : List (List ℕ)
+abbrev names : List (List ℕ)
 names = codes "dup" ∷ codes "each" ∷ codes "dupd" ∷ codes "each" ∷ []
 
 one_near : closest (codes "eahc") names ≡ Some (codes "each")

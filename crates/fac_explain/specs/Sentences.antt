@@ -153,7 +153,7 @@ hint (vocab ∷ vocabs) = held_in vocab vocabs ++ cure vocab vocabs
 
 -- which name was meant, where it is known: this one, or one that is near
 abbrev pub near_sentence : List ℕ → List ℕ
-near_sentence near = around (codes "\nThe nearest name is ") (told near) (codes ".")
+near_sentence near = codes "\nThe nearest name is " ++ (told near ++ codes ".")
 
 abbrev pub meant_sentence : Bool → List ℕ → List ℕ
 meant_sentence true near = codes "\nA word of this name is defined, but not before this place in a vocabulary that is used here."
