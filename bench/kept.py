@@ -46,6 +46,22 @@ def loaded():
 RT = loaded()
 
 
+def remember_sums():
+    """Has the sum of each crate's files made once in a run. The toolchain makes it anew for each way that leads from a crate down to another, and there are
+    thousands of these. No file may change while this script runs."""
+    made, kept = RT.rtlib.Crate.stamp, {}
+
+    def stamp(self):
+        if self.folder not in kept:
+            kept[self.folder] = made(self)
+        return kept[self.folder]
+
+    RT.rtlib.Crate.stamp = stamp
+
+
+remember_sums()
+
+
 def place_of(kind, crate, *more):
     """Where what a task passed with is kept: by the sum of the crate and all below it, and of more."""
     parts = hashlib.sha256(crate.stamp().encode())

@@ -16,11 +16,10 @@ use std::thread::Threads;
 fn push_all(
     alloc: Global,
     names: &mut List<Bytes>,
-    given: &List<(Text, Bytes)>,
+    given: &[(Text, Bytes)],
 ) -> Result<(), Memory>
     ensures { OnOk result (AddsAll (map (λ pair. pair.1) given.now) names.old names.new) }
 {
-    let given = given.as_slice();
     for pair in given {
         push_defined(alloc, names, pair.1.as_slice())?;
     }
@@ -34,7 +33,7 @@ fn names_of(alloc: Global, given: &List<(Text, Bytes)>) -> Result<List<Bytes>, M
 {
     let mut names = language_names(alloc)?;
     push_defined(alloc, &mut names, fac_prelude::text().as_bytes())?;
-    push_all(alloc, &mut names, given)?;
+    push_all(alloc, &mut names, given.as_slice())?;
     Ok(names)
 }
 
