@@ -1,9 +1,9 @@
 #!/usr/bin/env python3
-"""Compares the cases of bench/explanations.txt with a model of explanations.
+"""Compares the cases of crates/fac_explain_cases with a model of explanations.
 
     python3 bench/explanations.py [FILE] [--answers]
 
-FILE has the cases with their answers, by default bench/explanations.txt. The answers are written by hand, and the model stands on the model of the
+FILE has the cases with their answers, by default crates/fac_explain_cases/stdout. The answers are written by hand, and the model stands on the model of the
 language in bench/model.py, which tells the note: here the token of a note is looked for in the source, and its line is drawn. Where the two differ one
 of them is wrong. Each such case is told, and the script ends with status 1 then. With --answers the cases of FILE come with what the model answers.
 """
@@ -15,11 +15,13 @@ import sys
 
 import model
 
-DEFAULT = pathlib.Path(__file__).resolve().parent / "explanations.txt"
+DEFAULT = pathlib.Path(__file__).resolve().parent.parent / "crates" / "fac_explain_cases" / "stdout"
 
 ANSWERS = ("  status ", "  |", "  notes ")
 VOCABULARIES = "accessors arrays combinators fry io kernel locals math math.parser prettyprint sequences strings syntax words".split()
 MOST_SHOWN, BEFORE_PLACE = 120, 60
+FEWEST = 3
+DEFINING = ": :: CONSTANT: SYMBOL: DEFER: TUPLE: UNION: SINGLETON: C: GENERIC:".split()
 OK, WRITE_FAULT = 0, 10
 
 KINDS = {
@@ -32,6 +34,13 @@ KINDS = {
     "cycle": "The class {name} leads back to itself by parents or members.",
     "too-many": "{name} is the 1,025th class of the program. 1,024 are the most.",
     "undefined": "{name} is deferred here, and nothing defines it.",
+}
+
+BEGINNINGS = {
+    b"FCI1": "The file begins as an image does. An image isn't a source: factorc exec runs it.",
+    b"\xef\xbb\xbf": "The file begins with a byte order mark. Save it as UTF-8 without one.",
+    b"\xff\xfe": "The file begins with the byte order mark of UTF-16. Save it as UTF-8 without one.",
+    b"\xfe\xff": "The file begins with the byte order mark of UTF-16. Save it as UTF-8 without one.",
 }
 
 BYTES = {
@@ -139,12 +148,55 @@ def place_of(text, at):
     return text.count("\n", 0, at) + 1, at - text.rfind("\n", 0, at)
 
 
+def beginning(given):
+    """What is told of a file that begins as no source should."""
+    return next((sentence + "\n" for front, sentence in BEGINNINGS.items() if given.startswith(front)), "")
+
+
 def homes(name):
     """The vocabularies of the language that hold a word of this name."""
     if len(name.encode()) > 256:
         return []
     held = lambda vocab: {"a": f"FROM: {vocab} => {name} ;\n".encode()}
     return [vocab for vocab in VOCABULARIES if model.answer(["check", "a"], held(vocab)).status == OK]
+
+
+def is_one_edit(name, other):
+    """Whether two texts differ by one byte, by one byte that only one of them has, or by two neighbours that are exchanged."""
+    if len(name) == len(other):
+        places = [place for place, (byte, another) in enumerate(zip(name, other)) if byte != another]
+        if len(places) == 2 and places[1] == places[0] + 1:
+            return name[places[0]] == other[places[1]] and name[places[1]] == other[places[0]]
+        return len(places) == 1
+    longer, shorter = sorted((name, other), key=len, reverse=True)
+    return len(longer) == len(shorter) + 1 and any(longer[:place] + longer[place + 1 :] == shorter for place in range(len(longer)))
+
+
+def defined(text):
+    """The names that a text defines."""
+    tokens = [text[begin:end] for begin, end in spots(text)]
+    return [name for before, name in zip(tokens, tokens[1:]) if before in DEFINING]
+
+
+def meant(name, texts):
+    """What is told of a name that no vocabulary of the language holds, by the names of the language and of these texts."""
+    names = {word.name for words in model.PRIMITIVES.values() for word in words if word.name in model.BUILT}
+    names |= {class_name for _, class_name, _ in model.BUILT_IN_CLASSES} if "built-in-classes" in model.BUILT else set()
+    for text in texts:
+        names |= set(defined(text))
+    if name in names:
+        return "A word of this name is defined, but not before this place in a vocabulary that is used here."
+    near = [other for other in names if is_one_edit(name.encode(), other.encode())]
+    return f"The nearest name is {plain(near[0], '?')}." if len(near) == 1 and len(name.encode()) >= FEWEST else ""
+
+
+def help_with(name, words, held):
+    """What helps with a name that isn't found."""
+    found = homes(name)
+    if found:
+        which = f"Add {found[0]}" if len(found) == 1 else "Add one of them"
+        return f"A word of this name is in {', '.join(found)}. {which} to USING: before this place."
+    return meant(name, [text.decode() for text in (model.prelude(), *(held[word] for word in words))])
 
 
 def explained(words, held):
@@ -165,7 +217,7 @@ def explained(words, held):
         text, begin = (before, None) if why == "not UTF-8" else (given.decode(), len(before))
         line, column = place_of(text, len(before))
         drawn = "" if begin is None else picture(text, begin, begin + 1)
-        return answer.status, f"{file}:{line}:{column}: {note}{drawn}{BYTES[why]}\n", note
+        return answer.status, f"{file}:{line}:{column}: {note}{drawn}{BYTES[why]}\n{beginning(given)}", note
     text = given.decode()
     numbered = spots(text)
     number -= why == "end of the file"
@@ -185,13 +237,12 @@ def explained(words, held):
             sentence = f"{name} is a word of {first} and one of {second}, and both vocabularies are used. FROM: chooses one."
         else:
             sentence = KINDS[kind].format(name=name)
-            found = homes(name) if kind == "unknown" else []
-            if found:
-                sentence += f"\nA word of this name is in {', '.join(found)}."
+            helps = help_with(name, words, held) if kind == "unknown" else ""
+            sentence += "\n" * bool(helps) + helps
     else:
         rule = re.match(r"[a-z-]+", why)[0]
         sentence = rule_sentence(rule, [int(digits) for digits in re.findall(r"[0-9]+", why)], token, told["word"])
-    return answer.status, f"{head}{note}{drawn}{sentence}\n", note
+    return answer.status, f"{head}{note}{drawn}{sentence}\n{beginning(given)}", note
 
 
 class Case:

@@ -30,7 +30,7 @@ ROOMS = [
     ("Tool", "fac_notes fac_session fac_judge fac_listener fac_listen fac_gen fac_command fac_explain fac_tool fac_program factorc fac_explainer factorc_explain"),
     (
         "Programs of tests and measurements",
-        "fac_cases fac_image_cases fac_number_cases fac_spelling_cases fac_tests fac_count factorc_refused factorc_library",
+        "fac_cases fac_explain_cases fac_image_cases fac_number_cases fac_spelling_cases fac_tests fac_count factorc_refused factorc_library",
     ),
 ]
 

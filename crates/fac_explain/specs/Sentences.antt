@@ -1,5 +1,6 @@
 -- The sentence for each rule and each kind of refused name. A token stands in it as it is told.
-use Rattle.std.specs.Prelude.{ℕ, ◌==◌, List, [], ◌∷◌, ◌++◌, codes, decimal, Bool, ◌||◌, if◌then◌else◌}
+use Rattle.std.specs.Prelude.{ℕ, ◌==◌, List, [], ◌∷◌, ◌++◌, codes, decimal, Bool, true, false, ◌||◌, None, Some, if◌then◌else◌}
+use Rattle.std.specs.declared.option.Option.{Option}
 use Rattle.std.specs.Str.{bytes_eq}
 use Rattle.fac_abs.specs.declared.rule.Rule.{Rule}
 use Rattle.fac_abs.specs.declared.rule.Rule.TheVariants as rule
@@ -137,6 +138,27 @@ abbrev pub more_homes : List (List ℕ) → List ℕ
 more_homes [] = []
 more_homes (vocab ∷ vocabs) = (codes ", " ++ vocab) ++ more_homes vocabs
 
+-- what is to be added to `USING:`
+abbrev pub cure : List ℕ → List (List ℕ) → List ℕ
+cure vocab [] = around (codes ". Add ") vocab (codes " to USING: before this place.")
+cure vocab (other ∷ vocabs) = codes ". Add one of them to USING: before this place."
+
+-- in which they are, by their names
+abbrev pub held_in : List ℕ → List (List ℕ) → List ℕ
+held_in vocab vocabs = (codes "\nA word of this name is in " ++ vocab) ++ more_homes vocabs
+
 abbrev pub hint : List (List ℕ) → List ℕ
 hint [] = []
-hint (vocab ∷ vocabs) = (codes "\nA word of this name is in " ++ vocab) ++ (more_homes vocabs ++ codes ".")
+hint (vocab ∷ vocabs) = held_in vocab vocabs ++ cure vocab vocabs
+
+-- which name was meant, where it is known: this one, or one that is near
+abbrev pub near_sentence : List ℕ → List ℕ
+near_sentence near = codes "\nThe nearest name is " ++ (told near ++ codes ".")
+
+abbrev pub meant_sentence : Bool → List ℕ → List ℕ
+meant_sentence true near = codes "\nA word of this name is defined, but not before this place in a vocabulary that is used here."
+meant_sentence false near = near_sentence near
+
+abbrev pub meant : List ℕ → Option (List ℕ) → List ℕ
+meant name None = []
+meant name (Some near) = meant_sentence (bytes_eq near name) near

@@ -2,13 +2,19 @@
 //! read and nothing is checked here.
 #![tactic(auto)]
 
+mod beginnings;
 mod hints;
+mod names;
+mod nearness;
 mod pictures;
 mod places;
 mod pushing;
 mod sentences;
 
-pub use hints::push_hint;
+pub use beginnings::push_beginning;
+pub use hints::{push_hint, push_meant};
+pub use names::{language_names, push_defined};
+pub use nearness::closest;
 pub use pictures::{push_marked_at, push_place, told_token};
 pub use places::{byte_place, refused_token, token_place};
 pub use pushing::{push_told, say};

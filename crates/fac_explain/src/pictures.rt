@@ -112,8 +112,8 @@ fn push_marked(out: &mut Bytes, line: &[u8], token: &[u8], column: u32) -> Resul
     say(out, "\n")
 }
 
-// How the token at a place is spelled.
-fn spelling<'a>(text: &'a [u8], spot: &Spot) -> &'a [u8]
+/// How the token at a place is spelled.
+pub fn spelling<'a>(text: &'a [u8], spot: &Spot) -> &'a [u8]
     ensures { result.now ≡ spelling_at text.now spot.now }
 {
     rest(front(text, spot.end), spot.at)

@@ -109,8 +109,8 @@ fn place_at(text: &[u8], at: u64) -> Result<Spot, Memory>
     })
 }
 
-// The places of the tokens of a text. One with a fault has none.
-fn spots_in(alloc: Global, text: &[u8]) -> Result<List<Spot>, Memory>
+/// The places of the tokens of a text. One with a fault has none.
+pub fn spots_in(alloc: Global, text: &[u8]) -> Result<List<Spot>, Memory>
     ensures { IfOk result (AreSpots text.now) }
 {
     match spots(alloc, text) {

@@ -21,9 +21,13 @@ use Rattle.fac_tool.specs.SeenObjects.{SinkSeen}
 use Rattle.fac_tool.specs.declared.ended.Ended.{Ended}
 use Rattle.fac_explain.specs.Places.{AreSpots, read, faulty, IsTokenPlace, spot_numbered, refused_token}
 use Rattle.fac_explain.specs.Pictures.{place_text, token_text}
-use Rattle.fac_explain.specs.Sentences.{hint}
+use Rattle.fac_explain.specs.Sentences.{meant}
+use Rattle.fac_explain.specs.Names.{AreDefined, none as no_text, more as one_text, language_names, names_behind}
+use Rattle.fac_explain.specs.Nearness.{closest}
+use Rattle.fac_explain.specs.Beginnings.{beginning}
 use Rattle.fac_explainer.specs.Reports.{IsPlace, text_in, file_of, picture, sentence}
-use Rattle.fac_explainer.specs.Homes.{AreHomes, none, holds, lacks, HomesWhere, HasHomes, IsWithHomes, bringing, vocabularies}
+use Rattle.fac_explainer.specs.Homes.{AreHomes, none, holds, lacks, HomesWhere, HasHomes, bringing, vocabularies}
+use Rattle.fac_explainer.specs.Help.{Means, HelpsBy, HelpsFind, HelpsName, IsHelp}
 use Rattle.fac_explainer.specs.Explanations.{IsTold, IsExplanation, OneExplanation, explanation, nothing}
 use Rattle.fac_explainer.specs.CheckAnswers.{OneRefusal, IsCheckedAs, check_answer}
 use Rattle.fac_explainer.specs.Explains.{ExplainsTexts}
@@ -44,7 +48,7 @@ some_bytes names texts (Some why) out is =
     let place = is.0 in
     let all = numbered_names names in
     let text = text_in texts (file_of why) in
-    subst (λ (xs : List ℕ). 0 < length xs) (sym is.2.2) (last_byte (place_text (file_name all (file_of why)) place ++ line_of all why) (picture why text place) (sentence why (token_text text place) ++ hint is.2.0))
+    subst (λ (xs : List ℕ). 0 < length xs) (sym is.2.2) (last_byte (place_text (file_name all (file_of why)) place ++ line_of all why) (picture why text place) (sentence why (token_text text place) ++ (is.2.0 ++ beginning text)))
 
 -- what is told of texts that were numbered
 pub explained_again :
@@ -99,33 +103,58 @@ one_homes one name _ _ _ (holds vocab vocabs homes is more) (lacks _ _ others wh
 one_homes one name _ _ _ (lacks vocab vocabs homes why is more) (holds _ _ others has rest) = absurd (not_both one (bringing vocab name ∷ []) why has is)
 one_homes one name _ _ _ (lacks vocab vocabs homes why is more) (lacks _ _ others other has rest) = one_homes one name vocabs homes others more rest
 
-one_of_kind : OneRefusal → (kind : NameKind) (name : List ℕ) (homes others : List (List ℕ)) → HasHomes kind name homes → HasHomes kind name others → homes ≡ others
-one_of_kind one kind.Unknown name homes others is has = by_case (nat_le (length name) 256) is has
+one_has_homes : OneRefusal → (name : List ℕ) (homes others : List (List ℕ)) → HasHomes name homes → HasHomes name others → homes ≡ others
+one_has_homes one name homes others is has = by_case (nat_le (length name) 256) is has
   where
     by_case : (b : Bool) → HomesWhere b name homes → HomesWhere b name others → homes ≡ others
     by_case true is has = one_homes one name vocabularies homes others is has
     by_case false is has = is ∙ sym has
-one_of_kind one (kind.Ambiguous first second) name homes others is has = is ∙ sym has
-one_of_kind one kind.Twice name homes others is has = is ∙ sym has
-one_of_kind one kind.NoVocab name homes others is has = is ∙ sym has
-one_of_kind one kind.NotClass name homes others is has = is ∙ sym has
-one_of_kind one kind.NotGeneric name homes others is has = is ∙ sym has
-one_of_kind one kind.BadParent name homes others is has = is ∙ sym has
-one_of_kind one kind.Cycle name homes others is has = is ∙ sym has
-one_of_kind one kind.TooMany name homes others is has = is ∙ sym has
-one_of_kind one kind.Undefined name homes others is has = is ∙ sym has
 
-one_with_homes : OneRefusal → (why : Report) (homes others : List (List ℕ)) → IsWithHomes why homes → IsWithHomes why others → homes ≡ others
-one_with_homes one (report.Name fault) homes others is has = one_of_kind one fault.kind fault.name homes others is has
-one_with_homes one (report.Bytes file at reason) homes others is has = is ∙ sym has
-one_with_homes one (report.Syntax file at reason) homes others is has = is ∙ sym has
-one_with_homes one (report.Check refusal word) homes others is has = is ∙ sym has
-one_with_homes one (report.Error name word value) homes others is has = is ∙ sym has
-one_with_homes one (report.Spent ticks) homes others is has = is ∙ sym has
-one_with_homes one (report.Image at) homes others is has = is ∙ sym has
-one_with_homes one (report.Trap pc reason) homes others is has = is ∙ sym has
-one_with_homes one (report.File name) homes others is has = is ∙ sym has
-one_with_homes one (report.TooLong name most) homes others is has = is ∙ sym has
+one_defined : OneAnswer → OneListOfSpots → (texts names others : List (List ℕ)) → AreDefined texts names → AreDefined texts others → names ≡ others
+one_defined one list _ _ _ no_text no_text = refl
+one_defined one list _ _ _ (one_text text texts names spots are rest) (one_text _ _ others spaces have left) =
+    let same = one_spots one list text spots spaces are have in
+    let alike = one_defined one list texts names others rest left in
+    ap (λ (places : List Spot). names_behind text false places ++ names) same ∙ ap (λ (ns : List (List ℕ)). names_behind text false spaces ++ ns) alike
+
+one_meant : OneAnswer → OneListOfSpots → (texts : List (List ℕ)) (name out other : List ℕ) → Means texts name out → Means texts name other → out ≡ other
+one_meant one list texts name out other is has =
+    let same = one_defined one list (prelude_text ∷ texts) is.1.0 has.1.0 is.1.1 has.1.1 in
+    let names = is.1.2 ∙ ap (λ (ns : List (List ℕ)). language_names ++ ns) same ∙ sym has.1.2 in
+    is.2 ∙ ap (λ (ns : List (List ℕ)). meant name (closest name ns)) names ∙ sym has.2
+
+one_helping : OneAnswer → OneListOfSpots → (texts : List (List ℕ)) (name : List ℕ) (homes : List (List ℕ)) (out other : List ℕ) → HelpsBy texts name homes out → HelpsBy texts name homes other → out ≡ other
+one_helping one list texts name [] out other is has = one_meant one list texts name out other is has
+one_helping one list texts name (vocab ∷ vocabs) out other is has = is ∙ sym has
+
+one_finding : OneAnswer → OneListOfSpots → OneRefusal → (texts : List (List ℕ)) (name out other : List ℕ) → HelpsFind texts name out → HelpsFind texts name other → out ≡ other
+one_finding one list single texts name out other is has =
+    let same = one_has_homes single name is.0 has.0 is.1 has.1 in
+    one_helping one list texts name has.0 out other (subst (λ (homes : List (List ℕ)). HelpsBy texts name homes out) same is.2) has.2
+
+one_of_kind : OneAnswer → OneListOfSpots → OneRefusal → (texts : List (List ℕ)) (kind : NameKind) (name out other : List ℕ) → HelpsName texts kind name out → HelpsName texts kind name other → out ≡ other
+one_of_kind one list single texts kind.Unknown name out other is has = one_finding one list single texts name out other is has
+one_of_kind one list single texts (kind.Ambiguous first second) name out other is has = is ∙ sym has
+one_of_kind one list single texts kind.Twice name out other is has = is ∙ sym has
+one_of_kind one list single texts kind.NoVocab name out other is has = is ∙ sym has
+one_of_kind one list single texts kind.NotClass name out other is has = is ∙ sym has
+one_of_kind one list single texts kind.NotGeneric name out other is has = is ∙ sym has
+one_of_kind one list single texts kind.BadParent name out other is has = is ∙ sym has
+one_of_kind one list single texts kind.Cycle name out other is has = is ∙ sym has
+one_of_kind one list single texts kind.TooMany name out other is has = is ∙ sym has
+one_of_kind one list single texts kind.Undefined name out other is has = is ∙ sym has
+
+one_help : OneAnswer → OneListOfSpots → OneRefusal → (texts : List (List ℕ)) (why : Report) (out other : List ℕ) → IsHelp texts why out → IsHelp texts why other → out ≡ other
+one_help one list single texts (report.Name fault) out other is has = one_of_kind one list single texts fault.kind fault.name out other is has
+one_help one list single texts (report.Bytes file at reason) out other is has = is ∙ sym has
+one_help one list single texts (report.Syntax file at reason) out other is has = is ∙ sym has
+one_help one list single texts (report.Check refusal word) out other is has = is ∙ sym has
+one_help one list single texts (report.Error name word value) out other is has = is ∙ sym has
+one_help one list single texts (report.Spent ticks) out other is has = is ∙ sym has
+one_help one list single texts (report.Image at) out other is has = is ∙ sym has
+one_help one list single texts (report.Trap pc reason) out other is has = is ∙ sym has
+one_help one list single texts (report.File name) out other is has = is ∙ sym has
+one_help one list single texts (report.TooLong name most) out other is has = is ∙ sym has
 
 pub one_told : OneAnswer → OneListOfSpots → OneRefusal → OneExplanation
 one_told one list single names texts None out other is has = is ∙ sym has
@@ -133,8 +162,8 @@ one_told one list single names texts (Some why) out other is has =
     let all = numbered_names names in
     let text = text_in texts (file_of why) in
     let same = one_place one list text why is.0 has.0 is.1 has.1 in
-    let alike = one_with_homes single why is.2.0 has.2.0 is.2.1 has.2.1 in
-    is.2.2 ∙ ap (λ (place : Option Spot). explanation all text why place is.2.0) same ∙ ap (λ (homes : List (List ℕ)). explanation all text why has.0 homes) alike ∙ sym has.2.2
+    let alike = one_help one list single texts why is.2.0 has.2.0 is.2.1 has.2.1 in
+    is.2.2 ∙ ap (λ (place : Option Spot). explanation all text why place is.2.0) same ∙ ap (λ (help : List ℕ). explanation all text why has.0 help) alike ∙ sym has.2.2
 
 pub one_refused : OneSource → OneRefusal
 one_refused one texts refusal other is has =

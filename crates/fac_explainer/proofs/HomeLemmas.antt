@@ -30,7 +30,7 @@ one_more_home f name vocabs i other homes now below so_far (inr stays) rest are 
     subst (λ (xs : List (List ℕ)). AreHomes name (map f vocabs) xs) (sym (ap (λ (xs : List (List ℕ)). xs ++ rest) stays.2)) all
 
 -- behind the end of a list nothing is left
-none_left : {A : Type 0} (xs : List A) (i : ℕ) → length xs ≤ i → drop i xs ≡ []
+pub none_left : {A : Type 0} (xs : List A) (i : ℕ) → length xs ≤ i → drop i xs ≡ []
 none_left [] zero past = refl
 none_left [] (suc i) past = refl
 none_left (x ∷ xs) zero past = absurd (omega (arith, past))

@@ -4,4 +4,5 @@ pub mod CheckedLemmas
 pub mod ExplainedLemmas
 pub mod IdleLemmas
 pub mod HomeLemmas
+pub mod HelpLemmas
 pub mod VerdictLemmas

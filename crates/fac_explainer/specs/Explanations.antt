@@ -1,4 +1,4 @@
--- The explanation of a refusal: its note behind the place, the line with its marks, and a sentence.
+-- The explanation of a refusal: its note behind the place, the line with its marks, a sentence, and what helps.
 use Rattle.std.specs.Prelude.{◌≡◌, ℕ, List, ◌++◌, None, Some, codes}
 use Rattle.std.specs.declared.option.Option.{Option}
 use Rattle.fac_token.specs.declared.spotting.Spot.{Spot}
@@ -6,20 +6,20 @@ use Rattle.fac_notes.specs.Notes.{file_name, line_of}
 use Rattle.fac_notes.specs.declared.report.Report.{Report}
 use Rattle.fac_tool.specs.Answers.{numbered_names}
 use Rattle.fac_explain.specs.Pictures.{place_text, token_text}
-use Rattle.fac_explain.specs.Sentences.{hint}
-use Rattle.fac_explainer.specs.Homes.{IsWithHomes}
+use Rattle.fac_explain.specs.Beginnings.{beginning}
+use Rattle.fac_explainer.specs.Help.{IsHelp}
 use Rattle.fac_explainer.specs.Reports.{text_in, file_of, IsPlace, picture, sentence}
 
--- the explanation of a refusal at a place of a text, where the files have these names by their numbers, and a name that isn't found stands in these vocabularies
-abbrev pub explanation : List (List ℕ) → List ℕ → Report → Option Spot → List (List ℕ) → List ℕ
-explanation names text why place homes =
+-- the explanation of a refusal at a place of a text, where the files have these names by their numbers, with what helps behind its sentence
+abbrev pub explanation : List (List ℕ) → List ℕ → Report → Option Spot → List ℕ → List ℕ
+explanation names text why place help =
     (place_text (file_name names (file_of why)) place ++ line_of names why) ++
-    (picture why text place ++ (sentence why (token_text text place) ++ hint homes) ++ codes "\n")
+    (picture why text place ++ (sentence why (token_text text place) ++ (help ++ beginning text)) ++ codes "\n")
 
 -- the explanation of a refusal, by the names and the texts of the files that were checked
 abbrev pub IsExplanation : List (List ℕ) → List (List ℕ) → Report → List ℕ → Type 0
 IsExplanation names texts why out =
-    (place : Option Spot) × IsPlace (text_in texts (file_of why)) why place × ((homes : List (List ℕ)) × IsWithHomes why homes × (out ≡ explanation (numbered_names names) (text_in texts (file_of why)) why place homes))
+    (place : Option Spot) × IsPlace (text_in texts (file_of why)) why place × ((help : List ℕ) × IsHelp texts why help × (out ≡ explanation (numbered_names names) (text_in texts (file_of why)) why place help))
 
 abbrev pub nothing : List ℕ
 nothing = codes "nothing to explain\n"

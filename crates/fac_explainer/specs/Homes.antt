@@ -1,9 +1,6 @@
 -- Where a name would be found that isn't found: the vocabularies of the language that hold a word of this name.
 use Rattle.std.specs.Prelude.{◌≡◌, ℕ, List, [], ◌∷◌, ◌++◌, length, map, Bool, true, false, nat_le, None, Some, codes}
-use Rattle.fac_source.specs.declared.refusal.NameKind.{NameKind}
-use Rattle.fac_source.specs.declared.refusal.NameKind.TheVariants as kind
 use Rattle.fac_notes.specs.declared.report.Report.{Report}
-use Rattle.fac_notes.specs.declared.report.Report.TheVariants as report
 use Rattle.fac_explainer.specs.declared.homes.TheConstants.{MOST_NAME, VOCABULARIES}
 use Rattle.fac_explainer.specs.CheckAnswers.{IsCheckedAs}
 
@@ -26,12 +23,5 @@ abbrev pub HomesWhere : Bool → List ℕ → List (List ℕ) → Type 0
 HomesWhere true name homes = AreHomes name vocabularies homes
 HomesWhere false name homes = homes ≡ []
 
--- of a name that isn't found
-abbrev pub HasHomes : NameKind → List ℕ → List (List ℕ) → Type 0
-HasHomes kind.Unknown name homes = HomesWhere (nat_le (length name) MOST_NAME) name homes
-HasHomes _ name homes = homes ≡ []
-
--- of a refusal
-abbrev pub IsWithHomes : Report → List (List ℕ) → Type 0
-IsWithHomes (report.Name fault) homes = HasHomes fault.kind fault.name homes
-IsWithHomes _ homes = homes ≡ []
+abbrev pub HasHomes : List ℕ → List (List ℕ) → Type 0
+HasHomes name homes = HomesWhere (nat_le (length name) MOST_NAME) name homes

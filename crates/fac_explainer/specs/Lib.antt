@@ -1,6 +1,7 @@
 pub mod Reports
 pub mod CheckAnswers
 pub mod Homes
+pub mod Help
 pub mod Explanations
 pub mod Explains
 pub mod VerdictLaws

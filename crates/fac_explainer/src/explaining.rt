@@ -4,10 +4,10 @@ ghost use Rattle.fac_notes.specs.Notes.{file_name as name_of_file, line_of};
 ghost use Rattle.fac_tool.specs.Answers.{numbered_names};
 ghost use Rattle.fac_explainer.specs.Explanations.{explanation, IsExplanation, IsTold};
 
-use crate::homes::homes_of_refusal;
+use crate::help::help_of;
 use crate::reports::{file_of, place_of, push_picture, push_sentence, text_of};
 use fac_base::{Bytes, List, Memory, Text};
-use fac_explain::{push_hint, push_place, say, told_token};
+use fac_explain::{push_beginning, push_place, say, told_token};
 use fac_notes::note;
 use fac_par::{Gate, Workers};
 use fac_token::Spot;
@@ -57,16 +57,16 @@ fn push_note(
     say(out, line.as_str())
 }
 
-// The explanation of a refusal at a place of a text, where the files have these names by their numbers, and a name that isn't found these homes.
+// The explanation of a refusal at a place of a text, where the files have these names by their numbers, with what helps behind its sentence.
 fn explained_at(
     alloc: Global,
     names: &List<Text>,
     text: &[u8],
     report: &Report,
     place: &Option<Spot>,
-    homes: &[Text],
+    help: &[u8],
 ) -> Result<Bytes, Memory>
-    ensures { IfOk result (λ out. out ≡ explanation names.now text.now report.now place.now homes.now) }
+    ensures { IfOk result (λ out. out ≡ explanation names.now text.now report.now place.now help.now) }
 {
     let token = told_token(alloc, text, place)?;
     let mut out = Bytes::new(alloc);
@@ -74,7 +74,8 @@ fn explained_at(
     push_note(alloc, &mut out, report, names)?;
     push_picture(alloc, &mut out, report, text, place)?;
     push_sentence(alloc, &mut out, report, token.as_slice())?;
-    push_hint(&mut out, homes)?;
+    out.extend(help)?;
+    push_beginning(&mut out, text)?;
     say(&mut out, "\n")?;
     Ok(out)
 }
@@ -90,16 +91,9 @@ fn explained<R: Threads + Sync, G: Gate + Sync>(
 {
     let text = text_of(given, file_of(report));
     let place = place_of(workers.alloc, text, report)?;
-    let homes = homes_of_refusal(workers, report)?;
+    let help = help_of(workers, given, report)?;
     let names = file_names(workers.alloc, files)?;
-    explained_at(
-        workers.alloc,
-        &names,
-        text,
-        report,
-        &place,
-        homes.as_slice(),
-    )
+    explained_at(workers.alloc, &names, text, report, &place, help.as_slice())
 }
 
 /// What is written where files have this refusal, or none.

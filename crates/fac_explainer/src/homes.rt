@@ -1,6 +1,6 @@
 //! The vocabularies of the language that hold a word of a name.
 ghost use Rattle.std.specs.Prelude.{◌≡◌, ◌∷◌, [], map, IfOk, OnOk};
-ghost use Rattle.fac_explainer.specs.Homes.{AreHomes, HasHomes, IsWithHomes, bringing as bringing_text, vocabularies};
+ghost use Rattle.fac_explainer.specs.Homes.{AreHomes, HasHomes, bringing as bringing_text, vocabularies};
 ghost use Rattle.fac_explainer.specs.inner.Steps.{AcceptsTexts, AddsHome};
 
 use crate::checking::check_texts;
@@ -8,8 +8,6 @@ use fac_base::limits::MOST_SOURCE_BYTES;
 use fac_base::{Bytes, List, Memory, Text};
 use fac_explain::say;
 use fac_par::{Gate, Workers};
-use fac_source::NameKind;
-use fac_tool::Report;
 use std::alloc::Global;
 use std::thread::Threads;
 
@@ -106,50 +104,15 @@ fn language_homes<R: Threads + Sync, G: Gate + Sync>(
     homes_among(workers, &VOCABULARIES, name)
 }
 
-// Those of a refused name.
-fn homes_of<R: Threads + Sync, G: Gate + Sync>(
+/// Those of a name that isn't found.
+pub fn homes_of<R: Threads + Sync, G: Gate + Sync>(
     workers: &Workers<'_, R, G>,
-    kind: &NameKind,
     name: &Text,
 ) -> Result<List<Text>, Memory>
-    ensures { IfOk result (HasHomes kind.now name.now) }
+    ensures { IfOk result (HasHomes name.now) }
 {
-    match kind {
-        NameKind::Unknown => {
-            if name.len() > MOST_NAME {
-                return Ok(List::new(workers.alloc));
-            }
-            language_homes(workers, name)
-        }
-        NameKind::Ambiguous(_, _) => Ok(List::new(workers.alloc)),
-        NameKind::Twice => Ok(List::new(workers.alloc)),
-        NameKind::NoVocab => Ok(List::new(workers.alloc)),
-        NameKind::NotClass => Ok(List::new(workers.alloc)),
-        NameKind::NotGeneric => Ok(List::new(workers.alloc)),
-        NameKind::BadParent => Ok(List::new(workers.alloc)),
-        NameKind::Cycle => Ok(List::new(workers.alloc)),
-        NameKind::TooMany => Ok(List::new(workers.alloc)),
-        NameKind::Undefined => Ok(List::new(workers.alloc)),
+    if name.len() > MOST_NAME {
+        return Ok(List::new(workers.alloc));
     }
-}
-
-/// Those of a refusal.
-pub fn homes_of_refusal<R: Threads + Sync, G: Gate + Sync>(
-    workers: &Workers<'_, R, G>,
-    report: &Report,
-) -> Result<List<Text>, Memory>
-    ensures { IfOk result (IsWithHomes report.now) }
-{
-    match report {
-        Report::Name(fault) => homes_of(workers, &fault.kind, &fault.name),
-        Report::Bytes { .. } => Ok(List::new(workers.alloc)),
-        Report::Syntax { .. } => Ok(List::new(workers.alloc)),
-        Report::Check { .. } => Ok(List::new(workers.alloc)),
-        Report::Error { .. } => Ok(List::new(workers.alloc)),
-        Report::Spent { .. } => Ok(List::new(workers.alloc)),
-        Report::Image { .. } => Ok(List::new(workers.alloc)),
-        Report::Trap { .. } => Ok(List::new(workers.alloc)),
-        Report::File { .. } => Ok(List::new(workers.alloc)),
-        Report::TooLong { .. } => Ok(List::new(workers.alloc)),
-    }
+    language_homes(workers, name)
 }

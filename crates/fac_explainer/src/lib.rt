@@ -9,6 +9,7 @@ mod ended;
 mod explain;
 mod explaining;
 mod given;
+mod help;
 mod homes;
 mod laws;
 mod program;

@@ -12,6 +12,7 @@ use Rattle.fac_notes.specs.declared.report.Report.{Report}
 use Rattle.fac_tool.specs.declared.ended.Ended.{Ended}
 use Rattle.fac_tool.specs.Answers.{Answers}
 use Rattle.fac_tool.specs.SeenObjects.{SinkSeen, FilesSeen, input_seen, output_seen}
+use Rattle.fac_explain.specs.Names.{AreDefined}
 use Rattle.fac_explainer.specs.CheckAnswers.{IsCheckedAs}
 use Rattle.fac_explainer.specs.Homes.{bringing}
 use Rattle.fac_explainer.specs.Explanations.{IsTold}
@@ -71,3 +72,7 @@ AcceptsTexts texts false = (why : Report) × IsCheckedAs texts (Some why)
 abbrev pub AddsHome : List ℕ → List ℕ → List (List ℕ) → List (List ℕ) → Type 0
 AddsHome name vocab homes now =
     (IsCheckedAs (bringing vocab name ∷ []) None × (now ≡ homes ++ vocab ∷ [])) ⊎ ((why : Report) × IsCheckedAs (bringing vocab name ∷ []) (Some why) × (now ≡ homes))
+
+-- the names that texts define were put behind others
+abbrev pub AddsAll : List (List ℕ) → List (List ℕ) → List (List ℕ) → Type 0
+AddsAll texts names now = (more : List (List ℕ)) × AreDefined texts more × (now ≡ names ++ more)
