@@ -5,7 +5,7 @@ use Rattle.std.specs.List.{concat, list_all}
 use Rattle.std.specs.declared.option.Option.{Option}
 use Rattle.std.proofs.lemmas.List.{map-append}
 use Rattle.fac_io.specs.Names.{Held, bytes_of}
-use Rattle.fac_command.specs.Command.{Command, check, command_of, are_files, is_file_name}
+use Rattle.fac_command.specs.Command.{Request, work as working, work_of as asked, check, request_of, are_files, is_file_name}
 use Rattle.fac_lang.specs.declared.program.Program.{Program}
 use Rattle.fac_source.specs.declared.refusal.NameFault.{NameFault}
 use Rattle.fac_check.specs.declared.refusal.Broken.{Broken}
@@ -132,7 +132,7 @@ of_work names texts held after seen out reached are within (inr loaded) settled 
 -- the command of the words that name texts by their numbers
 of_names :
     (texts : List (List ℕ)) (held after : Held) (seen : InputSeen) (out : SinkSeen) (ended : Ended) → map held (names_from 1 texts) ≡ map Some texts → length (concat texts) ≤ limit →
-    AnswersBy (command_of (codes "check" ∷ names_from 1 texts)) (given_files held after) seen out silent_sink ended → IsSettled ended → IsCheckedAs texts ended.refusal
+    AnswersBy (request_of (codes "check" ∷ names_from 1 texts)) (given_files held after) seen out silent_sink ended → IsSettled ended → IsCheckedAs texts ended.refusal
 of_names [] held after seen out ended are within answers settled =
     elim answers.1 [
       | inl whole ↦ absurd (unsettled ended 2 (ap (λ (x : Ended). x.status) whole.same) (omega arith) (ap (λ (x : Ended). x.refusal) whole.same) settled)
@@ -140,8 +140,8 @@ of_names [] held after seen out ended are within answers settled =
     ]
 of_names (text ∷ texts) held after seen out ended are within answers settled =
     let names = names_from 1 (text ∷ texts) in
-    let known : command_of (codes "check" ∷ names) ≡ Some (check names) = ap (λ (are : Bool). cond are (Some (check names)) None) (are_names 1 (text ∷ texts)) in
-    let works : Works (check names) (given_files held after) seen out silent_sink ended = subst (λ (c : Option Command). AnswersBy c (given_files held after) seen out silent_sink ended) known answers in
+    let known : request_of (codes "check" ∷ names) ≡ Some (working (check names)) = ap (λ (are : Bool). asked (cond are (Some (check names)) None)) (are_names 1 (text ∷ texts)) in
+    let works : Works (check names) (given_files held after) seen out silent_sink ended = subst (λ (c : Option Request). AnswersBy c (given_files held after) seen out silent_sink ended) known answers in
     let reached = works.0 in
     let same : ended ≡ reached = told_settled (numbered_names names) reached ended works.2 settled in
     let done : IsSettled reached = subst IsSettled same settled in
@@ -155,7 +155,7 @@ checked_given given texts words ended numbered are checks settled =
     let names : words ≡ codes "check" ∷ names_from 1 texts = are ∙ ap (λ (ps : List (List ℕ × List ℕ)). codes "check" ∷ map (λ pair. pair.0) ps) numbered.are ∙ ap (λ (xs : List (List ℕ)). codes "check" ∷ xs) (names_are 1 texts) in
     let found : map held (names_from 1 texts) ≡ map Some texts =
     ap (λ (ps : List (List ℕ × List ℕ)). map (bytes_of ps) (names_from 1 texts)) numbered.are ∙ held_are 1 texts (omega (arith, numbered.few)) in
-    let answers = subst (λ (ws : List (List ℕ)). AnswersBy (command_of ws) (given_files held checks.after) (input_seen checks.before checks.now) (output_seen checks.before checks.now) silent_sink ended) names checks.answers in
+    let answers = subst (λ (ws : List (List ℕ)). AnswersBy (request_of ws) (given_files held checks.after) (input_seen checks.before checks.now) (output_seen checks.before checks.now) silent_sink ended) names checks.answers in
     of_names texts held checks.after _ _ ended found numbered.within answers settled
 
 pub given_checks :
