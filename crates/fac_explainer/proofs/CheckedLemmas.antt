@@ -5,7 +5,7 @@ use Rattle.std.specs.List.{concat, list_all}
 use Rattle.std.specs.declared.option.Option.{Option}
 use Rattle.std.proofs.lemmas.List.{map-append}
 use Rattle.fac_io.specs.Names.{Held, bytes_of}
-use Rattle.fac_command.specs.Command.{Request, check, work as asked, work_of as request_for, request_of, are_files, is_file_name}
+use Rattle.fac_command.specs.Command.{Request, work as working, work_of as asked, check, request_of, are_files, is_file_name}
 use Rattle.fac_lang.specs.declared.program.Program.{Program}
 use Rattle.fac_source.specs.declared.refusal.NameFault.{NameFault}
 use Rattle.fac_check.specs.declared.refusal.Broken.{Broken}
@@ -140,7 +140,7 @@ of_names [] held after seen out ended are within answers settled =
     ]
 of_names (text ∷ texts) held after seen out ended are within answers settled =
     let names = names_from 1 (text ∷ texts) in
-    let known : request_of (codes "check" ∷ names) ≡ Some (asked (check names)) = ap (λ (are : Bool). request_for (cond are (Some (check names)) None)) (are_names 1 (text ∷ texts)) in
+    let known : request_of (codes "check" ∷ names) ≡ Some (working (check names)) = ap (λ (are : Bool). asked (cond are (Some (check names)) None)) (are_names 1 (text ∷ texts)) in
     let works : Works (check names) (given_files held after) seen out silent_sink ended = subst (λ (c : Option Request). AnswersBy c (given_files held after) seen out silent_sink ended) known answers in
     let reached = works.0 in
     let same : ended ≡ reached = told_settled (numbered_names names) reached ended works.2 settled in

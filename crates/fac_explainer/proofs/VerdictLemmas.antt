@@ -3,7 +3,7 @@ use Rattle.std.proofs.Common.{◌≡◌, ◌≢◌, ◌<◌, ◌≤◌, ℕ, Lis
 use Rattle.std.specs.Prelude.{codes}
 use Rattle.std.specs.declared.option.Option.{Option}
 use Rattle.fac_io.specs.Names.{Held}
-use Rattle.fac_command.specs.Command.{Request, check, work_of as request_for, request_of, are_files}
+use Rattle.fac_command.specs.Command.{Request, work_of as asked, check, command_of, request_of, are_files}
 use Rattle.fac_lang.specs.declared.program.Program.{Program}
 use Rattle.fac_source.specs.declared.refusal.NameFault.{NameFault}
 use Rattle.fac_check.specs.declared.refusal.Broken.{Broken}
@@ -117,7 +117,12 @@ check_reached names held files seen out reached e (inr loaded) is =
       | inr saves ↦ absurd saves
     ]
 
-check_answered : (names : List (List ℕ)) (held : Held) (files : FilesSeen) (seen : InputSeen) (out notes : SinkSeen) (ended : Ended) (are : Bool) → files.held_before ≡ Some held → AnswersBy (request_for (cond are (Some (check names)) None)) files seen out notes ended → IsVerdict ended → EndsOnHeld names held ended
+-- `check` is no session of the listener
+asked_check : (names : List (List ℕ)) → request_of (codes "check" ∷ names) ≡ asked (command_of (codes "check" ∷ names))
+asked_check [] = refl
+asked_check (name ∷ names) = refl
+
+check_answered : (names : List (List ℕ)) (held : Held) (files : FilesSeen) (seen : InputSeen) (out notes : SinkSeen) (ended : Ended) (are : Bool) → files.held_before ≡ Some held → AnswersBy (asked (cond are (Some (check names)) None)) files seen out notes ended → IsVerdict ended → EndsOnHeld names held ended
 check_answered names held files seen out notes ended false e answers is =
     elim answers.1 [
       | inl whole ↦ absurd (no_usage ended is (ap (λ (x : Ended). x.status) whole.same))
@@ -126,11 +131,6 @@ check_answered names held files seen out notes ended false e answers is =
 check_answered names held files seen out notes ended true e answers is =
     let same = told_verdict (numbered_names names) answers.0 ended notes answers.2 is in
     subst (λ (x : Ended). EndsOnHeld names held x) (sym same) (check_reached names held files seen out answers.0 e answers.1.ending (subst IsVerdict same is))
-
--- what the words of `check` ask for
-check_request : (names : List (List ℕ)) → request_of (codes "check" ∷ names) ≡ request_for (cond (are_files names) (Some (check names)) None)
-check_request [] = refl
-check_request (name ∷ names) = refl
 
 -- an explanation
 explain_reached : (names : List (List ℕ)) (held : Held) (files : FilesSeen) (out : SinkSeen) (reached : Ended) → files.held_before ≡ Some held → Reaches names files out reached → IsVerdict reached → EndsOnHeld names held reached
@@ -175,4 +175,4 @@ pub explains_checked : OneRefusal → ExplainsAsChecked
 explains_checked one names held files others seen out notes written told ended checked e f is has explains answers =
     both_ends one names held ended checked
     (explain_answered names held files out notes ended (are_files names) e explains is)
-    (check_answered names held others seen written told checked (are_files names) f (subst (λ (r : Option Request). AnswersBy r others seen written told checked) (check_request names) answers) has)
+    (check_answered names held others seen written told checked (are_files names) f (subst (λ (r : Option Request). AnswersBy r others seen written told checked) (asked_check names) answers) has)
