@@ -2,6 +2,7 @@
 //! stands in memory. Where there are two workers or more, the texts are taken in parts: the files of one are read at once while those of the part before it go to
 //! the names, and only their trees stand in memory.
 ghost use Rattle.std.specs.Prelude.{◌≡◌, ◌<◌, ◌+◌, ◌^◌, List as Items, ℕ, Ok, [], length, IfOk, IfSome};
+ghost use Rattle.std.specs.Thread.{IsSync};
 ghost use Rattle.fac_source.specs.declared.token.Token.{Token as TokenSeen};
 ghost use Rattle.fac_source.specs.declared.tree.Form.{Form as FormSeen};
 ghost use Rattle.fac_token.specs.Tokens.{Tokenizes};
@@ -20,14 +21,14 @@ use crate::{ByteFault, Ended, Report, every_text_is_a_source};
 use fac_base::{Bytes, List, Memory, Queue};
 use fac_names::Resolver;
 use fac_notes::status::NO_MEMORY;
-use fac_par::Workers;
+use fac_par::{NoGate, Workers};
 use fac_parse::{ParseFault, Parser};
 use fac_source::{Form, Token};
 use fac_token::{TokenFault, tokens};
-use fac_trees::{TextTree, parts_of, trees_beside};
+use fac_trees::{TextTree, parts_of, trees_of};
 use std::alloc::Global;
 use std::mem;
-use std::thread::Threads;
+use std::thread::{Threads, join_mut};
 
 // The ending by a fault of bytes.
 fn byte_fault(file: u32, at: u64, why: ByteFault) -> Ended
@@ -266,6 +267,49 @@ fn take_trees(
     Ok(sum)
 }
 
+// What texts come to that are read at once by so many workers, where the last file before them has this number. Want of memory is the one error.
+fn read_at_once<R: Threads + Sync>(
+    threads: &R,
+    alloc: Global,
+    count: u32,
+    before: u32,
+    texts: &[Bytes],
+) -> Result<List<TextTree>, Memory>
+    requires { before + length texts.now < 2 ^ 32 }
+    ensures { IfOk result (AreTreesOf (before + 1) texts.now) }
+{
+    let workers = Workers {
+        threads,
+        alloc,
+        count,
+        gate: &NoGate,
+    };
+    trees_of(&workers, before, texts)
+}
+
+// What texts come to, where the last file before them has this number, and what other work answers. This thread does the other work, while the texts are read at
+// once by all workers but one. Want of memory is the one error of the reading.
+fn read_beside<R: Threads + Sync, G, F: FnMut() -> B, B>(
+    workers: &Workers<'_, R, G>,
+    before: u32,
+    texts: &[Bytes],
+    other: &mut F,
+) -> (Result<List<TextTree>, Memory>, B)
+    requires room { before + length texts.now < 2 ^ 32 }
+    requires other { F.pre other.old }
+    ensures trees { IfOk result.0 (AreTreesOf (before + 1) texts.now) }
+    ensures other { F.step other.old result.1 other.new }
+{
+    let threads = workers.threads;
+    let alloc = workers.alloc;
+    let count = workers.count.saturating_sub(1);
+    let mut read = || -> Result<List<TextTree>, Memory>
+        requires { IsSync R.row × (before + length texts.now < 2 ^ 32) }
+        ensures { IfOk result (AreTreesOf (before + 1) texts.entry.now) }
+    { read_at_once(threads, alloc, count, before, texts) };
+    join_mut(threads, &mut read, other)
+}
+
 // The same of all that these texts come to, of which none is left.
 fn take_all(
     alloc: Global,
@@ -304,7 +348,7 @@ fn take_and_read<R: Threads + Sync, G>(
         requires { (before + length given < 2 ^ 32) × ((texts : Items (Items ℕ)) × AreTreesOf (before + 1) texts given) }
         ensures { (texts : Items (Items ℕ)) → AreTreesOf (before + 1) texts given.entry → TakesPart before texts count resolver.entry.now resolver.exit.now result }
     { take_all(alloc, before, &mut given, count, resolver) };
-    let (read, taken) = trees_beside(workers, behind, next.as_slice(), &mut give);
+    let (read, taken) = read_beside(workers, behind, next.as_slice(), &mut give);
     match taken {
         Err(ended) => Err(ended),
         Ok(sum) => match read {

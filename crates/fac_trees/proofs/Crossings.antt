@@ -71,6 +71,3 @@ form_send = search (sendable, lists.the_send, places.the_field_send, kinds.the_f
 
 pub tree_send : IsSend TextTree.the_row
 tree_send = search (sendable, lists.the_send, form_send) depth 20
-
-pub trees_send : IsSend (Listed.the_row TextTree.the_row)
-trees_send = search (sendable, lists.the_send, tree_send) depth 20

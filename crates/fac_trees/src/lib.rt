@@ -6,5 +6,5 @@ mod pieces;
 mod text_tree;
 
 pub use parts::parts_of;
-pub use pieces::trees_beside;
+pub use pieces::trees_of;
 pub use text_tree::{TextTree, tree_of};

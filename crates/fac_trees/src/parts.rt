@@ -7,11 +7,10 @@ use std::alloc::Global;
 use std::mem;
 
 // A part has so many bytes at least before it is full, so that small texts are read at once.
-const FEW_BYTES: u64 = 32_768;
+const FEW_BYTES: u64 = 65_536;
 
-// A part has at most this share of all bytes, or few, or it is one text: so the trees that stand in memory at once, those of two parts, are few beside what all
-// texts come to.
-const PARTS: u64 = 8;
+// A part has at most this share of all bytes, or few, or it is one text: so the trees that stand in memory at once are few beside what all texts come to.
+const PARTS: u64 = 4;
 
 // How many bytes texts have together.
 fn bytes_of(texts: &[Bytes]) -> u64 {
