@@ -325,42 +325,63 @@ trees_done part left first count file sum before now e so_far =
 
 -- Parts.
 
--- the first of the parts that are left is taken
-pub parts_more :
-    (all : List (List ℕ)) (left next : List (List (List ℕ))) (part : List (List ℕ)) (first count file sum more added : ℕ) (before between now : Resolver) →
-    left ≡ part ∷ next → added ≡ length part → TakenBetween all (texts_in left) first count file sum before between → TakesPart file part sum between now (Ok more) →
-    TakenBetween all (texts_in next) first count (file + added) more before now
-parts_more all left next part first count file sum more added before between now e at so_far takes =
-    let cut = subst (λ (ts : List (List ℕ)). TakenBetween all ts first count file sum before between) (ap (λ (ps : List (List (List ℕ))). texts_in ps) e) so_far in
-    subst (λ (n : ℕ). TakenBetween all (texts_in next) first count (file + n) more before now) (sym at) (part_between all part (texts_in next) first count file sum more before between now cut takes)
-
--- or it ends the work
-pub parts_end :
-    (all : List (List ℕ)) (left next : List (List (List ℕ))) (part : List (List ℕ)) (first count file sum : ℕ) (before between now : Resolver) (ended : Ended) →
-    left ≡ part ∷ next → TakenBetween all (texts_in left) first count file sum before between → TakesPart file part sum between now (Err ended) → TakesPart first all count before now (Err ended)
-parts_end all left next part first count file sum before between now ended e so_far ends =
-    let cut = subst (λ (ts : List (List ℕ)). TakenBetween all ts first count file sum before between) (ap (λ (ps : List (List (List ℕ))). texts_in ps) e) so_far in
-    part_ends all part (texts_in next) first count file sum before between now ended cut ends
-
 -- so many texts are left behind the first part
 pub parts_length : (left next : List (List (List ℕ))) (part : List (List ℕ)) → left ≡ part ∷ next → length (texts_in left) ≡ length part + length (texts_in next)
 parts_length left next part e = ap (λ (ps : List (List (List ℕ))). length (texts_in ps)) e ∙ length-append part (texts_in next)
 
--- or all were taken
-pub parts_done :
-    (all : List (List ℕ)) (left : List (List (List ℕ))) (file sum : ℕ) (before now : Resolver) →
-    left ≡ [] → file + length (texts_in left) ≡ length all → TakenBetween all (texts_in left) 0 0 file sum before now → TakesPart 0 all 0 before now (Ok sum)
-parts_done all left file sum before now e at so_far =
-    let none : texts_in left ≡ [] = ap (λ (ps : List (List (List ℕ))). texts_in ps) e in
-    let none_left_length : length (texts_in left) ≡ 0 = ap length none in
-    let whole : file ≡ 0 + length all = omega (arith, none_left_length, at) in
-    done_between all (texts_in left) 0 0 file sum before now none whole so_far
+-- trees wait for the names: those of the texts behind which come the others
+pub record TreesWait (all others : List (List ℕ)) (given : List TextTree) (file sum : ℕ) (before now : Resolver) : Type 0 where
+  pub texts : List (List ℕ)
+  pub are : AreTreesOf (file + 1) texts given
+  pub taken : TakenBetween all (texts ++ others) 0 0 file sum before now
+  pub all_left : file + length given + length others ≡ length all
 
--- behind the prelude the texts are taken, however they are cut into parts
-pub begun_parts :
-    (texts all : List (List ℕ)) (before now : Resolver) (r : Result ℕ Ended) →
-    all ≡ texts → TakenUpTo texts texts 1 0 before → TakesPart 0 all 0 before now r → TakesTexts texts now r
-begun_parts texts all before now (Ok sum) e begun takes =
-    all_taken texts [] (0 + length all + 1) sum now refl (takes texts [] (subst (λ (ts : List (List ℕ)). TakenUpTo texts ts 1 0 before) (sym (append-nil all ∙ e)) begun))
-begun_parts texts all before now (Err ended) e begun takes =
-    takes texts [] (subst (λ (ts : List (List ℕ)). TakenUpTo texts ts 1 0 before) (sym (append-nil all ∙ e)) begun)
+-- at the start none
+pub none_wait : (all others : List (List ℕ)) (resolver : Resolver) → others ≡ all → TreesWait all others [] 0 0 resolver resolver
+none_wait all others resolver e = record { texts = []; are = tt; taken = same_between all others 0 0 resolver e; all_left = omega (arith, ap length e) }
+
+-- those of the next part
+pub next_wait :
+    (all : List (List ℕ)) (left next : List (List (List ℕ))) (part : List (List ℕ)) (given read : List TextTree) (file sum more added : ℕ) (before between now : Resolver) →
+    left ≡ part ∷ next → added ≡ length given → (wait : TreesWait all (texts_in left) given file sum before between) →
+    TakesPart file wait.texts sum between now (Ok more) → AreTreesOf (file + length given + 1) part read → TreesWait all (texts_in next) read (file + added) more before now
+next_wait all left next part given read file sum more added before between now e at wait takes are =
+    let count : length given ≡ length wait.texts = trees_length (file + 1) wait.texts given wait.are in
+    let read_count : length read ≡ length part = trees_length (file + length given + 1) part read are in
+    let behind = part_between all wait.texts (texts_in left) 0 0 file sum more before between now wait.taken takes in
+    let cut = subst (λ (ts : List (List ℕ)). TakenBetween all ts 0 0 (file + length wait.texts) more before now) (ap (λ (ps : List (List (List ℕ))). texts_in ps) e) behind in
+    subst (λ (n : ℕ). TreesWait all (texts_in next) read (file + n) more before now) (sym at) (record {
+      texts = part;
+      are = are;
+      taken = subst (λ (n : ℕ). TakenBetween all (part ++ texts_in next) 0 0 (file + n) more before now) (sym count) cut;
+      all_left = omega (arith, read_count, parts_length left next part e, wait.all_left);
+    })
+
+-- or one of the texts of those that wait ends the work
+pub wait_ends :
+    (all others : List (List ℕ)) (given : List TextTree) (file sum : ℕ) (before between now : Resolver) (ended : Ended) →
+    (wait : TreesWait all others given file sum before between) → TakesPart file wait.texts sum between now (Err ended) → TakesPart 0 all 0 before now (Err ended)
+wait_ends all others given file sum before between now ended wait ends = part_ends all wait.texts others 0 0 file sum before between now ended wait.taken ends
+
+-- no text is left but theirs
+pub last_wait :
+    (all : List (List ℕ)) (left : List (List (List ℕ))) (given : List TextTree) (file sum : ℕ) (before between now : Resolver) (r : Result ℕ Ended) →
+    left ≡ [] → (wait : TreesWait all (texts_in left) given file sum before between) → TakesPart file wait.texts sum between now r → TakesPart 0 all 0 before now r
+last_wait all left given file sum before between now (Ok more) e wait takes =
+    let none : texts_in left ≡ [] = ap (λ (ps : List (List (List ℕ))). texts_in ps) e in
+    let none_length : length (texts_in left) ≡ 0 = ap length none in
+    let count : length given ≡ length wait.texts = trees_length (file + 1) wait.texts given wait.are in
+    let whole : file + length wait.texts ≡ 0 + length all = omega (arith, none_length, count, wait.all_left) in
+    done_between all (texts_in left) 0 0 (file + length wait.texts) more before now none whole (part_between all wait.texts (texts_in left) 0 0 file sum more before between now wait.taken takes)
+last_wait all left given file sum before between now (Err ended) e wait ends = wait_ends all (texts_in left) given file sum before between now ended wait ends
+
+-- the texts are taken, however they are cut into parts
+pub parts_taken : (texts all : List (List ℕ)) (before now : Resolver) (r : Result ℕ Ended) → all ≡ texts → TakesPart 0 all 0 before now r → TakesPart 0 texts 0 before now r
+parts_taken texts all before now r e takes = subst (λ (ts : List (List ℕ)). TakesPart 0 ts 0 before now r) e takes
+
+-- they are taken behind the prelude
+pub begun_texts : (texts : List (List ℕ)) (before now : Resolver) (r : Result ℕ Ended) → TakenUpTo texts texts 1 0 before → TakesPart 0 texts 0 before now r → TakesTexts texts now r
+begun_texts texts before now (Ok sum) begun takes =
+    all_taken texts [] (0 + length texts + 1) sum now refl (takes texts [] (subst (λ (ts : List (List ℕ)). TakenUpTo texts ts 1 0 before) (sym (append-nil texts)) begun))
+begun_texts texts before now (Err ended) begun takes =
+    takes texts [] (subst (λ (ts : List (List ℕ)). TakenUpTo texts ts 1 0 before) (sym (append-nil texts)) begun)

@@ -1,6 +1,8 @@
 //! The steps of every command from the texts of its files to their names. Each file is read form by form, and its forms go to the names at once, so no tree
-//! stands in memory. Where there are two workers or more, the files of one part of the texts are read at once, and only their trees stand in memory.
+//! stands in memory. Where there are two workers or more, the texts are taken in parts: the files of one are read at once while those of the part before it go to
+//! the names, and only their trees stand in memory.
 ghost use Rattle.std.specs.Prelude.{◌≡◌, ◌<◌, ◌+◌, ◌^◌, List as Items, ℕ, Ok, [], length, IfOk, IfSome};
+ghost use Rattle.std.specs.Thread.{IsSync};
 ghost use Rattle.fac_source.specs.declared.token.Token.{Token as TokenSeen};
 ghost use Rattle.fac_source.specs.declared.tree.Form.{Form as FormSeen};
 ghost use Rattle.fac_token.specs.Tokens.{Tokenizes};
@@ -11,7 +13,7 @@ ghost use Rattle.fac_trees.specs.TextTrees.{AreTreesOf, IsTreeOf, texts_in};
 ghost use Rattle.fac_prelude.specs.PreludeText.{prelude_text};
 ghost use Rattle.fac_notes.specs.declared.report.Report.TheVariants.{Bytes as bytes_report};
 ghost use Rattle.fac_tool.specs.inner.StepEnds.{fault_ending, tree_ending, reported as reported_ending};
-ghost use Rattle.fac_tool.specs.inner.FormsTaken.{HasTokens, HandsOn, AddsFile, TakesNext, TakesFile, TakesPart, TakesTexts, LastGrows, FileAdds};
+ghost use Rattle.fac_tool.specs.inner.FormsTaken.{HasTokens, HandsOn, AddsFile, TakesNext, TakesFile, TakesPart, TakesAndReads, TakesTexts, LastGrows, FileAdds};
 
 use crate::definitions::definitions_of;
 use crate::ended::{bare, reported};
@@ -19,13 +21,14 @@ use crate::{ByteFault, Ended, Report, every_text_is_a_source};
 use fac_base::{Bytes, List, Memory, Queue};
 use fac_names::Resolver;
 use fac_notes::status::NO_MEMORY;
-use fac_par::Workers;
+use fac_par::{NoGate, Workers};
 use fac_parse::{ParseFault, Parser};
 use fac_source::{Form, Token};
 use fac_token::{TokenFault, tokens};
 use fac_trees::{TextTree, parts_of, trees_of};
 use std::alloc::Global;
-use std::thread::Threads;
+use std::mem;
+use std::thread::{Threads, join_mut};
 
 // The ending by a fault of bytes.
 fn byte_fault(file: u32, at: u64, why: ByteFault) -> Ended
@@ -264,41 +267,98 @@ fn take_trees(
     Ok(sum)
 }
 
-// What texts come to that are read at once, and which are given back to memory.
-fn read_at_once<R: Threads + Sync, G>(
-    workers: &Workers<'_, R, G>,
+// What texts come to that are read at once by so many workers, where the last file before them has this number. Want of memory is the one error.
+fn read_at_once<R: Threads + Sync>(
+    threads: &R,
+    alloc: Global,
+    count: u32,
     before: u32,
-    texts: List<Bytes>,
+    texts: &[Bytes],
 ) -> Result<List<TextTree>, Memory>
-    requires { before + length texts < 2 ^ 32 }
-    ensures { IfOk result (AreTreesOf (before + 1) texts) }
+    requires { before + length texts.now < 2 ^ 32 }
+    ensures { IfOk result (AreTreesOf (before + 1) texts.now) }
 {
-    trees_of(workers, before, texts.as_slice())
+    let workers = Workers {
+        threads,
+        alloc,
+        count,
+        gate: &NoGate,
+    };
+    trees_of(&workers, before, texts)
 }
 
-// Gives the files of these texts to the names, where the last file before them has this number, and adds their definitions to a number. Several of them are read
-// at once.
-fn take_part<R: Threads + Sync, G>(
+// What texts come to, where the last file before them has this number, and what other work answers. This thread does the other work, while the texts are read at
+// once by all workers but one. Want of memory is the one error of the reading.
+fn read_beside<R: Threads + Sync, G, F: FnMut() -> B, B>(
     workers: &Workers<'_, R, G>,
     before: u32,
-    texts: List<Bytes>,
+    texts: &[Bytes],
+    other: &mut F,
+) -> (Result<List<TextTree>, Memory>, B)
+    requires room { before + length texts.now < 2 ^ 32 }
+    requires other { F.pre other.old }
+    ensures trees { IfOk result.0 (AreTreesOf (before + 1) texts.now) }
+    ensures other { F.step other.old result.1 other.new }
+{
+    let threads = workers.threads;
+    let alloc = workers.alloc;
+    let count = workers.count.saturating_sub(1);
+    let mut read = || -> Result<List<TextTree>, Memory>
+        requires { IsSync R.row × (before + length texts.now < 2 ^ 32) }
+        ensures { IfOk result (AreTreesOf (before + 1) texts.entry.now) }
+    { read_at_once(threads, alloc, count, before, texts) };
+    join_mut(threads, &mut read, other)
+}
+
+// The same of all that these texts come to, of which none is left.
+fn take_all(
+    alloc: Global,
+    before: u32,
+    trees: &mut List<TextTree>,
     count: u64,
     resolver: &mut Resolver,
 ) -> Result<u64, Ended>
-    requires { before + length texts < 2 ^ 32 }
-    ensures { TakesPart before texts count resolver.old resolver.new result }
+    requires short { before + length trees.old < 2 ^ 32 }
+    requires come { (texts : Items (Items ℕ)) × AreTreesOf (before + 1) texts trees.old }
+    ensures { (texts : Items (Items ℕ)) → AreTreesOf (before + 1) texts trees.old → TakesPart before texts count resolver.old resolver.new result }
+{
+    let all = mem::replace(trees, List::new(alloc));
+    take_trees(alloc, before, all, count, resolver)
+}
+
+// Gives the files of these trees to the names, where the last file before them has this number, and adds their definitions to a number. Meanwhile the texts behind
+// them are read at once, and then given back to memory.
+fn take_and_read<R: Threads + Sync, G>(
+    workers: &Workers<'_, R, G>,
+    before: u32,
+    trees: List<TextTree>,
+    count: u64,
+    next: List<Bytes>,
+    resolver: &mut Resolver,
+) -> Result<(u64, List<TextTree>), Ended>
+    requires short { before + length trees + length next < 2 ^ 32 }
+    requires come { (texts : Items (Items ℕ)) × AreTreesOf (before + 1) texts trees }
+    ensures { (texts : Items (Items ℕ)) → AreTreesOf (before + 1) texts trees → TakesAndReads before texts (before + length trees) next count resolver.old resolver.new result }
 {
     every_text_is_a_source();
-    if workers.count < 2 || texts.len() < 2 {
-        return take_in_turn(workers.alloc, before, texts, count, resolver);
-    }
-    match read_at_once(workers, before, texts) {
-        Err(_) => Err(bare(NO_MEMORY, 0)),
-        Ok(trees) => take_trees(workers.alloc, before, trees, count, resolver),
+    let alloc = workers.alloc;
+    let behind = before + trees.len();
+    let mut given = trees;
+    let mut give = || -> Result<u64, Ended>
+        requires { (before + length given < 2 ^ 32) × ((texts : Items (Items ℕ)) × AreTreesOf (before + 1) texts given) }
+        ensures { (texts : Items (Items ℕ)) → AreTreesOf (before + 1) texts given.entry → TakesPart before texts count resolver.entry.now resolver.exit.now result }
+    { take_all(alloc, before, &mut given, count, resolver) };
+    let (read, taken) = read_beside(workers, behind, next.as_slice(), &mut give);
+    match taken {
+        Err(ended) => Err(ended),
+        Ok(sum) => match read {
+            Err(_) => Err(bare(NO_MEMORY, 0)),
+            Ok(trees) => Ok((sum, trees)),
+        },
     }
 }
 
-// Gives the files of texts in parts to the names, behind the prelude. How many definitions they have.
+// Gives the files of texts in parts to the names, behind the prelude, each part while the next one is read. How many definitions they have.
 fn take_parts<R: Threads + Sync, G>(
     workers: &Workers<'_, R, G>,
     parts: List<List<Bytes>>,
@@ -307,18 +367,43 @@ fn take_parts<R: Threads + Sync, G>(
     requires { length (texts_in parts) < 2 ^ 32 }
     ensures { TakesPart 0 (texts_in parts) 0 resolver.old resolver.new result }
 {
+    let alloc = workers.alloc;
     let mut left = Queue::new(parts.into_vec());
+    let mut trees = List::new(alloc);
     let mut before = 0u32;
     let mut count = 0u64;
     'parts: while let Some(part) = left.take() {
-        let more = part.len();
-        match take_part(workers, before, part, count, resolver) {
+        let more = trees.len();
+        match take_and_read(workers, before, trees, count, part, resolver) {
             Err(ended) => return Err(ended),
-            Ok(sum) => count = sum,
+            Ok((sum, next)) => {
+                count = sum;
+                trees = next;
+            }
         }
         before += more;
     }
-    Ok(count)
+    take_trees(alloc, before, trees, count, resolver)
+}
+
+// Gives the files of texts to the names, behind the prelude. How many definitions they have. Where there are two workers and two texts, or more, several texts are
+// read at once.
+fn take_behind_prelude<R: Threads + Sync, G>(
+    workers: &Workers<'_, R, G>,
+    texts: List<Bytes>,
+    resolver: &mut Resolver,
+) -> Result<u64, Ended>
+    requires { length texts < 2 ^ 32 }
+    ensures { TakesPart 0 texts 0 resolver.old resolver.new result }
+{
+    every_text_is_a_source();
+    if workers.count < 2 || texts.len() < 2 {
+        return take_in_turn(workers.alloc, 0, texts, 0, resolver);
+    }
+    match parts_of(workers.alloc, texts) {
+        Err(_) => Err(bare(NO_MEMORY, 0)),
+        Ok(parts) => take_parts(workers, parts, resolver),
+    }
 }
 
 /// Gives the prelude, which is file 0, to the names, and the texts of a command's files, which are numbered from 1. How many definitions the texts have.
@@ -334,11 +419,7 @@ pub fn take_texts<R: Threads + Sync, G>(
     let _count = texts.len();
     let alloc = workers.alloc;
     match take_prelude(alloc, resolver) {
-        Err(ended) => return Err(ended),
-        Ok(_) => {}
-    }
-    match parts_of(alloc, texts) {
-        Err(_) => Err(bare(NO_MEMORY, 0)),
-        Ok(parts) => take_parts(workers, parts, resolver),
+        Err(ended) => Err(ended),
+        Ok(_) => take_behind_prelude(workers, texts, resolver),
     }
 }

@@ -9,6 +9,8 @@ use Rattle.fac_token.specs.Tokens.{Tokenizes}
 use Rattle.fac_parse.specs.declared.parser.Parser.{Parser}
 use Rattle.fac_parse.specs.Handed.{HasHandedOut}
 use Rattle.fac_parse.specs.Trees.{Reads}
+use Rattle.fac_trees.specs.declared.text_tree.TextTree.{TextTree}
+use Rattle.fac_trees.specs.TextTrees.{AreTreesOf}
 use Rattle.fac_names.specs.declared.resolver.Resolver.{Resolver}
 use Rattle.fac_names.specs.TakenForms.{HasTaken}
 use Rattle.fac_names.specs.Resolution.{resolved}
@@ -83,6 +85,11 @@ pub record TakenUpTo (texts left : List (List ℕ)) (file count : ℕ) (resolver
 abbrev pub TakesPart : ℕ → List (List ℕ) → ℕ → Resolver → Resolver → Result ℕ Ended → Type 0
 TakesPart file part count before now (Ok sum) = (texts rest : List (List ℕ)) → TakenUpTo texts (part ++ rest) (file + 1) count before → TakenUpTo texts rest (file + length part + 1) sum now
 TakesPart file part count before now (Err ended) = (texts rest : List (List ℕ)) → TakenUpTo texts (part ++ rest) (file + 1) count before → EndsRead texts ended
+
+-- These texts come next, and are taken so; and it was read what others come to, where the last file before these has a number.
+abbrev pub TakesAndReads : ℕ → List (List ℕ) → ℕ → List (List ℕ) → ℕ → Resolver → Resolver → Result (ℕ × List TextTree) Ended → Type 0
+TakesAndReads file part behind next count before now (Ok both) = TakesPart file part count before now (Ok both.0) × AreTreesOf (behind + 1) next both.1
+TakesAndReads file part behind next count before now (Err ended) = TakesPart file part count before now (Err ended)
 
 -- the trees of texts were taken, and the texts have so many definitions
 pub record TextsTaken (texts : List (List ℕ)) (resolver : Resolver) (count : ℕ) : Type 0 where
