@@ -13,11 +13,7 @@ use std::alloc::Global;
 use std::thread::Threads;
 
 // Puts the names that texts define behind others.
-fn push_all(
-    alloc: Global,
-    names: &mut List<Bytes>,
-    given: &[(Text, Bytes)],
-) -> Result<(), Memory>
+fn push_all(alloc: Global, names: &mut List<Bytes>, given: &[(Text, Bytes)]) -> Result<(), Memory>
     ensures { OnOk result (AddsAll (map (λ pair. pair.1) given.now) names.old names.new) }
 {
     for pair in given {

@@ -297,8 +297,7 @@ module _
   done_answers next count ticks before mid now rest (reply.Ran n) so a =
       let lines = lines_with_header a.0 in
       let same : lines ≡ stack_behind P (session_run s input TICKS) = so.texts a.0 a.1 ∙ sym (ap (stack_behind P) so.r_is) in
-      let taken = pieces_then (session_run s input) ticks lines before mid.output now.output so.pieces a.3.took.taken a.3.took.pieces in
-      (
+      let taken = pieces_then (session_run s input) ticks lines before mid.output now.output so.pieces a.3.took.taken a.3.took.pieces in (
         done_ran next count ticks n before mid now rest a.0 so a.1 a.2 a.3,
         subst (λ (k : ℕ). RunPieces (session_run s input) k (stack_behind P (session_run s input TICKS)) before now.output) (sym a.2) (subst (λ (last : List ℕ). RunPieces (session_run s input) ticks last before now.output) same taken),
       )

@@ -8,8 +8,7 @@ use Rattle.fac_listener.proofs.session.Session.go_on.Goals as goal
 
 pub machine_for-requires-after_bounds : goal.machine_for-requires-after_bounds
 machine_for-requires-after_bounds g c κs within =
-    let on = c.requires.1 in
-    (
+    let on = c.requires.1 in (
       whole_for on.1.program _ c.args.accepted.checked.closed on.2.accepts,
       (on.0, on.1, on.2.holds, text_goes_longer c.known_programs_stay.ensures c.known_behind_texts_is_known.ensures c.args.self.now.texts c.args.machine.now c.args.accepted c.args.text on.0 on.1 on.2, on.2.accepts),
     )
