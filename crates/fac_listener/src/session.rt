@@ -116,6 +116,9 @@ fn first_machine<R: Threads + Sync, G: Gate + Sync>(
     Machine::new(workers.alloc, image)
 }
 
+// Gives a machine and a text up, since memory was wanted.
+fn give_up(_machine: Machine, _text: Bytes) {}
+
 // Whether a session has ended with a reply.
 fn ends(reply: &Reply) -> bool
     ensures { result ≡ ends_session reply.now }
@@ -169,7 +172,17 @@ impl Session {
         self.machine.is_none()
     }
 
-    // Keeps the machine of a text that was taken, which has definitions alone.
+    // Keeps a text that waits for its end, with this machine.
+    fn wait(&mut self, machine: Machine, text: Bytes)
+        ensures texts { self.new.texts ≡ self.old.texts }
+        ensures waiting { self.new.waiting ≡ text }
+        ensures machine { self.new.machine ≡ some_machine machine }
+    {
+        self.waiting = text;
+        self.machine = Some(machine);
+    }
+
+    // Keeps this machine, where no text waits: that of a text with definitions alone, or that of before a refused one.
     fn define(&mut self, alloc: Global, machine: Machine)
         ensures texts { self.new.texts ≡ self.old.texts }
         ensures waiting { self.new.waiting ≡ [] }
@@ -245,6 +258,23 @@ impl Session {
         }
     }
 
+    // Goes on with an accepted text, and gives the machine of before it up.
+    fn accept<R: Threads + Sync, G: Gate + Sync, S: Source, K: Sink>(
+        &mut self,
+        workers: &Workers<'_, R, G>,
+        machine: Machine,
+        accepted: Accepted,
+        text: Bytes,
+        channels: &mut Channels<S, K>,
+    ) -> Reply
+        requires { (self.old.machine ≡ no_machine) × ((s : Standing) × (q : KnownSeen) × TextGoesOn self.old.texts machine accepted text s q) }
+        ensures replies { OnChannels channels.old channels.new (λ before now input left. (s : Standing) (q : KnownSeen) → TextGoesOn self.old.texts machine accepted text s q → TextAnswers s text (goes_on q) before now self.new result input left) }
+        ensures ended { has_ended self.new ≡ ends_session result }
+        ensures faults { CountsFaults channels.old channels.new (IsInputFault result) (IsWriteFault result) }
+    {
+        self.go_on(workers, &machine, accepted, text, channels)
+    }
+
     // Takes a text, where this machine holds what stands.
     fn take<R: Threads + Sync, G: Gate + Sync, S: Source, K: Sink>(
         &mut self,
@@ -261,10 +291,12 @@ impl Session {
         one_source();
         let count = machine.stack().len() as u64;
         match meaning_behind(workers, &self.texts, count, &text) {
-            Meaning::Memory => Reply::Memory { ticks: 0 },
+            Meaning::Memory => {
+                give_up(machine, text);
+                Reply::Memory { ticks: 0 }
+            }
             Meaning::Waits { at } => {
-                self.waiting = text;
-                self.machine = Some(machine);
+                self.wait(machine, text);
                 Reply::More(Report::Syntax {
                     file: 1,
                     at,
@@ -272,11 +304,10 @@ impl Session {
                 })
             }
             Meaning::Refused(why) => {
-                self.waiting = Bytes::new(workers.alloc);
-                self.machine = Some(machine);
+                self.define(workers.alloc, machine);
                 Reply::Refused(why)
             }
-            Meaning::Accepted(accepted) => self.go_on(workers, &machine, accepted, text, channels),
+            Meaning::Accepted(accepted) => self.accept(workers, machine, accepted, text, channels),
         }
     }
 

@@ -1,4 +1,4 @@
-use Rattle.std.proofs.Common.{inl, refl}
+use Rattle.std.proofs.Common.{inl}
 use Rattle.fac_lines.proofs.ChannelLemmas.{no_faults}
 use Rattle.fac_lines.proofs.InputLemmas.{reads_so, unread}
 use Rattle.fac_listener.specs.inner.SessionSteps.{line_session}
@@ -34,7 +34,7 @@ pub returns-in-Ok-machine_for-clause-replies : goal.returns-in-Ok-machine_for-cl
 returns-in-Ok-machine_for-clause-replies g c =
     reads_so _ _ _ _ c.run.ensures.answers
     (λ input left h s q on.
-    text_answers c.phrases_are_not_stuck.ensures c.known_programs_stay.ensures c.known_behind_texts_is_known.ensures c.args.self.now.texts _ c.args.machine.now c.in-Ok-machine_for.next c.args.accepted c.args.text c.in-Ok-machine_for.ensures c.in-Ok.ensures
+    text_answers c.phrases_are_not_stuck.ensures c.known_programs_stay.ensures c.known_behind_texts_is_known.ensures c.args.self.now.texts _ c.args.machine.now c.in-Ok-machine_for.next c.args.accepted c.args.text c.in-Ok-machine_for.ensures c.in-Ok.ensures.ok
     _ _ _ c.run.result input left h s q on)
 
 pub returns-in-Err-clause-ended : goal.returns-in-Err-clause-ended

@@ -3,8 +3,8 @@ use Rattle.fac_listener.proofs.SessionLemmas.{line_answers}
 use Rattle.fac_listener.proofs.StepLemmas.{kept_ends}
 use Rattle.fac_listener.proofs.session.Session.run_it.Goals as goal
 
-pub run_phrase-requires : goal.run_phrase-requires
-run_phrase-requires g c = c.requires
+pub run_phrase-reply-requires : goal.run_phrase-reply-requires
+run_phrase-reply-requires g c = c.requires
 
 pub returns-clause-answers : goal.returns-clause-answers
 returns-clause-answers g c =
