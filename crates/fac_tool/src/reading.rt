@@ -327,7 +327,31 @@ fn take_all(
 }
 
 // Gives the files of these trees to the names, where the last file before them has this number, and adds their definitions to a number. Meanwhile the texts behind
-// them are read at once, and then given back to memory.
+// them are read at once.
+fn take_beside<R: Threads + Sync, G>(
+    workers: &Workers<'_, R, G>,
+    before: u32,
+    trees: List<TextTree>,
+    count: u64,
+    next: &[Bytes],
+    resolver: &mut Resolver,
+) -> (Result<List<TextTree>, Memory>, Result<u64, Ended>)
+    requires short { before + length trees + length next.now < 2 ^ 32 }
+    requires come { (texts : Items (Items ℕ)) × AreTreesOf (before + 1) texts trees }
+    ensures reads { IfOk result.0 (AreTreesOf (before + length trees + 1) next.now) }
+    ensures takes { (texts : Items (Items ℕ)) → AreTreesOf (before + 1) texts trees → TakesPart before texts count resolver.old resolver.new result.1 }
+{
+    let alloc = workers.alloc;
+    let behind = before + trees.len();
+    let mut given = trees;
+    let mut give = || -> Result<u64, Ended>
+        requires { (before + length given < 2 ^ 32) × ((texts : Items (Items ℕ)) × AreTreesOf (before + 1) texts given) }
+        ensures { (texts : Items (Items ℕ)) → AreTreesOf (before + 1) texts given.entry → TakesPart before texts count resolver.entry.now resolver.exit.now result }
+    { take_all(alloc, before, &mut given, count, resolver) };
+    read_beside(workers, behind, next, &mut give)
+}
+
+// The same, and the texts behind them are given back to memory.
 fn take_and_read<R: Threads + Sync, G>(
     workers: &Workers<'_, R, G>,
     before: u32,
@@ -341,14 +365,7 @@ fn take_and_read<R: Threads + Sync, G>(
     ensures { (texts : Items (Items ℕ)) → AreTreesOf (before + 1) texts trees → TakesAndReads before texts (before + length trees) next count resolver.old resolver.new result }
 {
     every_text_is_a_source();
-    let alloc = workers.alloc;
-    let behind = before + trees.len();
-    let mut given = trees;
-    let mut give = || -> Result<u64, Ended>
-        requires { (before + length given < 2 ^ 32) × ((texts : Items (Items ℕ)) × AreTreesOf (before + 1) texts given) }
-        ensures { (texts : Items (Items ℕ)) → AreTreesOf (before + 1) texts given.entry → TakesPart before texts count resolver.entry.now resolver.exit.now result }
-    { take_all(alloc, before, &mut given, count, resolver) };
-    let (read, taken) = read_beside(workers, behind, next.as_slice(), &mut give);
+    let (read, taken) = take_beside(workers, before, trees, count, next.as_slice(), resolver);
     match taken {
         Err(ended) => Err(ended),
         Ok(sum) => match read {
