@@ -4,8 +4,8 @@ use Rattle.fac_listener.specs.Replies.{Replies}
 use Rattle.fac_listen.proofs.ReplyLemmas.{takes}
 use Rattle.fac_listen.proofs.hearing.Hearing.take.Goals as goal
 
-pub line-reply-requires-clause-stands : goal.line-reply-requires-clause-stands
-line-reply-requires-clause-stands g c κs within = (c.requires.behind.1.session, c.requires.behind.3.stands)
+pub line-reply-requires-after_bounds : goal.line-reply-requires-after_bounds
+line-reply-requires-after_bounds g c κs within = (c.requires.behind.1.session, c.requires.behind.3.stands)
 
 pub returns : goal.returns
 returns g c =
