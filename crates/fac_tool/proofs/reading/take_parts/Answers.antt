@@ -16,4 +16,4 @@ pub parts-preserved : goal.parts-preserved
 parts-preserved g c =
     let wait = c.parts.invariant in
     let both = c.in-Ok.ensures wait.texts wait.are in
-    next_wait (texts_in c.args.parts) c.parts.left c.take.new.self c.in-Some.part c.parts.trees c.in-Ok.next c.parts.before c.parts.count c.in-Ok.sum _ c.args.resolver.now c.parts.resolver c.take_and_read.new.resolver c.in-Some.ensures c.len.ensures wait both.0 both.1
+    next_wait (texts_in c.args.parts) c.parts.left c.take.new.self c.in-Some.part c.parts.trees c.in-Ok.next c.parts.before c.parts.count c.in-Ok.sum _ c.args.resolver.now c.parts.resolver c.take_and_read.new.resolver c.in-Some.ensures c.len-more.ensures wait both.0 both.1
