@@ -13,14 +13,15 @@ use Rattle.fac_lang.specs.Substitution.{of_method}
 use Rattle.fac_lang.proofs.SourcePrograms.{IsSessionProgram, IsSortOf, AreWordsOf, may_name}
 use Rattle.fac_lang.specs.Whole.{sort_fits}
 use Rattle.fac_lang.specs.declared.core_table.CoreWord.{CoreWord}
-use Rattle.fac_lang.specs.declared.core_table.CoreWord.TheVariants.{Call as c_call, Dip as c_dip, If as c_if, Execute as c_execute, Boa as c_boa, Cond as c_cond}
+use Rattle.fac_lang.specs.declared.core_table.CoreWord.TheVariants.{Call as c_call, Dip as c_dip, If as c_if, Execute as c_execute, Boa as c_boa, Recover as c_recover, Cond as c_cond}
 use Rattle.fac_lang.specs.Primitives.{is_built_primitive}
+use Rattle.fac_lang.specs.Faults.{fault_kind}
 use Rattle.fac_locals.specs.Literals.{first_of_word}
 use Rattle.fac_locals.specs.Closed.{ClosesSort}
 use Rattle.fac_locals.specs.declared.closing.Closed.{Closed}
 use Rattle.fac_code.specs.declared.image.Instr.{Instr}
 use Rattle.fac_code.specs.declared.image.Tables.{Tables}
-use Rattle.fac_code.specs.References.{instr_refers}
+use Rattle.fac_code.specs.References.{instr_refers, names_faults}
 use Rattle.fac_emit.specs.ProgramCode.{core_instr, item_instr, before, phrase_code, last_instr}
 use Rattle.fac_emit.proofs.BuiltCode.{and_true}
 use Rattle.fac_emit.proofs.Closings.{Closing, closing}
@@ -65,13 +66,15 @@ begins_within code C last t at more e =
 never_true : {A : Type 0} → false ≡ true → A
 never_true h = absurd (true≢false (sym h))
 
-pub core_refers : (T : Tables) (c : CoreWord) → instr_refers T (core_instr c) ≡ true
-core_refers T c_call = refl
-core_refers T c_dip = refl
-core_refers T c_if = refl
-core_refers T c_execute = refl
-core_refers T c_boa = refl
-core_refers T c_cond = refl
+-- `recover` refers to the class of the errors that it catches
+pub core_refers : (T : Tables) → names_faults T fault_kind ≡ true → (c : CoreWord) → instr_refers T (core_instr c) ≡ true
+core_refers T faults c_call = refl
+core_refers T faults c_dip = refl
+core_refers T faults c_if = refl
+core_refers T faults c_execute = refl
+core_refers T faults c_boa = refl
+core_refers T faults c_recover = faults
+core_refers T faults c_cond = refl
 
 pub last_refers : (T : Tables) (is_top : Bool) → instr_refers T (last_instr is_top) ≡ true
 last_refers T true = refl

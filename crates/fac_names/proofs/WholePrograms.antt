@@ -13,7 +13,7 @@ use Rattle.fac_lang.specs.Meaning.{sort_of}
 use Rattle.fac_lang.specs.PrimitiveWords.{PrimitiveWord, plain_inputs, plain_leaving, written_effect}
 use Rattle.fac_lang.specs.Phrases.{Phrase, end, then, Item, lit, int, yes, no, str, wrd, lit_arr, quot, word, bind, local, fry, hole, call_effect, execute_effect, next_method}
 use Rattle.fac_base.specs.Signatures.{Signature}
-use Rattle.fac_lang.specs.Whole.{IsWhole, is_nameable, all_arrays_named, all_phrases, arrays_in, arrays_named, joined, literal_fits, literal_spares, names_earlier, quotations, times_in, each_item, each_numbered, locals_bound, holes_within, item_fits, item_spares, is_body, tests_small, word_phrases, sort_fits, has_written_effect, has_generic_effect, marks_fit, effect_eq, inputs_eq, leaving_eq, names_eq, name_count, no_two, same_word, same_method, is_class, is_effect, is_generic, effect_of, has_its_holes, shape_fits, slots_of, reaches, same_class_name, each_below, plain_effect}
+use Rattle.fac_lang.specs.Whole.{IsWhole, has_faults, is_nameable, all_arrays_named, all_phrases, arrays_in, arrays_named, joined, literal_fits, literal_spares, names_earlier, quotations, times_in, each_item, each_numbered, locals_bound, holes_within, item_fits, item_spares, is_body, tests_small, word_phrases, sort_fits, has_written_effect, has_generic_effect, marks_fit, effect_eq, inputs_eq, leaving_eq, names_eq, name_count, no_two, same_word, same_method, is_class, is_effect, is_generic, effect_of, has_its_holes, shape_fits, slots_of, reaches, same_class_name, each_below, plain_effect}
 use Rattle.fac_base.specs.declared.height.Height.{Height}
 use Rattle.fac_lang.specs.declared.program.ClassDef.{ClassDef}
 use Rattle.fac_lang.specs.declared.program.Lit.{Lit}
@@ -318,6 +318,7 @@ pub record IsTogether (P : Program) : Type 0 where
   pub method_effects : list_all (has_generic_effect P) P.words ≡ true
   pub slots_differ : each_below (λ c. no_two bytes_eq (slots_of P c)) (length P.classes) ≡ true
   pub few_slots : each_below (λ c. nat_le (length (slots_of P c)) 64) (length P.classes) ≡ true
+  pub faults : has_faults P.classes ≡ true
   pub class_names_differ : no_two same_class_name P.classes ≡ true
   pub classes_end : each_below (λ c. not (reaches (length P.classes) P.classes c c)) (length P.classes) ≡ true
   pub words_differ : no_two same_word P.words ≡ true
@@ -352,6 +353,7 @@ whole P b h =
       small_tests = closed_tests (all_phrases P) h.closed;
       slots_differ = h.slots_differ;
       few_slots = h.few_slots;
+      faults = h.faults;
       class_names_differ = h.class_names_differ;
       classes_end = h.classes_end;
       words_differ = h.words_differ;
