@@ -295,8 +295,8 @@ slots_none : (n : ℕ) (cs : List ClassDef) (c : ℕ) → shape_at cs c ≡ None
 slots_none zero cs c h = refl
 slots_none (suc n) cs c h = ap (slots_by (slots_within n cs)) h
 
-pub whole_settled : (P : Program) → IsWhole P → AreSettled P.classes
-whole_settled P whole =
+pub whole_settled : (P : Program) → IsWhole P → has_faults P.classes ≡ true → AreSettled P.classes
+whole_settled P whole faults =
     let cs = P.classes in
     record {
       parts = λ d. parts_at P cs d whole.shapes_fit;
@@ -312,6 +312,6 @@ whole_settled P whole =
         | inl lt ↦ is_within (length (slots_within (length cs) cs c)) (below_true (λ d. nat_le (length (slots_within (length cs) cs d)) 64) (length cs) c whole.few_slots lt)
         | inr le ↦ let none = ap length (slots_none (length cs) cs c (no_class cs c le)) in omega (arith, none)
       ];
-      faults = whole.faults;
+      faults = faults;
       fit = λ Q longer tuples. shapes_stay P Q cs longer tuples whole.shapes_fit;
     }
