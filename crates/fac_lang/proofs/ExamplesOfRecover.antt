@@ -1,20 +1,33 @@
 -- Examples of caught errors.
-use Rattle.std.proofs.Common.{◌≡◌, List, [], ◌∷◌, refl, Some, None}
+use Rattle.std.proofs.Common.{◌≡◌, List, [], ◌∷◌, ◌++◌, refl, sym, Some, None, true, false, true≢false}
 use Rattle.std.specs.Prelude.{pos, codes}
 use Rattle.std.specs.Fmt.{digits}
 use Rattle.fac_lang.specs.declared.program.Program.{Program}
+use Rattle.fac_lang.specs.declared.program.WordDef.{WordDef}
+use Rattle.fac_lang.specs.declared.program.Sort.TheVariants.{Core as core}
 use Rattle.fac_lang.specs.declared.program.Lit.TheVariants.{Int as l_int}
+use Rattle.fac_lang.specs.declared.core_table.CoreWord.TheVariants.{Recover}
+use Rattle.fac_lang.specs.Whole.{IsWhole, plain_effect}
+use Rattle.fac_lang.proofs.DemoPrelude.{word_of}
 use Rattle.fac_lang.specs.declared.error_name.ErrorName.TheVariants.{Thrown}
 use Rattle.fac_lang.specs.Phrases.{Item, lit_arr}
 use Rattle.fac_lang.specs.Primitives.{prim_numbered, prim_fn}
 use Rattle.fac_lang.proofs.Demo.{program, done, failed, spent, stuck, runs, tuple_words, tuple_of}
-use Rattle.fac_lang.proofs.DemoWords.{quotation, number, string, itself, own, t, dup, drop, nip, rot, execute, recover, throw, +, /i, length, set-nth, show}
+use Rattle.fac_lang.proofs.DemoWords.{quotation, number, string, itself, own, t, dup, drop, nip, rot, execute, throw, +, /i, length, set-nth, show}
 
+-- its word, which no other example has
+abbrev recover_word : WordDef
+recover_word = word_of (codes "kernel") (codes "recover") (core Recover) (plain_effect (codes "try" ∷ codes "recovery" ∷ []) []) false false
+
+-- a program with it, and with the class of errors
 abbrev faulty : List Item → Program
-faulty is = program (tuple_words (codes "kernel") (codes "fault") 12 (codes "name" ∷ codes "value" ∷ codes "word" ∷ [])) ((l_int (pos 0) ∷ []) ∷ []) (tuple_of (codes "kernel") (codes "fault") None (codes "name" ∷ codes "value" ∷ codes "word" ∷ []) ∷ []) is
+faulty is = program (tuple_words (codes "kernel") (codes "fault") 12 (codes "name" ∷ codes "value" ∷ codes "word" ∷ []) ++ recover_word ∷ []) ((l_int (pos 0) ∷ []) ∷ []) (tuple_of (codes "kernel") (codes "fault") None (codes "name" ∷ codes "value" ∷ codes "word" ∷ []) ∷ []) is
 
 abbrev word>> : Item
 word>> = own 8
+
+abbrev recover : Item
+recover = own 11
 
 -- [ 1 0 /i ] [ word>> ] recover .
 pub word_told : runs (faulty (quotation (number 1 ∷ number 0 ∷ /i ∷ []) ∷ quotation (word>> ∷ []) ∷ recover ∷ show ∷ [])) 100 ≡ done 8 (codes "\"math:/i\"\n") []
@@ -62,3 +75,22 @@ thrown_on = refl
 pub stuck_stays : runs (faulty (quotation (drop ∷ []) ∷ quotation [] ∷ recover ∷ [])) 100 ≡ stuck
 unfolding prim_fn prim_numbered
 stuck_stays = refl
+
+-- What a whole program needs that has `recover`.
+pub recover_whole : IsWhole (program (tuple_words (codes "kernel") (codes "fault") 12 (codes "name" ∷ codes "value" ∷ codes "word" ∷ []) ++ recover_word ∷ []) [] (tuple_of (codes "kernel") (codes "fault") None (codes "name" ∷ codes "value" ∷ codes "word" ∷ []) ∷ []) thrown)
+unfolding prim_numbered
+recover_whole =
+    record { items_fit = refl; literals_fit = refl; sorts_fit = refl; shapes_fit = refl; arrays_earlier = refl; arrays_once = refl; top_last = refl; top_phrase = refl; top_effect = refl; items_spare = refl; literals_spare = refl; bound = refl; holes_in_fries = refl; holes_stand = refl; written_effects = refl; method_effects = refl; marks_of_bodies = refl; few_names = refl; small_tests = refl; slots_differ = refl; few_slots = refl; class_names_differ = refl; classes_end = refl; words_differ = refl; methods_differ = refl }
+
+-- without the class, with another slot, or with a class before it
+pub no_fault_class : IsWhole (program (recover_word ∷ []) [] [] []) → ⊥
+unfolding prim_numbered
+no_fault_class w = true≢false (sym w.sorts_fit)
+
+pub other_fault_slot : IsWhole (program (recover_word ∷ []) [] (tuple_of (codes "kernel") (codes "fault") None (codes "name" ∷ codes "value" ∷ codes "place" ∷ []) ∷ []) []) → ⊥
+unfolding prim_numbered
+other_fault_slot w = true≢false (sym w.sorts_fit)
+
+pub later_fault_class : IsWhole (program (recover_word ∷ []) [] (tuple_of (codes "kernel") (codes "a") None [] ∷ tuple_of (codes "kernel") (codes "fault") None (codes "name" ∷ codes "value" ∷ codes "word" ∷ []) ∷ []) []) → ⊥
+unfolding prim_numbered
+later_fault_class w = true≢false (sym w.sorts_fit)
