@@ -127,14 +127,14 @@ length_defined (suc n) (x ∷ es) = ap suc (length_defined n es)
 
 -- The first holder of a name.
 
-abbrev is_holder : List ℕ → List ℕ → Entry → Bool
+abbrev pub is_holder : List ℕ → List ℕ → Entry → Bool
 is_holder vocab name e = bytes_eq name e.name && same_table vocab e.vocab
 
 abbrev with_holder : List ℕ → List ℕ → List Entry → List Entry
 with_holder vocab name [] = []
 with_holder vocab name (e ∷ es) = cond (is_holder vocab name e) (record e { is_defined = true } ∷ es) (e ∷ with_holder vocab name es)
 
-first_is : (vocab name : List ℕ) (es rows : List Entry) (f : Entry) → filter (is_holder vocab name) es ≡ f ∷ rows → is_holder vocab name f ≡ true
+pub first_is : (vocab name : List ℕ) (es rows : List Entry) (f : Entry) → filter (is_holder vocab name) es ≡ f ∷ rows → is_holder vocab name f ≡ true
 first_is vocab name [] rows f h = absurd (nil_cons h)
   where
     nil_cons : {X : Type 0} {x : X} {xs : List X} → [] ≡ x ∷ xs → ⊥
@@ -149,7 +149,7 @@ itself : (e : Entry) → (bytes_eq e.name e.name && bytes_eq e.vocab e.vocab) �
 itself e = rw ((bytes_eq-Decides e.name e.name).1 refl, (bytes_eq-Decides e.vocab e.vocab).1 refl) refl
 
 -- an entry that isn't a holder isn't the first holder
-other_first : (vocab name : List ℕ) (e f : Entry) → is_holder vocab name e ≡ false → is_holder vocab name f ≡ true → (bytes_eq f.name e.name && bytes_eq f.vocab e.vocab) ≡ false
+pub other_first : (vocab name : List ℕ) (e f : Entry) → is_holder vocab name e ≡ false → is_holder vocab name f ≡ true → (bytes_eq f.name e.name && bytes_eq f.vocab e.vocab) ≡ false
 other_first vocab name e f p q = false_by (bytes_eq f.name e.name && bytes_eq f.vocab e.vocab) (λ g.
     let both = both_true (bytes_eq f.name e.name) (bytes_eq f.vocab e.vocab) g in
     true≢false (sym q ∙ ap (λ (m : List ℕ). bytes_eq name m && same_table vocab f.vocab) ((bytes_eq-Decides f.name e.name).0 both.0) ∙ ap (λ (v : List ℕ). bytes_eq name e.name && same_table vocab v) ((bytes_eq-Decides f.vocab e.vocab).0 both.1) ∙ p))

@@ -1,3 +1,4 @@
 pub mod Scopes
 pub mod ScopeCalls
+pub mod Marks
 pub mod inner

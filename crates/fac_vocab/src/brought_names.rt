@@ -19,6 +19,7 @@ use fac_base::Memory;
 use indexmap::{IndexMap, IndexSet};
 use std::alloc::Global;
 use std::marker::Model;
+use std::mem;
 
 /// What was brought, which contracts see with the latest first.
 #[derive(Drop)]
@@ -501,6 +502,53 @@ fn note_behind(
     }
 }
 
+// Keeps the numbers of these forms, where those of none are kept, and answers whether that was done.
+fn note_each(
+    alloc: Global,
+    names: &mut IndexMap<String, Vec<u32>>,
+    numbers: &mut IndexMap<String, Vec<u32>>,
+    prefixes: &mut IndexMap<String, IndexMap<String, u32>>,
+    lengths: &mut IndexSet<usize>,
+    forms: &[Brought],
+) -> bool
+    requires { AreIndexed names.old numbers.old prefixes.old lengths.old.keys [] }
+    ensures { IndexedWhere result names.new numbers.new prefixes.new lengths.new.keys forms.now }
+{
+    let mut is_indexed = true;
+    for (number, form) in forms.iter().enumerate() {
+        is_indexed = note_behind(
+            alloc, is_indexed, names, numbers, prefixes, lengths, form, number,
+        );
+    }
+    is_indexed
+}
+
+// What these forms brought.
+fn of_forms(alloc: Global, forms: Vec<Brought>) -> BroughtNames
+    ensures { result ≡ reverse forms.items }
+{
+    let mut names = IndexMap::new(alloc);
+    let mut numbers = IndexMap::new(alloc);
+    let mut prefixes = IndexMap::new(alloc);
+    let mut lengths = IndexSet::new(alloc);
+    let is_indexed = note_each(
+        alloc,
+        &mut names,
+        &mut numbers,
+        &mut prefixes,
+        &mut lengths,
+        forms.as_slice(),
+    );
+    BroughtNames {
+        forms,
+        names,
+        numbers,
+        prefixes,
+        lengths,
+        is_indexed,
+    }
+}
+
 impl BroughtNames {
     /// Nothing is brought.
     pub fn new(alloc: Global) -> BroughtNames
@@ -534,6 +582,25 @@ impl BroughtNames {
             name,
         );
         word_at_number(table, forms, number, name)
+    }
+
+    /// How many forms there are.
+    pub fn len(&self) -> usize
+        ensures { result ≡ length self.now }
+    {
+        self.forms.len()
+    }
+
+    /// Leaves the first few forms, which contracts see last. Where there are others the time is that of all that are left.
+    pub fn cut(&mut self, alloc: Global, count: usize)
+        ensures { (last front : List Form) → self.old ≡ front ++ last → count ≡ length last → self.new ≡ last }
+    {
+        if self.forms.len() <= count {
+            return;
+        }
+        let mut forms = mem::replace(&mut self.forms, Vec::new(alloc));
+        forms.truncate(count);
+        *self = of_forms(alloc, forms);
     }
 
     /// Adds what a form brings.

@@ -1,7 +1,7 @@
 //! Numbers under texts.
 ghost use Rattle.std.specs.Prelude.{◌≡◌, ◌++◌, ◌∷◌, [], List as Items, ℕ, if◌then◌else◌, OnOk, OnErr};
 ghost use Rattle.std.specs.Str.{bytes_eq};
-ghost use Rattle.fac_vocab.specs.inner.Index.{numbers_in};
+ghost use Rattle.fac_vocab.specs.inner.Index.{numbers_in, without_last};
 
 use fac_base::Memory;
 use indexmap::IndexMap;
@@ -32,4 +32,13 @@ pub fn add_number(
         .or_default()
         .push(number)?;
     Ok(())
+}
+
+/// Takes the last number under a text away, where there is one.
+pub fn drop_number(index: &mut IndexMap<String, Vec<u32>>, text: &str)
+    ensures { (q : Items ℕ) → numbers_in index.new q ≡ (if bytes_eq text.now q then without_last (numbers_in index.old q) else numbers_in index.old q) }
+{
+    if let Some(numbers) = index.get_mut(text) {
+        numbers.pop();
+    }
 }

@@ -1,9 +1,10 @@
 //! The least two late entries of used vocabularies, for each name.
-ghost use Rattle.std.specs.Prelude.{◌≡◌, ◌<◌, ◌++◌, ◌∷◌, [], List as Items, ℕ, None, Some, false, true, length, slice_get, string_bytes, String, if◌then◌else◌, OnOk, OnErr};
+ghost use Rattle.std.specs.Prelude.{◌≡◌, ◌<◌, ◌++◌, ◌∷◌, [], List as Items, ℕ, None, Some, false, true, length, map, slice_get, string_bytes, String, if◌then◌else◌, OnOk, OnErr};
 ghost use Rattle.std.specs.Global.{Global};
 ghost use Rattle.std.specs.List.{list_any};
 ghost use Rattle.std.specs.Str.{bytes_eq};
 ghost use Rattle.indexmap.specs.IndexMap.{get_by_text};
+ghost use Rattle.fac_lang.specs.Whole.{no_two};
 ghost use Rattle.fac_vocab.specs.Scopes.{Entry as Row, held, with_vocab};
 ghost use Rattle.fac_vocab.specs.ScopeCalls.{names_differ};
 ghost use Rattle.fac_vocab.specs.inner.Late.{late_numbers, number_by};
@@ -189,6 +190,35 @@ fn note_last(
         Ok(_) => true,
         Err(_) => false,
     }
+}
+
+// Keeps the least two with one vocabulary more that is used.
+fn note_more(alloc: Global, table: &Table, leasts: &mut Leasts, vocab: &str)
+    ensures { (used : Items (Items ℕ)) → list_any (bytes_eq vocab.now) used ≡ false → LeastWhere leasts.old.is_kept leasts.old.kept table.now used → LeastWhere leasts.new.is_kept leasts.new.kept table.now (used ++ vocab.now ∷ []) }
+{
+    let is_kept = note_vocab(alloc, leasts.is_kept, &mut leasts.kept, table, vocab);
+    leasts.is_kept = is_kept;
+}
+
+// Keeps the least two of these vocabularies, where those of none are kept.
+fn note_each(alloc: Global, table: &Table, leasts: &mut Leasts, vocabs: &[String])
+    requires differ { no_two bytes_eq (map string_bytes vocabs.now) ≡ true }
+    requires none { LeastWhere leasts.old.is_kept leasts.old.kept table.now [] }
+    ensures { LeastWhere leasts.new.is_kept leasts.new.kept table.now (map string_bytes vocabs.now) }
+{
+    for vocab in vocabs {
+        note_more(alloc, table, leasts, vocab.as_str());
+    }
+}
+
+/// Those of these used vocabularies. Where memory is wanted they aren't kept.
+pub fn leasts_of(alloc: Global, table: &Table, used: &TextSet) -> Leasts
+    ensures { LeastWhere result.is_kept result.kept table.now used.now }
+{
+    used.differ();
+    let mut leasts = Leasts::new(alloc);
+    note_each(alloc, table, &mut leasts, used.as_slice());
+    leasts
 }
 
 /// Adds a name that no vocabulary of its table holds.

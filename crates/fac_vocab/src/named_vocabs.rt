@@ -1,8 +1,9 @@
 //! The vocabularies that were named, and those that exist by them.
-ghost use Rattle.std.specs.Prelude.{◌≡◌, [], List, ℕ, Some, false, length, if◌then◌else◌, OnOk, OnErr};
+ghost use Rattle.std.specs.Prelude.{◌≡◌, [], List, ℕ, Some, false, true, length, map, string_bytes, take, if◌then◌else◌, OnOk, OnErr};
 ghost use Rattle.std.specs.List.{list_any};
 ghost use Rattle.std.specs.Str.{bytes_eq};
 ghost use Rattle.indexmap.specs.IndexMap.{get_by_text};
+ghost use Rattle.fac_lang.specs.Whole.{no_two};
 ghost use Rattle.fac_vocab.specs.Scopes.{is_companion_of, with_vocab};
 ghost use Rattle.fac_vocab.specs.inner.Roots.{root, reaches, least_length, RootedWhere};
 
@@ -11,6 +12,7 @@ use fac_base::Memory;
 use indexmap::IndexMap;
 use std::alloc::Global;
 use std::marker::Model;
+use std::mem;
 
 /// Vocabularies without repeats, in the order in which they were first named.
 #[derive(Drop)]
@@ -92,6 +94,33 @@ fn keep(alloc: Global, has_roots: bool, roots: &mut IndexMap<String, usize>, tex
     }
 }
 
+// Keeps these vocabularies, where none is kept, and answers whether that was done.
+fn keep_each(alloc: Global, roots: &mut IndexMap<String, usize>, texts: &[String]) -> bool
+    requires differ { no_two bytes_eq (map string_bytes texts.now) ≡ true }
+    requires none { RootedWhere true roots.old [] }
+    ensures { RootedWhere result roots.new (map string_bytes texts.now) }
+{
+    let mut has_roots = true;
+    for text in texts {
+        has_roots = keep(alloc, has_roots, roots, text.as_str());
+    }
+    has_roots
+}
+
+// Those of these texts.
+fn of_texts(alloc: Global, texts: TextSet) -> NamedVocabs
+    ensures { result ≡ texts }
+{
+    texts.differ();
+    let mut roots = IndexMap::new(alloc);
+    let has_roots = keep_each(alloc, &mut roots, texts.as_slice());
+    NamedVocabs {
+        texts,
+        roots,
+        has_roots,
+    }
+}
+
 impl NamedVocabs {
     /// No vocabulary was named.
     pub fn new(alloc: Global) -> Self
@@ -120,6 +149,25 @@ impl NamedVocabs {
         } else {
             self.texts.has_stem_of(text)
         }
+    }
+
+    /// How many there are.
+    pub fn len(&self) -> usize
+        ensures { result ≡ length self.now }
+    {
+        self.texts.len()
+    }
+
+    /// Leaves the first few. Where there are others the time is that of all that are left.
+    pub fn cut(&mut self, alloc: Global, count: usize)
+        ensures { self.new ≡ take count self.old }
+    {
+        if self.texts.len() <= count {
+            return;
+        }
+        let mut texts = mem::replace(&mut self.texts, TextSet::new(alloc));
+        texts.truncate(count);
+        *self = of_texts(alloc, texts);
     }
 
     /// Adds a text, which changes nothing where it is there.

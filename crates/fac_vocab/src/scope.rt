@@ -1,6 +1,7 @@
 //! Scopes: what a file's names find.
 ghost use Rattle.std.specs.Prelude.{◌≡◌, ◌++◌, ◌∷◌, [], codes, false, true, IfOk, OnOk, OnErr};
-ghost use Rattle.fac_vocab.specs.Scopes.{or_else, word_held, companion, latest, found, exists as vocab_exists, home as home_of, first_scope, entries_from, begun, entered, using_all, with_private, named, prefixed};
+ghost use Rattle.fac_vocab.specs.Marks.{GrewFrom, IsMarked};
+ghost use Rattle.fac_vocab.specs.Scopes.{Scope as ScopeSeen, or_else, word_held, companion, latest, found, exists as vocab_exists, home as home_of, first_scope, entries_from, begun, entered, using_all, with_private, named, prefixed};
 ghost use Rattle.fac_vocab.specs.inner.Rows.{numbers_named};
 ghost use Rattle.fac_vocab.specs.inner.Leasts.{LeastWhere};
 ghost use Rattle.fac_vocab.specs.ScopeCalls.{names_differ, Finds, names_between, Stands, Defines, Defers, Uses, Qualifies, BringsOne};
@@ -8,14 +9,15 @@ ghost use Rattle.fac_vocab.specs.ScopeCalls.{names_differ, Finds, names_between,
 use crate::answers::{Found, NameState, ScopeFault};
 use crate::brought::Brought;
 use crate::brought_names::BroughtNames;
-use crate::leasts::{Leasts, add_entry, use_text};
+use crate::leasts::{Leasts, add_entry, leasts_of, use_text};
+use crate::mark::Mark;
 use crate::named_vocabs::NamedVocabs;
 use crate::public_vocabs::use_each;
 use crate::standing::{found_of, names_of};
 use crate::table::Table;
 use crate::text_set::TextSet;
 use crate::vocabularies::first_vocabularies;
-use fac_base::{List, Memory, Name, Text};
+use fac_base::{Duplicate, List, Memory, Name, Text};
 use fac_lang::WordDef;
 use std::alloc::Global;
 use std::marker::Model;
@@ -134,6 +136,48 @@ impl Scope {
         self.leasts = leasts;
         self.brought = BroughtNames::new(alloc);
         Ok(())
+    }
+
+    /// How far it has come. Want of memory is the one error.
+    pub fn mark(&self, alloc: Global) -> Result<Mark, Memory>
+        ensures { IfOk result (IsMarked self.now) }
+    {
+        let current = self.current.copy(alloc)?;
+        match self.private_home.copy(alloc) {
+            Ok(private_home) => Ok(Mark {
+                entries: self.table.len(),
+                vocabs: self.vocabs.len(),
+                used: self.used.len(),
+                brought: self.brought.len(),
+                current,
+                private_home,
+                in_private: self.in_private,
+            }),
+            Err(Memory) => Err(Memory),
+        }
+    }
+
+    /// Takes all away that was added behind a mark. It needs no memory: where that for what only speeds searches up is wanted, they are slower then.
+    pub fn cut(&mut self, alloc: Global, mark: Mark)
+        ensures { (before : ScopeSeen) → IsMarked before mark → GrewFrom before self.old → self.new ≡ before }
+    {
+        let Mark {
+            entries,
+            vocabs,
+            used,
+            brought,
+            current,
+            private_home,
+            in_private,
+        } = mark;
+        self.table.cut(entries);
+        self.vocabs.cut(alloc, vocabs);
+        self.used.truncate(used);
+        self.brought.cut(alloc, brought);
+        self.leasts = leasts_of(alloc, &self.table, &self.used);
+        self.current = current;
+        self.private_home = private_home;
+        self.in_private = in_private;
     }
 
     /// Definitions go to a vocabulary, which exists from now on.

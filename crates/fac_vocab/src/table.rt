@@ -1,7 +1,8 @@
 //! The table of all names.
-ghost use Rattle.std.specs.Prelude.{◌≡◌, ◌<◌, ◌≤◌, ◌^◌, ◌++◌, ◌∷◌, [], List as Items, ℕ, None, length, true, IfOk, OnOk, OnErr};
-ghost use Rattle.fac_vocab.specs.Scopes.{held, word_held, holders};
+ghost use Rattle.std.specs.Prelude.{◌≡◌, ◌<◌, ◌≤◌, ◌^◌, ◌++◌, ◌∷◌, [], List as Items, ℕ, None, length, take, true, IfOk, OnOk, OnErr};
+ghost use Rattle.fac_vocab.specs.Scopes.{Entry as Row, held, word_held, holders};
 ghost use Rattle.fac_vocab.specs.ScopeCalls.{names_differ, standing_of};
+ghost use Rattle.fac_vocab.specs.inner.Index.{IsIndexed};
 ghost use Rattle.fac_vocab.specs.inner.Rows.{numbers_named, LeastUsed, settled, defined_at};
 ghost use Rattle.fac_vocab.specs.inner.Late.{LateWhere};
 ghost use Rattle.fac_vocab.specs.inner.Leasts.{LeastWhere};
@@ -9,7 +10,7 @@ ghost use Rattle.fac_vocab.specs.inner.Leasts.{LeastWhere};
 use crate::answers::NameState;
 use crate::entry::Entry;
 use crate::few::{FEW, first_few};
-use crate::index::{add_number, numbers_of};
+use crate::index::{add_number, drop_number, numbers_of};
 use crate::late::{Late, first_holder, note_late, word_of};
 use crate::least::Least;
 use crate::leasts::least_of;
@@ -73,6 +74,58 @@ fn define_at(entries: &mut Vec<Entry>, number: u32)
 {
     if let Some(entry) = entries.get_mut(number as usize) {
         entry.is_defined = true;
+    }
+}
+
+// Whether the late entries are kept still where the last entry of a name with these numbers goes, which may be late itself.
+fn still_kept(is_kept: bool, numbers: &[u32]) -> bool
+    ensures few { result ≡ true → length numbers.now ≤ FEW }
+    ensures kept { result ≡ true → is_kept ≡ true }
+{
+    if !is_kept {
+        return false;
+    }
+    numbers.len() <= FEW
+}
+
+// Takes the number of an entry of a name away, which is its last one.
+fn forget(index: &mut IndexMap<String, Vec<u32>>, late: &mut Late, entry: &Entry)
+    ensures indexed { (es : Items Row) → IsIndexed index.old (es ++ entry.now ∷ []) → IsIndexed index.new es }
+    ensures late { (es : Items Row) → IsIndexed index.old (es ++ entry.now ∷ []) → LateWhere late.old.is_kept late.old.own late.old.companions (es ++ entry.now ∷ []) → LateWhere late.new.is_kept late.new.own late.new.companions es }
+{
+    late.is_kept = still_kept(late.is_kept, numbers_of(index, entry.name.as_str()));
+    drop_number(index, entry.name.as_str());
+}
+
+// Takes the last entry away.
+fn cut_last(entries: &mut Vec<Entry>, index: &mut IndexMap<String, Vec<u32>>, late: &mut Late)
+    requires indexed { IsIndexed index.old entries.old.items }
+    requires some { 0 < length entries.old.items }
+    ensures entries { (es : Items Row) (e : Row) → entries.old.items ≡ es ++ e ∷ [] → entries.new.items ≡ es }
+    ensures fewer { length entries.new.items < length entries.old.items }
+    ensures indexed { IsIndexed index.new entries.new.items }
+    ensures late { LateWhere late.old.is_kept late.old.own late.old.companions entries.old.items → LateWhere late.new.is_kept late.new.own late.new.companions entries.new.items }
+{
+    match entries.pop() {
+        Some(entry) => forget(index, late, &entry),
+        None => unreachable!(),
+    }
+}
+
+// Leaves the first few entries.
+fn cut_entries(
+    entries: &mut Vec<Entry>,
+    index: &mut IndexMap<String, Vec<u32>>,
+    late: &mut Late,
+    count: usize,
+)
+    requires { IsIndexed index.old entries.old.items }
+    ensures entries { entries.new.items ≡ take count entries.old.items }
+    ensures indexed { IsIndexed index.new entries.new.items }
+    ensures late { LateWhere late.old.is_kept late.old.own late.old.companions entries.old.items → LateWhere late.new.is_kept late.new.own late.new.companions entries.new.items }
+{
+    'cutting: while count < entries.len() {
+        cut_last(entries, index, late);
     }
 }
 
@@ -222,6 +275,18 @@ impl Table {
                 Err(Memory)
             }
         }
+    }
+
+    /// Leaves the first few entries. The time is that of the others.
+    pub fn cut(&mut self, count: u32)
+        ensures { self.new ≡ take count self.old }
+    {
+        cut_entries(
+            &mut self.entries,
+            &mut self.index,
+            &mut self.late,
+            count as usize,
+        );
     }
 
     /// The first holder of a name is defined now.
