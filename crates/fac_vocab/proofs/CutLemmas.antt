@@ -212,10 +212,10 @@ settled_behind vocab name (x ∷ xs) more e es all held none =
 
 -- its parts, each cut back to a mark, are those that it had
 pub scope_is :
-    (before : Scope) (m : Mark) (now : Scope) (table : List Entry) (vocabs used : List (List ℕ)) (brought : List Brought) (new_table : List Entry) (new_vocabs new_used : List (List ℕ)) (new_brought : List Brought) → IsMarked before m → GrewFrom before now →
-    now ≡ record { table = table; vocabs = vocabs; current = now.current; in_private = now.in_private; used = used; brought = brought } → new_table ≡ take m.entries table → new_vocabs ≡ take m.vocabs vocabs → new_used ≡ take m.used used →
+    (before : Scope) (m : Mark) (now : Scope) (table : List Entry) (vocabs : List (List ℕ)) (current : List ℕ) (in_private : Bool) (used : List (List ℕ)) (brought : List Brought) (new_table : List Entry) (new_vocabs new_used : List (List ℕ)) (new_brought : List Brought) → IsMarked before m → GrewFrom before now →
+    now ≡ record { table = table; vocabs = vocabs; current = current; in_private = in_private; used = used; brought = brought } → new_table ≡ take m.entries table → new_vocabs ≡ take m.vocabs vocabs → new_used ≡ take m.used used →
     ((last front : List Brought) → brought ≡ front ++ last → m.brought ≡ length last → new_brought ≡ last) → record { table = new_table; vocabs = new_vocabs; current = m.current; in_private = m.in_private; used = new_used; brought = new_brought } ≡ before
-scope_is before m now table vocabs used brought new_table new_vocabs new_used new_brought marked grew is tables named uses brings =
+scope_is before m now table vocabs current in_private used brought new_table new_vocabs new_used new_brought marked grew is tables named uses brings =
     let entries_are : new_table ≡ before.table = tables ∙ ap (λ (s : Scope). take m.entries s.table) (sym is) ∙ begins_front before.table now.table m.entries grew.table marked.entries in
     let vocabs_are : new_vocabs ≡ before.vocabs = named ∙ ap (λ (s : Scope). take m.vocabs s.vocabs) (sym is) ∙ begins_front before.vocabs now.vocabs m.vocabs grew.vocabs marked.vocabs in
     let used_are : new_used ≡ before.used = uses ∙ ap (λ (s : Scope). take m.used s.used) (sym is) ∙ begins_front before.used now.used m.used grew.used marked.used in
