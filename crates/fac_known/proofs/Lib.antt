@@ -4,3 +4,4 @@ pub mod LongerPrograms
 pub mod GoingOn
 pub mod KnownBehind
 pub mod KeptPhrases
+pub mod GrowingScopes

@@ -11,6 +11,7 @@ use Rattle.fac_lang.specs.declared.program.WordDef.{WordDef}
 use Rattle.fac_source.specs.declared.refusal.NameFault.{NameFault}
 use Rattle.fac_source.specs.declared.tree.Form.{Form as Flat}
 use Rattle.fac_parse.specs.Trees.{AreWellFormed, IsWellFormed}
+use Rattle.fac_vocab.specs.Marks.{GrewFrom}
 use Rattle.fac_vocab.specs.Scopes.{begun, using_all}
 use Rattle.fac_items.specs.Written.{Form}
 use Rattle.fac_source.specs.Refusals.{sooner}
@@ -23,6 +24,7 @@ use Rattle.fac_names.specs.Resolution.{first_reading, resolved}
 use Rattle.fac_names.specs.declared.known.Known.{Known}
 use Rattle.fac_names.specs.Resolved.{beginning, going_on, read_files}
 use Rattle.fac_names.specs.TakenForms.{take_front, taken}
+use Rattle.fac_names.specs.TakenTexts.{scope_behind}
 
 -- Numbers.
 
@@ -95,3 +97,7 @@ FilesAreKnown = (files : List (List Flat)) (q : Known) → AreWellFormed files �
 -- So it does where a session begins in the scope in which a file begins, and uses all vocabularies.
 abbrev pub SessionsBeginKnown : Type 0
 SessionsBeginKnown = (k : Known) → IsKnown k → IsKnown (record { scope = using_all (begun k.scope); program = k.program })
+
+-- The scope behind a text has all that the scope before it has, so that it can be cut back.
+abbrev pub ScopesGrow : Type 0
+ScopesGrow = (k : Known) (forms : List Flat) → IsKnown k → GrewFrom k.scope (scope_behind k forms)

@@ -1,5 +1,5 @@
 //! Laws of what is known, each on the contract of a function that does nothing.
-ghost use Rattle.fac_known.specs.Laws.{FilesAreKnown, FormsGrow, KnownGoesOn, KnownStays, ProgramsKeepPhrases, SessionsBeginKnown};
+ghost use Rattle.fac_known.specs.Laws.{FilesAreKnown, FormsGrow, KnownGoesOn, KnownStays, ProgramsKeepPhrases, ScopesGrow, SessionsBeginKnown};
 
 /// A form, and so a later file, changes no number of what stands before it.
 pub fn forms_keep_numbers()
@@ -31,4 +31,9 @@ pub fn sessions_begin_known()
 /// Whatever text goes on behind what belongs together, what it comes to belongs together, so its program is whole.
 pub fn known_goes_on()
     ensures { KnownGoesOn }
+{}
+
+/// The scope behind a text, whether one of its names is refused or none, has all that the scope before it has.
+pub fn scopes_grow()
+    ensures { ScopesGrow }
 {}

@@ -5,5 +5,5 @@ mod laws;
 
 pub use laws::{
     files_are_known, forms_keep_numbers, known_goes_on, known_programs_stay, programs_keep_phrases,
-    sessions_begin_known,
+    scopes_grow, sessions_begin_known,
 };

@@ -15,10 +15,12 @@ use Rattle.fac_names.specs.FromFlat.{form_of}
 use Rattle.fac_names.specs.Resolution.{first_reading}
 use Rattle.fac_names.specs.Resolved.{Known, answer, beginning, first_fault, going_on, program_of, read_files}
 use Rattle.fac_names.specs.TakenForms.{HasTaken, take_flat, taken}
-use Rattle.fac_names.specs.TakenTexts.{HasGoneOn, Knows}
+use Rattle.fac_names.specs.TakenTexts.{AnswersText, HasGoneOn, Knows, scope_behind}
 use Rattle.fac_names.specs.declared.resolver.Resolver.{Resolver}
+use Rattle.fac_names.specs.declared.text_end.TextEnd.{TextEnd}
+use Rattle.fac_names.specs.declared.text_end.TextEnd.TheVariants as text
 use Rattle.fac_names.specs.declared.text_resolver.TextResolver.{TextResolver}
-use Rattle.fac_names.specs.inner.Ended.{EndsKnown, EndsText}
+use Rattle.fac_names.specs.inner.Ended.{EndsKnown, EndsText, EndsWithScope}
 use Rattle.fac_names.specs.inner.State.{reading_of}
 use Rattle.fac_names.specs.inner.Taking.{take_all}
 use Rattle.fac_names.proofs.FileLemmas.{files_taken, forms_taken}
@@ -45,9 +47,15 @@ text_answers k forms r (Err (Name fault)) is h =
     sym (ap (λ (q : Reading). answer true q (first_fault q)) is) ∙ ap (λ (o : Option NameFault). answer true r o) h
 text_answers k forms r (Err Memory) is h = tt
 
-pub gone_ends : (now : TextResolver) (e : Result Known ResolveFault) → EndsText (reading_of now.so_far) e → (k : Known) (forms : List Flat) → IsWellFormed forms → HasGoneOn k forms now → Knows (going_on k forms) e
+text_ends : (k : Known) (forms : List Flat) (r : Reading) (e : TextEnd) → r ≡ take_all (beginning k) (map form_of forms) → r ≡ fold take_flat (beginning k) forms → EndsWithScope r e → AnswersText k forms e
+unfolding scope_behind
+text_ends k forms r (text.GoesOn known) is taken h = (text_answers k forms r (Ok known) is h, h.1 ∙ ap (λ (q : Reading). q.scope) taken)
+text_ends k forms r (text.Refused fault scope) is taken h = (text_answers k forms r (Err (Name fault)) is h.0, h.1 ∙ ap (λ (q : Reading). q.scope) taken)
+text_ends k forms r text.Memory is taken h = tt
+
+pub gone_ends : (now : TextResolver) (e : TextEnd) → EndsWithScope (reading_of now.so_far) e → (k : Known) (forms : List Flat) → IsWellFormed forms → HasGoneOn k forms now → AnswersText k forms e
 unfolding HasGoneOn
-gone_ends now e ends k forms fits h = text_answers k forms (reading_of now.so_far) e (h ∙ sym (forms_taken forms (beginning k) fits)) ends
+gone_ends now e ends k forms fits h = text_ends k forms (reading_of now.so_far) e (h ∙ sym (forms_taken forms (beginning k) fits)) h ends
 
 -- Files.
 

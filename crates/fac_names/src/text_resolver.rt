@@ -2,9 +2,9 @@
 ghost use Rattle.std.specs.Prelude.{◌≡◌, ◌++◌, [], IfOk, List as Items, OnOk};
 ghost use Rattle.fac_source.specs.declared.tree.Form.{Form};
 ghost use Rattle.fac_parse.specs.Trees.{AreForms, IsWellFormed};
-ghost use Rattle.fac_names.specs.Resolved.{beginning, going_on};
-ghost use Rattle.fac_names.specs.TakenTexts.{HasGoneOn, Knows};
-ghost use Rattle.fac_names.specs.inner.Ended.{EndsKnown, EndsText};
+ghost use Rattle.fac_names.specs.Resolved.{beginning};
+ghost use Rattle.fac_names.specs.TakenTexts.{AnswersText, HasGoneOn};
+ghost use Rattle.fac_names.specs.inner.Ended.{EndsKnown, EndsText, EndsWithScope};
 ghost use Rattle.fac_names.specs.inner.State.{reading_of};
 
 use crate::bodies::add_items;
@@ -12,6 +12,7 @@ use crate::files::take_forms;
 use crate::known::Known;
 use crate::resolver::known_drafts;
 use crate::so_far::SoFar;
+use crate::text_end::TextEnd;
 use fac_base::{List, Memory};
 use fac_endings::{Gathered, ended};
 use fac_lang::Program;
@@ -75,14 +76,26 @@ fn gathered(so_far: SoFar) -> (Gathered, Scope)
     (gathered, scope)
 }
 
+// What the end of a text answers, with the scope where it is refused.
+fn text_end(alloc: Global, so_far: SoFar) -> TextEnd
+    ensures { EndsWithScope (reading_of so_far) result }
+{
+    let (gathered, scope) = gathered(so_far);
+    match ended(alloc, gathered) {
+        Ok(program) => TextEnd::GoesOn(Known { scope, program }),
+        Err(ResolveFault::Name(fault)) => TextEnd::Refused(fault, scope),
+        Err(ResolveFault::Memory) => TextEnd::Memory,
+    }
+}
+
 // What the end of a text answers.
 fn end_text(alloc: Global, so_far: SoFar) -> Result<Known, ResolveFault>
     ensures { EndsText (reading_of so_far) result }
 {
-    let (gathered, scope) = gathered(so_far);
-    match ended(alloc, gathered) {
-        Ok(program) => Ok(Known { scope, program }),
-        Err(fault) => Err(fault),
+    match text_end(alloc, so_far) {
+        TextEnd::GoesOn(known) => Ok(known),
+        TextEnd::Refused(fault, _) => Err(ResolveFault::Name(fault)),
+        TextEnd::Memory => Err(ResolveFault::Memory),
     }
 }
 
@@ -145,11 +158,12 @@ impl TextResolver {
         take_forms(alloc, &mut self.so_far, forms)
     }
 
-    /// What is known behind the text, or its first name by place that is refused. The last word is the top-level phrase: the items of the text.
-    pub fn end(self, alloc: Global) -> Result<Known, ResolveFault>
-        ensures { (known : Known) (forms : Items Form) → IsWellFormed forms → HasGoneOn known forms self → Knows (going_on known forms) result }
+    /// What is known behind the text, or its first name by place that is refused. The last word is the top-level phrase: the items of the text. Where a name is
+    /// refused the scope behind the text is handed back, to be cut back to what it was.
+    pub fn end(self, alloc: Global) -> TextEnd
+        ensures { (known : Known) (forms : Items Form) → IsWellFormed forms → HasGoneOn known forms self → AnswersText known forms result }
     {
         let TextResolver { so_far } = self;
-        end_text(alloc, so_far)
+        text_end(alloc, so_far)
     }
 }

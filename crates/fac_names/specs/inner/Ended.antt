@@ -5,6 +5,8 @@ use Rattle.fac_source.specs.declared.refusal.ResolveFault.{ResolveFault}
 use Rattle.fac_source.specs.declared.refusal.ResolveFault.TheVariants.{Name, Memory}
 use Rattle.fac_names.specs.Forms.{Reading}
 use Rattle.fac_names.specs.Resolved.{Known, first_fault, program_of}
+use Rattle.fac_names.specs.declared.text_end.TextEnd.{TextEnd}
+use Rattle.fac_names.specs.declared.text_end.TextEnd.TheVariants as text
 
 -- what it answers
 abbrev pub EndsReading : Reading → Result Program ResolveFault → Type 0
@@ -17,6 +19,12 @@ abbrev pub EndsText : Reading → Result Known ResolveFault → Type 0
 EndsText r (Ok known) = (first_fault r ≡ None) × (known.scope ≡ r.scope) × (known.program ≡ program_of true r)
 EndsText r (Err (Name fault)) = first_fault r ≡ Some fault
 EndsText r (Err Memory) = Unit {0}
+
+-- where a name of it is refused, with the scope
+abbrev pub EndsWithScope : Reading → TextEnd → Type 0
+EndsWithScope r (text.GoesOn known) = EndsText r (Ok known)
+EndsWithScope r (text.Refused fault scope) = EndsText r (Err (Name fault)) × (scope ≡ r.scope)
+EndsWithScope r text.Memory = Unit {0}
 
 -- what the end of files answers with the scope
 abbrev pub EndsKnown : Reading → Result Known ResolveFault → Type 0

@@ -1,15 +1,11 @@
-use Rattle.std.proofs.Common.{ap, ◌∙◌}
-use Rattle.fac_lang.specs.PhraseView.{items_phrase}
+use Rattle.std.proofs.Common.{subst}
+use Rattle.fac_names.specs.declared.text_end.TextEnd.{TextEnd}
+use Rattle.fac_names.specs.inner.Ended.{EndsWithScope}
 use Rattle.fac_names.specs.inner.State.{reading_of}
-use Rattle.fac_names.proofs.EndingLemmas.{text_known, text_refused}
 use Rattle.fac_names.proofs.text_resolver.end_text.Goals as goal
 
-pub returns-in-Ok : goal.returns-in-Ok
-returns-in-Ok c =
-    let given = c.gathered-gathered.ensures in
-    text_known (reading_of c.args.so_far) c.gathered-gathered.result.0 given.drafts given.old_classes given.classes given.arrays given.first (record { scope = c.gathered-gathered.result.1; program = c.in-Ok.program }) (ap items_phrase given.items) given.scope c.in-Ok.ensures
+pub returns-in-GoesOn : goal.returns-in-GoesOn
+returns-in-GoesOn c = subst (λ (e : TextEnd). EndsWithScope (reading_of c.args.so_far) e) c.in-GoesOn.is c.text_end.ensures
 
-pub returns-in-Err : goal.returns-in-Err
-returns-in-Err c =
-    let given = c.gathered-gathered.ensures in
-    text_refused (reading_of c.args.so_far) c.gathered-gathered.result.0 given.drafts given.old_classes given.classes given.arrays given.first c.in-Err.fault c.in-Err.ensures
+pub returns-in-Refused : goal.returns-in-Refused
+returns-in-Refused c = (subst (λ (e : TextEnd). EndsWithScope (reading_of c.args.so_far) e) c.in-Refused.is c.text_end.ensures).0
