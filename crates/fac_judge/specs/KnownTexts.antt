@@ -1,6 +1,7 @@
--- What is known behind the prelude and the texts of a session that were accepted.
-use Rattle.std.specs.Prelude.{◌≡◌, ℕ, List, [], ◌∷◌, Ok, Err}
+-- What is known behind the prelude, and behind a text of a session.
+use Rattle.std.specs.Prelude.{◌≡◌, ℕ, List, Ok, Err}
 use Rattle.fac_source.specs.declared.tree.Form.{Form}
+use Rattle.fac_source.specs.declared.refusal.NameFault.{NameFault}
 use Rattle.fac_known.specs.KnownPrograms.{IsKnown}
 use Rattle.fac_names.specs.Resolved.{going_on}
 use Rattle.fac_names.specs.declared.known.Known.{Known}
@@ -40,21 +41,13 @@ pub record GoesOn (k : Known) (text : List ℕ) (q : Known) : Type 0 where
   pub is_read : IsReadAs 1 text (tree forms)
   pub goes_on : GoesOnWith k forms q
 
--- so do these texts, one behind the other
-abbrev pub GoOn : Known → List (List ℕ) → Known → Type 0
-GoOn k [] q = q ≡ k
-GoOn k (text ∷ texts) q = (next : Known) × GoesOn k text next × GoOn next texts q
+-- behind what is known this name of a text of these forms is refused first
+unfoldable pub RefusesName : Known → List Form → NameFault → Type 0
+RefusesName k forms fault = going_on k forms ≡ Err fault
 
--- this is known behind the prelude and these texts
-pub record IsKnownBehind (texts : List (List ℕ)) (q : Known) : Type 0 where
-  pub first : Known
-  pub is_first : IsFirst first
-  pub go_on : GoOn first texts q
+-- What is known belongs together before the first text, and behind a text where it did before.
+abbrev pub FirstIsKnown : Type 0
+FirstIsKnown = (k : Known) → IsFirst k → IsKnown k
 
--- behind the same texts one thing is known
-abbrev pub OneKnown : Type 0
-OneKnown = (texts : List (List ℕ)) (k q : Known) → IsKnownBehind texts k → IsKnownBehind texts q → k ≡ q
-
--- what is known behind texts belongs together
-abbrev pub KnownBehindAreKnown : Type 0
-KnownBehindAreKnown = (texts : List (List ℕ)) (k : Known) → IsKnownBehind texts k → IsKnown k
+abbrev pub TextsStayKnown : Type 0
+TextsStayKnown = (k q : Known) (text : List ℕ) → IsKnown k → GoesOn k text q → IsKnown q

@@ -23,16 +23,15 @@ abbrev pub body_phrase : Sort → Phrase
 body_phrase (body t) = t
 body_phrase _ = end
 
--- A text is accepted: it goes on with this program, whose top-level phrase has an item or not.
+-- A text is accepted: it goes on with what is known then, whose program is accepted, and its top-level phrase has an item or not.
 pub record IsAcceptedText (k : Known) (count : ℕ) (text : List ℕ) (accepted : Accepted) : Type 0 where
-  pub next : Known
-  pub goes_on : GoesOn k text next
-  pub accepts : IsAccepted next.program count accepted.checked.closed
-  pub runs : accepted.runs ≡ has_item (word_phrase next.program next.program.top)
+  pub goes_on : GoesOn k text accepted.known
+  pub accepts : IsAccepted accepted.known.program count accepted.checked.closed
+  pub runs : accepted.runs ≡ has_item (word_phrase accepted.known.program accepted.known.program.top)
 
--- What is answered of a text behind what is known, on a stack of so many values: what it comes to, or want of memory.
+-- What is answered of a text behind what is known, on a stack of so many values: what it comes to, or want of memory. What waits or is refused changes nothing.
 abbrev pub IsMeaning : Known → ℕ → List ℕ → Meaning → Type 0
-IsMeaning k count text (meaning.Waits at) = ComesTo k count text (waits at)
-IsMeaning k count text (meaning.Refused why) = ComesTo k count text (refuses why)
+IsMeaning k count text (meaning.Waits at q) = ComesTo k count text (waits at) × (q ≡ k)
+IsMeaning k count text (meaning.Refused why q) = ComesTo k count text (refuses why) × (q ≡ k)
 IsMeaning k count text (meaning.Accepted accepted) = IsAcceptedText k count text accepted
 IsMeaning k count text meaning.Memory = Unit {0}

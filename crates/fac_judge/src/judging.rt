@@ -8,7 +8,7 @@ ghost use Rattle.fac_check.specs.Verdicts.{verdict};
 ghost use Rattle.fac_judge.specs.JudgedPrograms.{IsJudged};
 ghost use Rattle.fac_judge.specs.inner.ClosedNames.{SameNames};
 
-use fac_base::Memory;
+use fac_base::{Duplicate, Memory};
 use fac_check::{
     Checked, Refusal, accept, accepted_programs_are_safe, check_words, first_refusal_is_verdict,
     first_refused,
@@ -74,8 +74,8 @@ fn judge_closed<R: Threads + Sync, G: Gate + Sync>(
     }
 }
 
-/// The verdict on a program whose top-level phrase starts on so many values.
-pub fn judge<R: Threads + Sync, G: Gate + Sync>(
+// The verdict on a program whose top-level phrase starts on so many values.
+fn judge<R: Threads + Sync, G: Gate + Sync>(
     workers: &Workers<'_, R, G>,
     program: Program,
     count: u64,
@@ -86,5 +86,20 @@ pub fn judge<R: Threads + Sync, G: Gate + Sync>(
     match close(workers.alloc, program, count) {
         Err(_) => Judged::Memory,
         Ok(closed) => judge_closed(workers, closed),
+    }
+}
+
+/// The verdict on a program, of which a copy is judged.
+pub fn judge_copy<R: Threads + Sync, G: Gate + Sync>(
+    workers: &Workers<'_, R, G>,
+    program: &Program,
+    count: u64,
+) -> Judged
+    requires { IsWhole program.now }
+    ensures { IsJudged program.now count result }
+{
+    match program.copy(workers.alloc) {
+        Err(_) => Judged::Memory,
+        Ok(program) => judge(workers, program, count),
     }
 }

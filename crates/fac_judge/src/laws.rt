@@ -1,5 +1,5 @@
 //! Laws of what texts come to, each on the contract of a function that does nothing but call on laws below.
-ghost use Rattle.fac_judge.specs.KnownTexts.{KnownBehindAreKnown, OneKnown};
+ghost use Rattle.fac_judge.specs.KnownTexts.{FirstIsKnown, TextsStayKnown};
 ghost use Rattle.fac_judge.specs.TextSources.{EverySource, OneSource};
 
 use fac_known::{files_are_known, known_goes_on, sessions_begin_known};
@@ -24,18 +24,17 @@ pub fn every_text_is_a_source()
     some_place();
 }
 
-/// Behind the prelude and the same texts one thing is known.
-pub fn one_known()
-    ensures { OneKnown }
-{
-    one_source();
-}
-
-/// What is known behind the prelude and texts belongs together, so its program is whole.
-pub fn known_behind_texts_is_known()
-    ensures { KnownBehindAreKnown }
+/// What is known before the first text belongs together, so its program is whole.
+pub fn first_is_known()
+    ensures { FirstIsKnown }
 {
     files_are_known();
-    known_goes_on();
     sessions_begin_known();
+}
+
+/// Where what is known before a text belongs together, so does what is known behind it.
+pub fn texts_stay_known()
+    ensures { TextsStayKnown }
+{
+    known_goes_on();
 }

@@ -1,27 +1,37 @@
 //! What a text comes to behind what is known: it waits, it is refused, or its program is accepted.
 ghost use Rattle.std.specs.Prelude.{◌≡◌, List as Items, ℕ, Err as failed};
+ghost use Rattle.fac_parse.specs.Trees.{IsWellFormed};
+ghost use Rattle.fac_notes.specs.Sources.{tree};
 ghost use Rattle.fac_lang.specs.Meaning.{word_phrase};
 ghost use Rattle.fac_lang.specs.Whole.{IsWhole};
 ghost use Rattle.fac_known.specs.KnownPrograms.{IsKnown};
 ghost use Rattle.fac_names.specs.declared.known.Known.{Known as KnownSeen};
 ghost use Rattle.fac_judge.specs.KnownTexts.{GoesOn};
+ghost use Rattle.fac_judge.specs.NamedSteps.{GoesBack};
 ghost use Rattle.fac_judge.specs.TextMeanings.{IsMeaning, body_phrase, has_item};
-ghost use Rattle.fac_judge.specs.inner.NamedTexts.{NamesText};
+ghost use Rattle.fac_judge.specs.TextSources.{IsReadAs};
+ghost use Rattle.fac_judge.specs.inner.ReadTexts.{ReadsText};
 
-use crate::judging::{Judged, judge};
-use crate::known_texts::{NoNext, next_known};
+use crate::judging::{Judged, judge_copy};
+use crate::naming::{Names, Step, name_forms};
+use crate::reading::{Unread, forms_of};
+use fac_base::List;
 use fac_check::Checked;
 use fac_known::known_goes_on;
 use fac_lang::{Phrase, Program, Sort};
 use fac_names::Known;
 use fac_notes::Report;
 use fac_par::{Gate, Workers};
+use fac_parse::Why;
+use fac_source::Form;
 use std::thread::Threads;
 
 /// An accepted text.
 #[derive(Drop)]
 pub struct Accepted {
-    /// The program that goes on with it.
+    /// What is known behind it.
+    pub known: Known,
+    /// Its program, as it was accepted.
     pub checked: Checked,
     /// Whether its top-level phrase has an item.
     pub runs: bool,
@@ -30,10 +40,10 @@ pub struct Accepted {
 /// What a text comes to.
 #[derive(Drop)]
 pub enum Meaning {
-    /// It waits for its end, which is wanted at this token.
-    Waits { at: u32 },
-    /// It is refused.
-    Refused(Report),
+    /// It waits for its end, which is wanted at this token, and what was known is known.
+    Waits { at: u32, known: Known },
+    /// It is refused, and what was known is known.
+    Refused { why: Report, known: Known },
     /// Its program is accepted.
     Accepted(Accepted),
     /// Memory was wanted.
@@ -68,44 +78,86 @@ fn top_has_item(program: &Program) -> bool
     }
 }
 
-// What a text comes to that goes on with this program, where its top-level phrase starts on so many values.
-#[tactic(auto, using(crate::proofs::MeaningLemmas::accepted_text))]
-fn meaning_of_program<R: Threads + Sync, G: Gate + Sync>(
+// What an accepted text comes to, behind which this is known.
+fn accepted(step: Step, checked: Checked, runs: bool) -> Accepted
+    ensures known { result.known ≡ step.next }
+    ensures checked { result.checked ≡ checked }
+    ensures runs { result.runs ≡ runs }
+{
+    Accepted {
+        known: step.into_next(),
+        checked,
+        runs,
+    }
+}
+
+// What a text comes to behind which this is known, where its top-level phrase starts on so many values.
+fn meaning_of_step<R: Threads + Sync, G: Gate + Sync>(
     workers: &Workers<'_, R, G>,
-    program: Program,
+    step: Step,
     count: u64,
 ) -> Meaning
-    requires { IsWhole program }
-    ensures { (known next : KnownSeen) (text : Items ℕ) → GoesOn known text next → next.program ≡ program → IsMeaning known count text result }
+    requires { IsWhole step.next.program }
+    ensures { (known : KnownSeen) (text : Items ℕ) → GoesOn known text step.next → GoesBack known step → IsMeaning known count text result }
 {
-    let runs = top_has_item(&program);
-    match judge(workers, program, count) {
-        Judged::Accepted(checked) => Meaning::Accepted(Accepted { checked, runs }),
-        Judged::Refused(why) => Meaning::Refused(why),
+    let runs = top_has_item(&step.next.program);
+    match judge_copy(workers, &step.next.program, count) {
+        Judged::Accepted(checked) => Meaning::Accepted(accepted(step, checked, runs)),
+        Judged::Refused(why) => Meaning::Refused {
+            why,
+            known: step.back(workers.alloc),
+        },
         Judged::Memory => Meaning::Memory,
     }
 }
 
-/// The program of what is known.
-pub fn program_of(known: Known) -> Program
-    ensures { result ≡ known.program }
+// What a text of these forms comes to.
+fn meaning_of_forms<R: Threads + Sync, G: Gate + Sync>(
+    workers: &Workers<'_, R, G>,
+    known: Known,
+    count: u64,
+    forms: List<Form>,
+) -> Meaning
+    requires known { IsKnown known }
+    requires forms { IsWellFormed forms }
+    ensures { (text : Items ℕ) → IsReadAs 1 text (tree forms) → IsMeaning known count text result }
 {
-    let Known { program, .. } = known;
-    program
-}
-
-// What a text comes to that goes on with nothing.
-fn no_meaning(fault: NoNext) -> Meaning
-    ensures { (known : KnownSeen) (count : ℕ) (text : Items ℕ) → NamesText known text (failed fault) → IsMeaning known count text result }
-{
-    match fault {
-        NoNext::Waits { at } => Meaning::Waits { at },
-        NoNext::Refused(why) => Meaning::Refused(why),
-        NoNext::Memory => Meaning::Memory,
+    known_goes_on();
+    match name_forms(workers.alloc, known, forms) {
+        Names::GoOn(step) => meaning_of_step(workers, step, count),
+        Names::Refused(fault, known) => Meaning::Refused {
+            why: Report::Name(fault),
+            known,
+        },
+        Names::Memory => Meaning::Memory,
     }
 }
 
-/// What a text, which is file 1, comes to behind what is known, on a stack of so many values.
+// What a text that isn't read comes to.
+fn unread(known: Known, fault: Unread) -> Meaning
+    ensures { (count : ℕ) (text : Items ℕ) → ReadsText 1 text (failed fault) → IsMeaning known count text result }
+{
+    match fault {
+        Unread::NoTokens { at, why } => Meaning::Refused {
+            why: Report::Bytes { file: 1, at, why },
+            known,
+        },
+        Unread::NoTree { at, why } => match why {
+            Why::End => Meaning::Waits { at, known },
+            Why::Other => Meaning::Refused {
+                why: Report::Syntax {
+                    file: 1,
+                    at,
+                    why: Why::Other,
+                },
+                known,
+            },
+        },
+        Unread::Memory => Meaning::Memory,
+    }
+}
+
+/// What a text, which is file 1, comes to behind what is known, on a stack of so many values. Where it waits or is refused, what was known is handed back.
 pub fn meaning_of<R: Threads + Sync, G: Gate + Sync>(
     workers: &Workers<'_, R, G>,
     known: Known,
@@ -115,9 +167,8 @@ pub fn meaning_of<R: Threads + Sync, G: Gate + Sync>(
     requires { IsKnown known }
     ensures { IsMeaning known count text.now result }
 {
-    known_goes_on();
-    match next_known(workers.alloc, known, text) {
-        Err(fault) => no_meaning(fault),
-        Ok(next) => meaning_of_program(workers, program_of(next), count),
+    match forms_of(workers.alloc, 1, text) {
+        Err(fault) => unread(known, fault),
+        Ok(forms) => meaning_of_forms(workers, known, count, forms),
     }
 }
