@@ -13,6 +13,7 @@ use Rattle.fac_lang.specs.declared.program.WordDef.{WordDef}
 use Rattle.fac_lang.specs.Meaning.{sort_of, sort_phrase, word_phrase}
 use Rattle.fac_lang.specs.Whole.{IsWhole, is_body}
 use Rattle.fac_check.specs.Verdicts.{verdict}
+use Rattle.fac_parse.specs.Trees.{IsWellFormed}
 use Rattle.fac_known.specs.KnownPrograms.{IsKnown}
 use Rattle.fac_known.specs.Laws.{KnownGoesOn}
 use Rattle.fac_names.specs.declared.known.Known.{Known}
@@ -26,32 +27,31 @@ use Rattle.fac_judge.specs.KnownTexts.{GoesOn, GoesOnWith}
 use Rattle.fac_judge.specs.MeantTexts.{ComesTo, Means}
 use Rattle.fac_judge.specs.TextMeanings.{IsAcceptedText, body_phrase, has_item}
 use Rattle.fac_judge.specs.declared.meaning.Accepted.{Accepted}
-use Rattle.fac_judge.proofs.KnownLemmas.{next_is_known, read_fits}
+use Rattle.fac_judge.proofs.KnownLemmas.{next_is_known}
 
 -- a text that goes on with a refused program
 verdict_means : (k q : Known) (count : ℕ) (forms : List Form) (first : ℕ × Broken) → GoesOnWith k forms q → verdict q.program count ≡ Some first → Means k count (tree forms) (refuses (check_report q.program first))
 unfolding GoesOnWith Means
 verdict_means k q count forms first next e = ap (on_names count) next ∙ ap (on_verdict q) e
 
-pub refused_text : (k q : Known) (count : ℕ) (text : List ℕ) (P : Program) (why : Report) → GoesOn k text q → q.program ≡ P → IsRefused P count why → ComesTo k count text (refuses why)
-refused_text k q count text P why next same r =
+pub refused_text : (k q : Known) (count : ℕ) (text : List ℕ) (why : Report) → GoesOn k text q → IsRefused q.program count why → ComesTo k count text (refuses why)
+refused_text k q count text why next r =
     let first : ComesTo k count text (refuses (check_report q.program r.first)) =
-    record { source = tree next.forms; is_read = next.is_read; means = verdict_means k q count next.forms r.first next.goes_on (ap (λ (p : Program). verdict p count) same ∙ r.verdict_is) } in
-    subst (λ (x : Report). ComesTo k count text (refuses x)) (ap (λ (p : Program). check_report p r.first) same ∙ sym r.report_is) first
+    record { source = tree next.forms; is_read = next.is_read; means = verdict_means k q count next.forms r.first next.goes_on r.verdict_is } in
+    subst (λ (x : Report). ComesTo k count text (refuses x)) (sym r.report_is) first
 
 -- or with an accepted one
 pub accepted_text :
-    (k q : Known) (count : ℕ) (text : List ℕ) (P : Program) (accepted : Accepted) → GoesOn k text q → q.program ≡ P → IsAccepted P count accepted.checked.closed → accepted.runs ≡ has_item (word_phrase P P.top) → IsAcceptedText k count text accepted
-accepted_text k q count text P accepted next same accepts runs = record {
-  next = q;
-  goes_on = next;
-  accepts = subst (λ (p : Program). IsAccepted p count accepted.checked.closed) (sym same) accepts;
-  runs = runs ∙ ap (λ (p : Program). has_item (word_phrase p p.top)) (sym same);
+    (k q : Known) (count : ℕ) (text : List ℕ) (accepted : Accepted) → accepted.known ≡ q → GoesOn k text q → IsAccepted q.program count accepted.checked.closed → accepted.runs ≡ has_item (word_phrase q.program q.program.top) → IsAcceptedText k count text accepted
+accepted_text k q count text accepted same next accepts runs = record {
+  goes_on = subst (λ (x : Known). GoesOn k text x) (sym same) next;
+  accepts = subst (λ (x : Known). IsAccepted x.program count accepted.checked.closed) (sym same) accepts;
+  runs = runs ∙ ap (λ (x : Known). has_item (word_phrase x.program x.program.top)) (sym same);
 }
 
 -- what a text goes on with is whole
-pub next_whole : KnownGoesOn → (k q : Known) (text : List ℕ) (P : Program) → IsKnown k → GoesOn k text q → P ≡ q.program → IsWhole P
-next_whole law k q text P known next same = subst IsWhole (sym same) (next_is_known law k q next.forms (read_fits 1 text next.forms next.is_read) known next.goes_on).whole
+pub next_whole : KnownGoesOn → (k q : Known) (forms : List Form) → IsKnown k → IsWellFormed forms → GoesOnWith k forms q → IsWhole q.program
+next_whole law k q forms known fits next = (next_is_known law k q forms fits known next).whole
 
 -- a phrase of no items has none
 some_items : (items : List PlacedItem) (b : Bool) → b ≡ nat_eq (length items) 0 → not b ≡ has_item (items_phrase items)

@@ -78,19 +78,6 @@ fn top_has_item(program: &Program) -> bool
     }
 }
 
-// What an accepted text comes to, behind which this is known.
-fn accepted(step: Step, checked: Checked, runs: bool) -> Accepted
-    ensures known { result.known ≡ step.next }
-    ensures checked { result.checked ≡ checked }
-    ensures runs { result.runs ≡ runs }
-{
-    Accepted {
-        known: step.into_next(),
-        checked,
-        runs,
-    }
-}
-
 // What a text comes to behind which this is known, where its top-level phrase starts on so many values.
 fn meaning_of_step<R: Threads + Sync, G: Gate + Sync>(
     workers: &Workers<'_, R, G>,
@@ -102,7 +89,11 @@ fn meaning_of_step<R: Threads + Sync, G: Gate + Sync>(
 {
     let runs = top_has_item(&step.next.program);
     match judge_copy(workers, &step.next.program, count) {
-        Judged::Accepted(checked) => Meaning::Accepted(accepted(step, checked, runs)),
+        Judged::Accepted(checked) => Meaning::Accepted(Accepted {
+            known: step.into_next(),
+            checked,
+            runs,
+        }),
         Judged::Refused(why) => Meaning::Refused {
             why,
             known: step.back(workers.alloc),
@@ -118,8 +109,7 @@ fn meaning_of_forms<R: Threads + Sync, G: Gate + Sync>(
     count: u64,
     forms: List<Form>,
 ) -> Meaning
-    requires known { IsKnown known }
-    requires forms { IsWellFormed forms }
+    requires { IsKnown known × IsWellFormed forms }
     ensures { (text : Items ℕ) → IsReadAs 1 text (tree forms) → IsMeaning known count text result }
 {
     known_goes_on();

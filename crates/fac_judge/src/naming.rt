@@ -117,10 +117,13 @@ fn name_from(
             program,
             mark,
         }),
-        TextEnd::Refused(fault, scope) => {
-            let scope = cut_back(alloc, scope, mark);
-            Names::Refused(fault, Known { scope, program })
-        }
+        TextEnd::Refused(fault, scope) => Names::Refused(
+            fault,
+            Known {
+                scope: cut_back(alloc, scope, mark),
+                program,
+            },
+        ),
         TextEnd::Memory => Names::Memory,
     }
 }
