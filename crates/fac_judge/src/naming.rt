@@ -1,5 +1,5 @@
 //! The names of a text of a session, behind what is known, and how they are taken back.
-ghost use Rattle.std.specs.Prelude.{◌≡◌, [], IfOk};
+ghost use Rattle.std.specs.Prelude.{◌≡◌, []};
 ghost use Rattle.fac_known.specs.KnownPrograms.{IsKnown};
 ghost use Rattle.fac_parse.specs.Trees.{IsWellFormed};
 ghost use Rattle.fac_names.specs.TakenTexts.{HasGoneOn};

@@ -10,7 +10,7 @@ use Rattle.fac_lang.specs.declared.program.Sort.TheVariants.{Getter as getter, S
 use Rattle.fac_source.specs.declared.refusal.NameKind.TheVariants.{NoVocab, TooMany, Twice}
 use Rattle.fac_source.specs.declared.tree.Form.{Form as Flat}
 use Rattle.fac_source.specs.Refusals.{fault, fault_if}
-use Rattle.fac_vocab.specs.Marks.{Begins, Ends, GrewFrom}
+use Rattle.fac_vocab.specs.Marks.{Begins, GrewFrom}
 use Rattle.fac_vocab.specs.declared.brought.Brought.{Brought}
 use Rattle.fac_vocab.specs.declared.brought.Brought.TheVariants.{Named as named, Prefixed as prefixed}
 use Rattle.fac_vocab.specs.declared.entry.Entry.{Entry}

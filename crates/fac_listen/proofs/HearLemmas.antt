@@ -25,7 +25,7 @@ use Rattle.fac_judge.specs.TextSources.{EverySource}
 use Rattle.fac_judge.specs.declared.known_texts.SessionFault.{SessionFault}
 use Rattle.fac_judge.specs.declared.known_texts.SessionFault.TheVariants as unbegun
 use Rattle.fac_listener.specs.Replies.{AreSources, IsFirstSession, StartsSession}
-use Rattle.fac_listener.specs.StandingSessions.{HasMachine, Stands, has_ended}
+use Rattle.fac_listener.specs.StandingSessions.{HasBetween, Stands, has_ended}
 use Rattle.fac_listener.specs.declared.session.Session.{Session as SessionSeen}
 use Rattle.fac_listen.specs.Devices.{DevicesTold, DevicesStand, devices_of}
 use Rattle.fac_listen.specs.Fronts.{Front, front_of, with_last, left_behind, left_from, LineOf, StandsBehindLines}
@@ -301,12 +301,12 @@ memory_then first old initial mid notes_first notes_mid notes_now ending h e =
 
 -- From the first line on.
 
-machine_is : (s : Session) (code : SessionSeen) (machine : Option _) → code.machine ≡ machine → HasMachine s machine → has_ended code ≡ false
-machine_is s code None is h = absurd h
-machine_is s code (Some m) is h = rw is refl
+between_is : (s : Session) (code : SessionSeen) (between : Option _) → code.between ≡ between → HasBetween s between → has_ended code ≡ false
+between_is s code None is h = absurd h
+between_is s code (Some b) is h = rw is refl
 
 pub is_open : (s : Session) (code : SessionSeen) → Stands s code → has_ended code ≡ false
-is_open s code stands = machine_is s code code.machine refl stands.machine
+is_open s code stands = between_is s code code.between refl stands.between
 
 -- the code's session before the first line
 pub begins_behind : (source : List ℕ → Source) (s : Session) (input : List ℕ) (code : SessionSeen) (names : List (List ℕ)) → Stands s code → s.waiting ≡ [] → names ≡ file_names → IsBehind source (front_of s input) (record { session = code; names = names; waits = None; ticks = 0 })

@@ -21,15 +21,16 @@ use Rattle.fac_parse.specs.declared.reader.Why.TheVariants.{End}
 use Rattle.fac_vm.specs.SeenMachine.{MachineSeen}
 use Rattle.fac_session.specs.Sessions.{Session, Meant, waits, refuses, goes_on, meant}
 use Rattle.fac_session.specs.SessionLines.{Said, more, defined, ran, refused, failed, spent, Behind, line_run, line_world, of_phrase, of_run, on_meant, session_with, with_waiting}
-use Rattle.fac_judge.specs.KnownTexts.{IsKnownBehind}
+use Rattle.fac_known.specs.KnownPrograms.{IsKnown}
 use Rattle.fac_listener.specs.CutRuns.{FaultBehindRun, FaultInRun, InputFaultInRun, RunPieces, WantedWithRun, stack_behind}
 use Rattle.fac_listener.specs.Replies.{AnswerPieces, AreSources, Cause, IsAnswer, IsCutShort, OfItems, TextReplies, by_input, by_memory, by_output, ends_session}
-use Rattle.fac_listener.specs.StandingSessions.{HasMachine, HoldsSession, Stands, session_world}
+use Rattle.fac_listener.specs.StandingSessions.{HasBetween, HoldsBetween, HoldsSession, Stands, session_world}
 use Rattle.fac_judge.specs.TextMeanings.{has_item}
 use Rattle.fac_judge.specs.MeantTexts.{ComesTo, Means}
 use Rattle.fac_judge.specs.TextSources.{OneSource}
 use Rattle.fac_listener.specs.declared.reply.Reply.{Reply}
 use Rattle.fac_listener.specs.declared.reply.Reply.TheVariants as reply
+use Rattle.fac_listener.specs.declared.session.Between.{Between}
 use Rattle.fac_listener.specs.declared.session.Session.{Session as SessionSeen}
 use Rattle.fac_listener.specs.inner.PhraseRuns.{AnswersPhrase, IsPhraseAnswer, IsPhraseCutShort, phrase_behind, session_run}
 use Rattle.fac_listener.specs.inner.SessionSteps.{AnswersLine, TextAnswers, has_phrase, line_session}
@@ -165,16 +166,25 @@ behind_waits s (Failed e st m) = refl
 behind_waits s (Spent st i) = refl
 behind_waits s Stuck = refl
 
-phrase_stands : (s : Session) (input : List ℕ) (said : Said) (before now : SinkTold) (m : MachineSeen) (code : SessionSeen) (left : List ℕ) →
-    IsKnownBehind code.texts s.known → code.waiting ≡ [] → code.machine ≡ Some m → IsPhraseAnswer (phrase_behind s input) said before now m left → IsAnswer (phrase_behind s input) said before now code left
-phrase_stands s input said before now m code left known waiting machine h =
+-- what is known with a machine
+abbrev pub between_of : Known → MachineSeen → Between
+between_of known m = record { known = known; machine = m }
+
+between_behind : (s t : Session) (known : Known) (m : MachineSeen) → t.known ≡ s.known → known ≡ s.known → IsKnown s.known → HoldsSession t m → HoldsBetween t (between_of known m)
+between_behind s t known m same is whole holds = record { known_is = is ∙ sym same; known = subst IsKnown (sym same) whole; machine = holds }
+
+has_there : (s : Session) (o : Option Between) (b : Between) → o ≡ Some b → HoldsBetween s b → HasBetween s o
+has_there s o b e h = subst (λ (o : Option Between). HasBetween s o) (sym e) h
+
+phrase_stands : (s : Session) (input : List ℕ) (said : Said) (before now : SinkTold) (k : Known) (m : MachineSeen) (code : SessionSeen) (left : List ℕ) →
+    k ≡ s.known → IsKnown s.known → code.waiting ≡ [] → code.between ≡ Some (between_of k m) → IsPhraseAnswer (phrase_behind s input) said before now m left → IsAnswer (phrase_behind s input) said before now code left
+phrase_stands s input said before now k m code left is known waiting between h =
     let b = phrase_behind s input in
     record {
       said_is = h.said_is;
       stands = record {
-        known = subst (λ (k : Known). IsKnownBehind code.texts k) (sym (behind_known s (session_run s input TICKS))) known;
         waiting = waiting ∙ sym (behind_waits s (session_run s input TICKS));
-        machine = subst (λ (o : Option MachineSeen). HasMachine b.session o) (sym machine) h.holds;
+        between = has_there b.session code.between (between_of k m) between (between_behind s b.session k m (behind_known s (session_run s input TICKS)) is known h.holds);
       };
       output = h.output;
       left_is = h.left_is;
@@ -182,17 +192,17 @@ phrase_stands s input said before now m code left known waiting machine h =
 
 -- what is answered of the machine's phrase is what is answered of the session's
 pub line_answers :
-    (s : Session) (before now : SinkTold) (m : MachineSeen) (code : SessionSeen) (a : Reply) (input left : List ℕ) → IsKnownBehind code.texts s.known → code.waiting ≡ [] → (ends_session a ≡ false → code.machine ≡ Some m) → has_phrase s ≡ true →
+    (s : Session) (before now : SinkTold) (k : Known) (m : MachineSeen) (code : SessionSeen) (a : Reply) (input left : List ℕ) → k ≡ s.known → IsKnown s.known → code.waiting ≡ [] → (ends_session a ≡ false → code.between ≡ Some (between_of k m)) → has_phrase s ≡ true →
     AnswersPhrase s before now m a input left → AnswersLine s before now code a input left
-line_answers s before now m code (reply.Ran n) input left known waiting machine e h = (e, phrase_stands s input (ran n) before now m code left known waiting (machine refl) h.0, h.1)
-line_answers s before now m code (reply.Failed why n) input left known waiting machine e h = (e, phrase_stands s input (failed why n) before now m code left known waiting (machine refl) h.0, h.1)
-line_answers s before now m code (reply.Spent n) input left known waiting machine e h = (e, phrase_stands s input (spent n) before now m code left known waiting (machine refl) h.0, h.1)
-line_answers s before now m code (reply.InputFault n) input left known waiting machine e h = (e, h)
-line_answers s before now m code (reply.WriteFault n) input left known waiting machine e h = (e, h)
-line_answers s before now m code (reply.Memory n) input left known waiting machine e h = (e, h)
-line_answers s before now m code (reply.More why) input left known waiting machine e h = absurd h
-line_answers s before now m code reply.Defined input left known waiting machine e h = absurd h
-line_answers s before now m code (reply.Refused why) input left known waiting machine e h = absurd h
+line_answers s before now k m code (reply.Ran n) input left is known waiting between e h = (e, phrase_stands s input (ran n) before now k m code left is known waiting (between refl) h.0, h.1)
+line_answers s before now k m code (reply.Failed why n) input left is known waiting between e h = (e, phrase_stands s input (failed why n) before now k m code left is known waiting (between refl) h.0, h.1)
+line_answers s before now k m code (reply.Spent n) input left is known waiting between e h = (e, phrase_stands s input (spent n) before now k m code left is known waiting (between refl) h.0, h.1)
+line_answers s before now k m code (reply.InputFault n) input left is known waiting between e h = (e, h)
+line_answers s before now k m code (reply.WriteFault n) input left is known waiting between e h = (e, h)
+line_answers s before now k m code (reply.Memory n) input left is known waiting between e h = (e, h)
+line_answers s before now k m code (reply.More why) input left is known waiting between e h = absurd h
+line_answers s before now k m code reply.Defined input left is known waiting between e h = absurd h
+line_answers s before now k m code (reply.Refused why) input left is known waiting between e h = absurd h
 
 -- A text that goes on with nothing.
 
@@ -217,23 +227,23 @@ comes_once law source are k count other text m h e =
 
 -- it stands with this text waiting, and nothing was written or taken
 still_answer :
-    (s : Session) (text input : List ℕ) (said : Said) (before : SinkTold) (code : SessionSeen) (m : MachineSeen) → IsKnownBehind code.texts s.known → HoldsSession s m → code.waiting ≡ text → code.machine ≡ Some m →
+    (s : Session) (text input : List ℕ) (said : Said) (before : SinkTold) (code : SessionSeen) (k : Known) (m : MachineSeen) → k ≡ s.known → IsKnown s.known → HoldsSession s m → code.waiting ≡ text → code.between ≡ Some (between_of k m) →
     IsAnswer (record { said = said; session = with_waiting s text; output = []; left = input }) said before before code input
-still_answer s text input said before code m known holds waiting machine = record {
+still_answer s text input said before code k m is known holds waiting between = record {
   said_is = refl;
-  stands = record { known = known; waiting = waiting; machine = subst (λ (o : Option MachineSeen). HasMachine (with_waiting s text) o) (sym machine) (holds_with s text m holds) };
+  stands = record { waiting = waiting; between = has_there (with_waiting s text) code.between (between_of k m) between (between_behind s (with_waiting s text) k m refl is known (holds_with s text m holds)) };
   output = grows_none before.taken;
   left_is = refl;
 }
 
 pub waiting_replies :
-    (s : Session) (text input : List ℕ) (m : Meant) (at : ℕ) (before : SinkTold) (code : SessionSeen) (machine : MachineSeen) → m ≡ waits at → IsKnownBehind code.texts s.known → HoldsSession s machine → code.waiting ≡ text → code.machine ≡ Some machine →
+    (s : Session) (text input : List ℕ) (m : Meant) (at : ℕ) (before : SinkTold) (code : SessionSeen) (k : Known) (machine : MachineSeen) → m ≡ waits at → k ≡ s.known → IsKnown s.known → HoldsSession s machine → code.waiting ≡ text → code.between ≡ Some (between_of k machine) →
     TextAnswers s text m before before code (reply.More (report.Syntax 1 at End)) input input
-waiting_replies s text input m at before code machine e known holds waiting is =
-    subst (λ (m : Meant). TextAnswers s text m before before code (reply.More (report.Syntax 1 at End)) input input) (sym e) (still_answer s text input (more (report.Syntax 1 at End)) before code machine known holds waiting is, refl)
+waiting_replies s text input m at before code k machine e same known holds waiting is =
+    subst (λ (m : Meant). TextAnswers s text m before before code (reply.More (report.Syntax 1 at End)) input input) (sym e) (still_answer s text input (more (report.Syntax 1 at End)) before code k machine same known holds waiting is, refl)
 
 pub refused_replies :
-    (s : Session) (text input : List ℕ) (m : Meant) (why : Report) (before : SinkTold) (code : SessionSeen) (machine : MachineSeen) → m ≡ refuses why → IsKnownBehind code.texts s.known → HoldsSession s machine → code.waiting ≡ [] → code.machine ≡ Some machine →
+    (s : Session) (text input : List ℕ) (m : Meant) (why : Report) (before : SinkTold) (code : SessionSeen) (k : Known) (machine : MachineSeen) → m ≡ refuses why → k ≡ s.known → IsKnown s.known → HoldsSession s machine → code.waiting ≡ [] → code.between ≡ Some (between_of k machine) →
     TextAnswers s text m before before code (reply.Refused why) input input
-refused_replies s text input m why before code machine e known holds waiting is =
-    subst (λ (m : Meant). TextAnswers s text m before before code (reply.Refused why) input input) (sym e) (still_answer s [] input (refused why) before code machine known holds waiting is, refl)
+refused_replies s text input m why before code k machine e same known holds waiting is =
+    subst (λ (m : Meant). TextAnswers s text m before before code (reply.Refused why) input input) (sym e) (still_answer s [] input (refused why) before code k machine same known holds waiting is, refl)

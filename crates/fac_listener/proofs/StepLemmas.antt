@@ -1,5 +1,5 @@
 -- The steps of a session with a text.
-use Rattle.std.proofs.Common.{◌≡◌, ◌<◌, ◌≤◌, ◌+◌, ℕ, suc, List, [], ◌∷◌, ◌++◌, length, Bool, true, false, None, Some, refl, sym, ap, subst, ◌∙◌, arith}
+use Rattle.std.proofs.Common.{◌≡◌, ◌<◌, ◌+◌, ℕ, List, [], ◌∷◌, ◌++◌, length, Bool, true, false, None, Some, refl, sym, ap, subst, ◌∙◌, arith}
 use Rattle.std.specs.Prelude.{map, reverse}
 use Rattle.std.specs.declared.option.Option.{Option}
 use Rattle.std.proofs.lemmas.List.{append_assoc, length-map, length-reverse}
@@ -21,19 +21,19 @@ use Rattle.fac_vm.specs.SeenMachine.{MachineSeen, callables_in, stack_in}
 use Rattle.fac_session.specs.Sessions.{Session, Meant, goes_on, meant, on_names, on_verdict}
 use Rattle.fac_session.specs.SessionLines.{behind_waiting}
 use Rattle.fac_judge.specs.JudgedPrograms.{IsAccepted}
-use Rattle.fac_judge.specs.KnownTexts.{GoesOn, GoesOnWith, IsKnownBehind, KnownBehindAreKnown, OneKnown}
+use Rattle.fac_judge.specs.KnownTexts.{GoesOnWith, TextsStayKnown}
 use Rattle.fac_listener.specs.Replies.{AnswerPieces, AreSources, LinePieces, Replies, TextReplies, ends_session}
-use Rattle.fac_listener.specs.StandingSessions.{HasMachine, HoldsSession, Stands, has_ended}
+use Rattle.fac_listener.specs.StandingSessions.{HasBetween, HoldsBetween, HoldsSession, Stands, has_ended}
 use Rattle.fac_judge.specs.TextMeanings.{IsAcceptedText, IsMeaning}
 use Rattle.fac_judge.specs.TextSources.{OneSource}
 use Rattle.fac_judge.specs.declared.meaning.Accepted.{Accepted}
 use Rattle.fac_judge.specs.declared.meaning.Meaning.{Meaning}
 use Rattle.fac_listener.specs.declared.reply.Reply.{Reply}
+use Rattle.fac_listener.specs.declared.session.Between.{Between}
 use Rattle.fac_listener.specs.declared.session.Session.{Session as SessionSeen}
 use Rattle.fac_listener.specs.inner.SessionLaws.{PhrasesAreNotStuck}
-use Rattle.fac_listener.specs.inner.SessionSteps.{AnswersLine, HoldsReady, MachineGoesOn, TextAnswers, TextGoesOn, has_phrase, line_session}
-use Rattle.fac_judge.proofs.KnownLemmas.{one_more_text}
-use Rattle.fac_listener.proofs.SessionLemmas.{text_answered}
+use Rattle.fac_listener.specs.inner.SessionSteps.{AnswersLine, HoldsReady, MachineGoesOn, StandsReady, TextAnswers, TextGoesOn, has_phrase, line_session}
+use Rattle.fac_listener.proofs.SessionLemmas.{between_of, text_answered}
 
 -- The number of values.
 
@@ -60,39 +60,24 @@ pub line_alone : (waiting line now : List ℕ) → length waiting ≡ 0 → now 
 line_alone [] line now none e = e
 line_alone (b ∷ bs) line now none e = absurd (omega (arith, none))
 
--- what a text comes to behind texts, whatever is known behind them
-pub meaning_behind :
-    OneKnown → (texts slices : List (List ℕ)) (count : ℕ) (text slice : List ℕ) (k q : Known) (r : Meaning) → slices ≡ texts → slice ≡ text → IsKnownBehind slices k → IsKnownBehind texts q → IsMeaning k count slice r → IsMeaning q count text r
-meaning_behind law texts slices count text slice k q r same is h j m =
-    let known : IsKnownBehind texts k = subst (λ (ts : List (List ℕ)). IsKnownBehind ts k) same h in
-    subst (λ (x : Known). IsMeaning x count text r) (law texts k q known j) (subst (λ (t : List ℕ). IsMeaning k count t r) is m)
-
-pub known_there : (texts slices : List (List ℕ)) (k : Known) → slices ≡ texts → IsKnownBehind texts k → IsKnownBehind slices k
-known_there texts slices k same h = subst (λ (ts : List (List ℕ)). IsKnownBehind ts k) (sym same) h
+-- what a text comes to behind what is known
+pub meaning_there : (k q : Known) (count : ℕ) (text : List ℕ) (r : Meaning) → k ≡ q → IsMeaning k count text r → IsMeaning q count text r
+meaning_there k q count text r same m = subst (λ (x : Known). IsMeaning x count text r) same m
 
 -- a text's program goes on with the one before
 going_longer : KnownStays → (k q : Known) (forms : List Form) → IsKnown k → GoesOnWith k forms q → IsLonger k.program q.program
 unfolding GoesOnWith
 going_longer law k q forms known e = law k q (map form_of forms ∷ []) true known e
 
-pub text_longer : KnownStays → KnownBehindAreKnown → (texts : List (List ℕ)) (k q : Known) (text : List ℕ) → IsKnownBehind texts k → GoesOn k text q → IsLonger k.program q.program
-text_longer law are texts k q text behind next = going_longer law k q next.forms (are texts k behind) next.goes_on
-
 pub whole_for : (P : Program) (count : ℕ) (closed : Closed) → IsAccepted P count closed → StandsForWhole closed
 whole_for P count closed accepted = (P, accepted.stands.closes, accepted.stands.whole)
 
 -- The text of a line that goes on.
 
-accepted_goes :
-    (texts : List (List ℕ)) (m : MachineSeen) (accepted : Accepted) (text : List ℕ) (s : Session) → IsKnownBehind texts s.known → HoldsSession s m → (h : IsAcceptedText s.known (length s.stack) text accepted) → TextGoesOn texts m accepted text s h.next
-accepted_goes texts m accepted text s known holds h = record { known = known; holds = holds; goes_on = h.goes_on; accepts = h.accepts; runs = h.runs }
-
 -- an accepted text of a session whose stack has so many values goes on with something
 pub goes_with :
-    (texts : List (List ℕ)) (m : MachineSeen) (accepted : Accepted) (text : List ℕ) (s : Session) (count : ℕ) → IsKnownBehind texts s.known → HoldsSession s m → count ≡ length s.stack → IsAcceptedText s.known count text accepted → (q : Known) × TextGoesOn texts m accepted text s q
-goes_with texts m accepted text s count known holds many h =
-    let here : IsAcceptedText s.known (length s.stack) text accepted = subst (λ (n : ℕ). IsAcceptedText s.known n text accepted) many h in
-    (here.next, accepted_goes texts m accepted text s known holds here)
+    (m : MachineSeen) (accepted : Accepted) (text : List ℕ) (s : Session) (count : ℕ) → IsKnown s.known → HoldsSession s m → count ≡ length s.stack → IsAcceptedText s.known count text accepted → TextGoesOn m accepted text s
+goes_with m accepted text s count known holds many h = record { known = known; holds = holds; accepts = subst (λ (n : ℕ). IsAcceptedText s.known n text accepted) many h }
 
 going_means : (k q : Known) (count : ℕ) (forms : List Form) (closed : Closed) → GoesOnWith k forms q → IsAccepted q.program count closed → meant k count (tree forms) ≡ goes_on q
 unfolding GoesOnWith
@@ -100,67 +85,75 @@ going_means k q count forms closed e accepted = ap (on_names count) e ∙ ap (on
 
 -- so its source comes to that
 pub text_means :
-    OneSource → (source : List ℕ → Source) → AreSources source → (texts : List (List ℕ)) (m : MachineSeen) (accepted : Accepted) (text : List ℕ) (s : Session) (q : Known) → TextGoesOn texts m accepted text s q → meant s.known (length s.stack) (source text) ≡ goes_on q
-text_means law source are texts m accepted text s q h =
-    let same : source text ≡ tree h.goes_on.forms = law 1 text (source text) (tree h.goes_on.forms) (are text) h.goes_on.is_read in
-    ap (meant s.known (length s.stack)) same ∙ going_means s.known q (length s.stack) h.goes_on.forms accepted.checked.closed h.goes_on.goes_on h.accepts
+    OneSource → (source : List ℕ → Source) → AreSources source → (m : MachineSeen) (accepted : Accepted) (text : List ℕ) (s : Session) → TextGoesOn m accepted text s → meant s.known (length s.stack) (source text) ≡ goes_on accepted.known
+text_means law source are m accepted text s h =
+    let next = h.accepts.goes_on in
+    let same : source text ≡ tree next.forms = law 1 text (source text) (tree next.forms) (are text) next.is_read in
+    ap (meant s.known (length s.stack)) same ∙ going_means s.known accepted.known (length s.stack) next.forms accepted.checked.closed next.goes_on h.accepts.accepts
 
 -- The session behind an accepted text.
 
 -- its machine may go on
-pub text_goes_longer :
-    KnownStays → KnownBehindAreKnown → (texts : List (List ℕ)) (m : MachineSeen) (accepted : Accepted) (text : List ℕ) (s : Session) (q : Known) → TextGoesOn texts m accepted text s q → IsLonger s.known.program q.program
-text_goes_longer law are texts m accepted text s q h = text_longer law are texts s.known q text h.known h.goes_on
+pub text_goes_longer : KnownStays → (m : MachineSeen) (accepted : Accepted) (text : List ℕ) (s : Session) → TextGoesOn m accepted text s → IsLonger s.known.program accepted.known.program
+text_goes_longer law m accepted text s h = going_longer law s.known accepted.known h.accepts.goes_on.forms h.known h.accepts.goes_on.goes_on
 
 -- and holds the session before its phrase
-pub holds_next :
-    KnownStays → KnownBehindAreKnown → (texts : List (List ℕ)) (m next : MachineSeen) (accepted : Accepted) (text : List ℕ) (s : Session) (q : Known) → MachineGoesOn m accepted.checked.closed next → TextGoesOn texts m accepted text s q → HoldsReady (line_session s q) next
-holds_next law are texts m next accepted text s q goes h = goes s q h.holds (text_goes_longer law are texts m accepted text s q h) h.accepts
+holds_next :
+    KnownStays → (m next : MachineSeen) (accepted : Accepted) (text : List ℕ) (s : Session) → MachineGoesOn m accepted.checked.closed next → TextGoesOn m accepted text s → HoldsReady (line_session s accepted.known) next
+holds_next law m next accepted text s goes h = goes s accepted.known h.holds (text_goes_longer law m accepted text s h) h.accepts.accepts
+
+-- so what is known then stands with it
+pub next_ready :
+    KnownStays → TextsStayKnown → (m next : MachineSeen) (accepted : Accepted) (text : List ℕ) (s : Session) → MachineGoesOn m accepted.checked.closed next → TextGoesOn m accepted text s → StandsReady (line_session s accepted.known) (between_of accepted.known next)
+next_ready law stay m next accepted text s goes h = record { known_is = refl; known = stay s.known accepted.known text h.known h.accepts.goes_on; machine = holds_next law m next accepted text s goes h }
 
 -- what is answered of its phrase is what is answered of the text
 pub text_answers :
-    PhrasesAreNotStuck → KnownStays → KnownBehindAreKnown → (texts now_texts : List (List ℕ)) (m next : MachineSeen) (accepted : Accepted) (text : List ℕ) → MachineGoesOn m accepted.checked.closed next → now_texts ≡ texts ++ text ∷ [] →
+    PhrasesAreNotStuck → KnownStays → TextsStayKnown → (m next : MachineSeen) (accepted : Accepted) → MachineGoesOn m accepted.checked.closed next →
     (before now : SinkTold) (code : SessionSeen) (a : Reply) (input left : List ℕ) →
-    ((s : Session) → IsKnownBehind now_texts s.known → HoldsReady s next → s.waiting ≡ [] → accepted.runs ≡ has_phrase s → AnswersLine s before now code a input left) →
-    (s : Session) (q : Known) → TextGoesOn texts m accepted text s q → TextAnswers s text (goes_on q) before now code a input left
-text_answers never law are texts now_texts m next accepted text goes more before now code a input left h s q on =
-    let holds = holds_next law are texts m next accepted text s q goes on in
-    let known : IsKnownBehind now_texts q = subst (λ (ts : List (List ℕ)). IsKnownBehind ts q) (sym more) (one_more_text texts s.known text q on.known on.goes_on) in
-    text_answered s q text input left before now code a (never (line_session s q) next holds input TICKS) (h (line_session s q) known holds refl on.runs)
+    ((s : Session) → StandsReady s (between_of accepted.known next) → s.waiting ≡ [] → accepted.runs ≡ has_phrase s → AnswersLine s before now code a input left) →
+    (s : Session) (text : List ℕ) → TextGoesOn m accepted text s → TextAnswers s text (goes_on accepted.known) before now code a input left
+text_answers never law stay m next accepted goes before now code a input left h s text on =
+    let ready = next_ready law stay m next accepted text s goes on in
+    let behind = line_session s accepted.known in
+    text_answered s accepted.known text input left before now code a (never behind next ready.machine input TICKS) (h behind ready refl on.accepts.runs)
 
 -- what is answered of what an accepted text goes on with is what is answered of the text
 pub text_replies_as :
-    OneSource → (source : List ℕ → Source) → AreSources source → (texts : List (List ℕ)) (m : MachineSeen) (accepted : Accepted) (text : List ℕ) (s : Session) (count : ℕ) → IsKnownBehind texts s.known → HoldsSession s m → count ≡ length s.stack → IsAcceptedText s.known count text accepted →
-    (before now : SinkTold) (code : SessionSeen) (a : Reply) (input left : List ℕ) → ((q : Known) → TextGoesOn texts m accepted text s q → TextAnswers s text (goes_on q) before now code a input left) →
+    OneSource → (source : List ℕ → Source) → AreSources source → (m : MachineSeen) (accepted : Accepted) (text : List ℕ) (s : Session) (count : ℕ) → IsKnown s.known → HoldsSession s m → count ≡ length s.stack → IsAcceptedText s.known count text accepted →
+    (before now : SinkTold) (code : SessionSeen) (a : Reply) (input left : List ℕ) → (TextGoesOn m accepted text s → TextAnswers s text (goes_on accepted.known) before now code a input left) →
     TextAnswers s text (meant s.known (length s.stack) (source text)) before now code a input left
-text_replies_as law source are texts m accepted text s count known holds many h before now code a input left answered =
-    let on = goes_with texts m accepted text s count known holds many h in
-    subst (λ (x : Meant). TextAnswers s text x before now code a input left) (sym (text_means law source are texts m accepted text s on.0 on.1)) (answered on.0 on.1)
+text_replies_as law source are m accepted text s count known holds many h before now code a input left answered =
+    let on = goes_with m accepted text s count known holds many h in
+    subst (λ (x : Meant). TextAnswers s text x before now code a input left) (sym (text_means law source are m accepted text s on)) (answered on)
+
+-- what is ready stands
+holds_ready : (s : Session) (b : Between) → StandsReady s b → HoldsBetween s b
+holds_ready s b ready = record { known_is = ready.known_is; known = ready.known; machine = ready.machine.holds }
 
 -- definitions alone stand
-pub defined_stands : (s : Session) (code : SessionSeen) (m : MachineSeen) → IsKnownBehind code.texts s.known → HoldsReady s m → s.waiting ≡ [] → code.waiting ≡ [] → code.machine ≡ Some m → Stands s code
-defined_stands s code m known ready waiting none machine = record {
-  known = known;
+pub defined_stands : (s : Session) (code : SessionSeen) (b : Between) → StandsReady s b → s.waiting ≡ [] → code.waiting ≡ [] → code.between ≡ Some b → Stands s code
+defined_stands s code b ready waiting none is = record {
   waiting = none ∙ sym waiting;
-  machine = subst (λ (o : Option MachineSeen). HasMachine s o) (sym machine) ready.holds;
+  between = subst (λ (o : Option Between). HasBetween s o) (sym is) (holds_ready s b ready);
 }
 
--- a session has ended where no machine is kept
-abbrev with_machine : Option MachineSeen → SessionSeen
-with_machine o = record { texts = []; waiting = []; machine = o }
+-- a session has ended where nothing is kept
+abbrev with_between : Option Between → SessionSeen
+with_between o = record { waiting = []; between = o }
 
-ends_by : (o : Option MachineSeen) (m : MachineSeen) (b : Bool) → (b ≡ false → o ≡ Some m) → (b ≡ true → o ≡ None) → has_ended (with_machine o) ≡ b
-ends_by o m true kept none = ap (λ (x : Option MachineSeen). has_ended (with_machine x)) (none refl)
-ends_by o m false kept none = ap (λ (x : Option MachineSeen). has_ended (with_machine x)) (kept refl)
+ends_by : (o : Option Between) (b : Between) (e : Bool) → (e ≡ false → o ≡ Some b) → (e ≡ true → o ≡ None) → has_ended (with_between o) ≡ e
+ends_by o b true kept none = ap (λ (x : Option Between). has_ended (with_between x)) (none refl)
+ends_by o b false kept none = ap (λ (x : Option Between). has_ended (with_between x)) (kept refl)
 
-pub kept_ends : (o : Option MachineSeen) (m : MachineSeen) (a : Reply) → (ends_session a ≡ false → o ≡ Some m) → (ends_session a ≡ true → o ≡ None) → has_ended (with_machine o) ≡ ends_session a
-kept_ends o m a kept none = ends_by o m (ends_session a) kept none
+pub kept_ends : (o : Option Between) (b : Between) (a : Reply) → (ends_session a ≡ false → o ≡ Some b) → (ends_session a ≡ true → o ≡ None) → has_ended (with_between o) ≡ ends_session a
+kept_ends o b a kept none = ends_by o b (ends_session a) kept none
 
-pub none_kept : (o : Option MachineSeen) → o ≡ None → has_ended (with_machine o) ≡ true
-none_kept o e = ap (λ (x : Option MachineSeen). has_ended (with_machine x)) e
+pub none_kept : (o : Option Between) → o ≡ None → has_ended (with_between o) ≡ true
+none_kept o e = ap (λ (x : Option Between). has_ended (with_between x)) e
 
-pub some_kept : (o : Option MachineSeen) (m : MachineSeen) → o ≡ Some m → has_ended (with_machine o) ≡ false
-some_kept o m e = ap (λ (x : Option MachineSeen). has_ended (with_machine x)) e
+pub some_kept : (o : Option Between) (b : Between) → o ≡ Some b → has_ended (with_between o) ≡ false
+some_kept o b e = ap (λ (x : Option Between). has_ended (with_between x)) e
 
 -- two tests of one reply agree
 pub closed_not_open : (b x : Bool) (A : Type 0) → b ≡ x → b ≡ true → x ≡ false → A
@@ -171,9 +164,9 @@ open_not_closed b x A e f t = absurd (cc)
 
 -- A line.
 
--- the machine of a session that stands
-pub has_machine : (s : Session) (o : Option MachineSeen) (m : MachineSeen) → o ≡ Some m → HasMachine s o → HoldsSession s m
-has_machine s o m e h = subst (λ (o : Option MachineSeen). HasMachine s o) e h
+-- what stands of a session
+pub has_between : (s : Session) (o : Option Between) (b : Between) → o ≡ Some b → HasBetween s o → HoldsBetween s b
+has_between s o b e h = subst (λ (o : Option Between). HasBetween s o) e h
 
 pub line_replies :
     (source : List ℕ → Source) (s : Session) (waiting line text : List ℕ) (before now : SinkTold) (code : SessionSeen) (a : Reply) (input left : List ℕ) → waiting ≡ s.waiting → text ≡ behind_waiting waiting line →

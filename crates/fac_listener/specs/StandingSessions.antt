@@ -14,7 +14,8 @@ use Rattle.fac_carry.specs.Carries.{Carries}
 use Rattle.fac_carry.specs.MachineView.{template_phrases, values_view, world_view}
 use Rattle.fac_standing.specs.Standing.{IsImageOf, ValuesStand, ObjectsStand}
 use Rattle.fac_session.specs.Sessions.{Session}
-use Rattle.fac_judge.specs.KnownTexts.{IsKnownBehind}
+use Rattle.fac_known.specs.KnownPrograms.{IsKnown}
+use Rattle.fac_listener.specs.declared.session.Between.{Between}
 use Rattle.fac_listener.specs.declared.session.Session.{Session as SessionSeen}
 
 -- the world of a session at the beginning of a line, of which this is left of the input
@@ -47,20 +48,25 @@ pub record HoldsSession (s : Session) (m : MachineSeen) : Type 0 where
   pub as_held : IsHeldAs held (held_in m)
   pub counted : length m.literals ≡ length m.image.arrays
 
--- a session whose machine was given up has ended
-abbrev pub HasMachine : Session → Option MachineSeen → Type 0
-HasMachine s None = ⊥
-HasMachine s (Some m) = HoldsSession s m
+-- What stands between two lines is what a session knows, which belongs together, and a machine that holds its stack and its objects.
+pub record HoldsBetween (s : Session) (b : Between) : Type 0 where
+  pub known_is : b.known ≡ s.known
+  pub known : IsKnown s.known
+  pub machine : HoldsSession s b.machine
 
--- The code's session stands for this one: it has the texts that were accepted, the text that waits, and a machine.
+-- a session behind which nothing stands has ended
+abbrev pub HasBetween : Session → Option Between → Type 0
+HasBetween s None = ⊥
+HasBetween s (Some b) = HoldsBetween s b
+
+-- The code's session stands for this one: it has the text that waits, and what stands.
 pub record Stands (s : Session) (code : SessionSeen) : Type 0 where
-  pub known : IsKnownBehind code.texts s.known
   pub waiting : code.waiting ≡ s.waiting
-  pub machine : HasMachine s code.machine
+  pub between : HasBetween s code.between
 
 -- whether the code's session has ended, since memory was wanted or an input or output failed
 abbrev pub has_ended : SessionSeen → Bool
-has_ended code = elim code.machine [ Some m ↦ false | None ↦ true ]
+has_ended code = elim code.between [ Some b ↦ false | None ↦ true ]
 
 -- The image carries a session's program, whose top-level phrase starts on the stack that stands.
 pub record IsReady (s : Session) (M : Image) : Type 0 where

@@ -1,5 +1,5 @@
 //! The session of the listener.
-ghost use Rattle.std.specs.Prelude.{◌≡◌, [], length, List as Items, ℕ, None as no_machine, Some as some_machine, false, true, IfOk};
+ghost use Rattle.std.specs.Prelude.{◌≡◌, [], length, List as Items, ℕ, None as nothing, Some as something, false, true, IfOk};
 ghost use Rattle.fac_lines.specs.Channels.{CountsFaults, OnChannels};
 ghost use Rattle.fac_names.specs.declared.known.Known.{Known as KnownSeen};
 ghost use Rattle.fac_notes.specs.Sources.{Source as Comes};
@@ -7,30 +7,31 @@ ghost use Rattle.fac_check.specs.Judged.{StandsForWhole};
 ghost use Rattle.fac_session.specs.Sessions.{Session as Standing, goes_on, meant};
 ghost use Rattle.fac_session.specs.SessionLines.{behind_waiting};
 ghost use Rattle.fac_judge.specs.JudgedPrograms.{IsAccepted};
-ghost use Rattle.fac_judge.specs.KnownTexts.{GoesOn, IsKnownBehind};
 ghost use Rattle.fac_listener.specs.Replies.{AreSources, IsInputFault, IsWriteFault, LinePieces, Replies, StartsSession, ends_session};
-ghost use Rattle.fac_listener.specs.StandingSessions.{HoldsSession, Stands, has_ended};
+ghost use Rattle.fac_listener.specs.StandingSessions.{HoldsBetween, HoldsSession, Stands, has_ended};
 ghost use Rattle.fac_lang.specs.LongerPrograms.{IsLonger};
 ghost use Rattle.fac_vm.specs.GoingOn.{GoesOnFrom, IsLongerImage};
 ghost use Rattle.fac_vm.specs.SeenMachine.{held_in};
 ghost use Rattle.fac_judge.specs.TextMeanings.{IsMeaning};
-ghost use Rattle.fac_listener.specs.inner.SessionSteps.{AnswersLine, HoldsReady, MachineBegins, MachineGoesOn, TextAnswers, TextGoesOn, has_phrase};
+ghost use Rattle.fac_known.specs.KnownPrograms.{IsKnown};
+ghost use Rattle.fac_listener.specs.inner.SessionSteps.{AnswersLine, MachineBegins, MachineGoesOn, StandsReady, TextAnswers, TextGoesOn, has_phrase};
 
 use crate::Reply;
 use crate::running::run_phrase;
 use crate::session_laws::{
     images_are_longer, machines_begin, machines_go_on, phrases_are_not_stuck,
 };
-use fac_base::{Bytes, List, Memory};
+use fac_base::{Bytes, Memory};
 use fac_check::Checked;
 use fac_code::Image;
 use fac_io::{Sink, Source};
 use fac_judge::{
-    Accepted, Judged, Meaning, SessionFault, first_known, image_of, judge, known_behind,
-    known_behind_texts_is_known, meaning_of, one_known, one_source, program_of,
+    Accepted, Judged, Meaning, SessionFault, first_is_known, first_known, image_of, judge_copy,
+    meaning_of, one_source, texts_stay_known,
 };
 use fac_known::known_programs_stay;
 use fac_lines::Channels;
+use fac_names::Known;
 use fac_notes::Report;
 use fac_par::{Gate, Workers};
 use fac_parse::Why;
@@ -38,15 +39,20 @@ use fac_vm::Machine;
 use std::alloc::Global;
 use std::thread::Threads;
 
-/// A session: the texts that were accepted, the text that waits for its end, where one does, and a machine with the stack and the objects that stand. Behind
-/// want of memory or a fault of the input or output it has ended, and has no machine.
+/// What stands between two lines: the names and the program that the next text goes on with, and a machine with the stack and the objects.
+#[derive(Drop)]
+pub struct Between {
+    known: Known,
+    machine: Machine,
+}
+
+/// A session: the text that waits for its end, where one does, and what stands between two lines. Behind want of memory or a fault of the input or output it has
+/// ended, and nothing stands.
 #[derive(Drop)]
 pub struct Session {
-    // The accepted texts, in order.
-    texts: List<Bytes>,
     // The text that waits. It is empty where none does.
     waiting: Bytes,
-    machine: Option<Machine>,
+    between: Option<Between>,
 }
 
 // A line behind the text that waits, where one does.
@@ -62,22 +68,17 @@ fn whole_text(alloc: Global, waiting: &[u8], line: &[u8]) -> Result<Bytes, Memor
     Ok(text)
 }
 
-// What a text comes to behind these, on a stack of so many values.
+// What a text comes to behind what is known, on a stack of so many values.
 fn meaning_behind<R: Threads + Sync, G: Gate + Sync>(
     workers: &Workers<'_, R, G>,
-    texts: &List<Bytes>,
+    known: Known,
     count: u64,
     text: &Bytes,
 ) -> Meaning
-    requires { (known : KnownSeen) × IsKnownBehind texts.now known }
-    ensures { (known : KnownSeen) → IsKnownBehind texts.now known → IsMeaning known count text.now result }
+    requires { IsKnown known }
+    ensures { IsMeaning known count text.now result }
 {
-    known_behind_texts_is_known();
-    one_known();
-    match known_behind(workers.alloc, texts.as_slice()) {
-        Err(_) => Meaning::Memory,
-        Ok(known) => meaning_of(workers, known, count, text.as_slice()),
-    }
+    meaning_of(workers, known, count, text.as_slice())
 }
 
 // A machine over an image that goes on with what this one holds.
@@ -128,12 +129,12 @@ fn ends(reply: &Reply) -> bool
     }
 }
 
-// The machine that stands behind a reply. There is none behind one with which the session ends.
-fn kept(machine: Machine, reply: &Reply) -> Option<Machine>
-    ensures stands { ends_session reply.now ≡ false → result ≡ some_machine machine }
-    ensures none { ends_session reply.now ≡ true → result ≡ no_machine }
+// What stands behind a reply. Nothing does behind one with which the session ends.
+fn kept(between: Between, reply: &Reply) -> Option<Between>
+    ensures stands { ends_session reply.now ≡ false → result ≡ something between }
+    ensures none { ends_session reply.now ≡ true → result ≡ nothing }
 {
-    if ends(reply) { None } else { Some(machine) }
+    if ends(reply) { None } else { Some(between) }
 }
 
 impl Session {
@@ -143,19 +144,18 @@ impl Session {
     ) -> Result<Session, SessionFault>
         ensures { StartsSession result }
     {
-        known_behind_texts_is_known();
+        first_is_known();
         let alloc = workers.alloc;
         match first_known(alloc) {
             Err(fault) => Err(fault),
-            Ok(first) => match judge(workers, program_of(first), 0) {
+            Ok(known) => match judge_copy(workers, &known.program, 0) {
                 Judged::Memory => Err(SessionFault::Memory),
                 Judged::Refused(why) => Err(SessionFault::Prelude(why)),
                 Judged::Accepted(checked) => match first_machine(workers, checked) {
                     Err(_) => Err(SessionFault::Memory),
                     Ok(machine) => Ok(Session {
-                        texts: List::new(alloc),
                         waiting: Bytes::new(alloc),
-                        machine: Some(machine),
+                        between: Some(Between { known, machine }),
                     }),
                 },
             },
@@ -166,34 +166,34 @@ impl Session {
     pub fn ended(&self) -> bool
         ensures { result ≡ has_ended self.now }
     {
-        self.machine.is_none()
+        self.between.is_none()
     }
 
-    // Keeps the machine of a text that was taken, which has definitions alone.
-    fn define(&mut self, alloc: Global, machine: Machine)
-        ensures texts { self.new.texts ≡ self.old.texts }
+    // Keeps what stands behind a text that was taken, which has definitions alone.
+    fn define(&mut self, alloc: Global, between: Between)
         ensures waiting { self.new.waiting ≡ [] }
-        ensures machine { self.new.machine ≡ some_machine machine }
+        ensures between { self.new.between ≡ something between }
     {
         self.waiting = Bytes::new(alloc);
-        self.machine = Some(machine);
+        self.between = Some(between);
     }
 
     // Runs the phrase of the text that was taken.
     fn run_it<S: Source, K: Sink>(
         &mut self,
         alloc: Global,
-        mut machine: Machine,
+        between: Between,
         channels: &mut Channels<S, K>,
     ) -> Reply
-        requires { (s : Standing) × HoldsReady s machine }
-        ensures answers { OnChannels channels.old channels.new (λ before now input left. (s : Standing) → IsKnownBehind self.old.texts s.known → HoldsReady s machine → has_phrase s ≡ true → AnswersLine s before now self.new result input left) }
+        requires { (s : Standing) × StandsReady s between }
+        ensures answers { OnChannels channels.old channels.new (λ before now input left. (s : Standing) → StandsReady s between → has_phrase s ≡ true → AnswersLine s before now self.new result input left) }
         ensures ended { has_ended self.new ≡ ends_session result }
         ensures faults { CountsFaults channels.old channels.new (IsInputFault result) (IsWriteFault result) }
     {
+        let Between { known, mut machine } = between;
         self.waiting = Bytes::new(alloc);
         let reply = run_phrase(alloc, &mut machine, channels);
-        self.machine = kept(machine, &reply);
+        self.between = kept(Between { known, machine }, &reply);
         reply
     }
 
@@ -201,19 +201,19 @@ impl Session {
     fn run<S: Source, K: Sink>(
         &mut self,
         alloc: Global,
-        machine: Machine,
+        between: Between,
         runs: bool,
         channels: &mut Channels<S, K>,
     ) -> Reply
-        requires { (s : Standing) × HoldsReady s machine }
-        ensures answers { OnChannels channels.old channels.new (λ before now input left. (s : Standing) → IsKnownBehind self.old.texts s.known → HoldsReady s machine → s.waiting ≡ [] → runs ≡ has_phrase s → AnswersLine s before now self.new result input left) }
+        requires { (s : Standing) × StandsReady s between }
+        ensures answers { OnChannels channels.old channels.new (λ before now input left. (s : Standing) → StandsReady s between → s.waiting ≡ [] → runs ≡ has_phrase s → AnswersLine s before now self.new result input left) }
         ensures ended { has_ended self.new ≡ ends_session result }
         ensures faults { CountsFaults channels.old channels.new (IsInputFault result) (IsWriteFault result) }
     {
         if runs {
-            self.run_it(alloc, machine, channels)
+            self.run_it(alloc, between, channels)
         } else {
-            self.define(alloc, machine);
+            self.define(alloc, between);
             Reply::Defined
         }
     }
@@ -224,59 +224,68 @@ impl Session {
         workers: &Workers<'_, R, G>,
         machine: &Machine,
         accepted: Accepted,
-        text: Bytes,
         channels: &mut Channels<S, K>,
     ) -> Reply
-        requires { (self.old.machine ≡ no_machine) × ((s : Standing) × (q : KnownSeen) × TextGoesOn self.old.texts machine.now accepted text s q) }
-        ensures replies { OnChannels channels.old channels.new (λ before now input left. (s : Standing) (q : KnownSeen) → TextGoesOn self.old.texts machine.now accepted text s q → TextAnswers s text (goes_on q) before now self.new result input left) }
+        requires { (self.old.between ≡ nothing) × ((s : Standing) × (text : Items ℕ) × TextGoesOn machine.now accepted text s) }
+        ensures replies { OnChannels channels.old channels.new (λ before now input left. (s : Standing) (text : Items ℕ) → TextGoesOn machine.now accepted text s → TextAnswers s text (goes_on accepted.known) before now self.new result input left) }
         ensures ended { has_ended self.new ≡ ends_session result }
         ensures faults { CountsFaults channels.old channels.new (IsInputFault result) (IsWriteFault result) }
     {
-        known_behind_texts_is_known();
+        texts_stay_known();
         known_programs_stay();
         phrases_are_not_stuck();
-        let Accepted { checked, runs } = accepted;
-        match self.texts.push(text) {
+        let Accepted {
+            known,
+            checked,
+            runs,
+        } = accepted;
+        match machine_for(workers, machine, checked) {
             Err(_) => Reply::Memory { ticks: 0 },
-            Ok(()) => match machine_for(workers, machine, checked) {
-                Err(_) => Reply::Memory { ticks: 0 },
-                Ok(next) => self.run(workers.alloc, next, runs, channels),
-            },
+            Ok(next) => self.run(
+                workers.alloc,
+                Between {
+                    known,
+                    machine: next,
+                },
+                runs,
+                channels,
+            ),
         }
     }
 
-    // Takes a text, where this machine holds what stands.
+    // Takes a text, where this stands.
     fn take<R: Threads + Sync, G: Gate + Sync, S: Source, K: Sink>(
         &mut self,
         workers: &Workers<'_, R, G>,
-        machine: Machine,
+        between: Between,
         text: Bytes,
         channels: &mut Channels<S, K>,
     ) -> Reply
-        requires { (self.old.machine ≡ no_machine) × ((s : Standing) × IsKnownBehind self.old.texts s.known × HoldsSession s machine) }
-        ensures replies { OnChannels channels.old channels.new (λ before now input left. (source : Items ℕ → Comes) → AreSources source → (s : Standing) → IsKnownBehind self.old.texts s.known → HoldsSession s machine → TextAnswers s text (meant s.known (length s.stack) (source text)) before now self.new result input left) }
+        requires { (self.old.between ≡ nothing) × ((s : Standing) × HoldsBetween s between) }
+        ensures replies { OnChannels channels.old channels.new (λ before now input left. (source : Items ℕ → Comes) → AreSources source → (s : Standing) → HoldsBetween s between → TextAnswers s text (meant s.known (length s.stack) (source text)) before now self.new result input left) }
         ensures ended { has_ended self.new ≡ ends_session result }
         ensures faults { CountsFaults channels.old channels.new (IsInputFault result) (IsWriteFault result) }
     {
         one_source();
+        let Between { known, machine } = between;
         let count = machine.stack().len() as u64;
-        match meaning_behind(workers, &self.texts, count, &text) {
+        match meaning_behind(workers, known, count, &text) {
             Meaning::Memory => Reply::Memory { ticks: 0 },
-            Meaning::Waits { at } => {
+            Meaning::Waits { at, known } => {
                 self.waiting = text;
-                self.machine = Some(machine);
+                self.between = Some(Between { known, machine });
                 Reply::More(Report::Syntax {
                     file: 1,
                     at,
                     why: Why::End,
                 })
             }
-            Meaning::Refused(why) => {
+            Meaning::Refused { why, known } => {
                 self.waiting = Bytes::new(workers.alloc);
-                self.machine = Some(machine);
+                self.between = Some(Between { known, machine });
                 Reply::Refused(why)
             }
-            Meaning::Accepted(accepted) => self.go_on(workers, &machine, accepted, text, channels),
+            Meaning::Accepted(accepted) => self.go_on(workers, &machine, accepted, channels),
         }
     }
 
@@ -295,11 +304,11 @@ impl Session {
         ensures ended { has_ended self.new ≡ ends_session result }
         ensures faults { CountsFaults channels.old channels.new (IsInputFault result) (IsWriteFault result) }
     {
-        match self.machine.take() {
+        match self.between.take() {
             None => Reply::Memory { ticks: 0 },
-            Some(machine) => match whole_text(workers.alloc, self.waiting.as_slice(), text) {
+            Some(between) => match whole_text(workers.alloc, self.waiting.as_slice(), text) {
                 Err(_) => Reply::Memory { ticks: 0 },
-                Ok(text) => self.take(workers, machine, text, channels),
+                Ok(text) => self.take(workers, between, text, channels),
             },
         }
     }

@@ -1,6 +1,6 @@
 -- Scopes that grow, and marks to which they are cut back.
-use Rattle.std.specs.Prelude.{◌≡◌, ℕ, List, ◌++◌, length}
-use Rattle.fac_vocab.specs.Scopes.{Brought, Entry, Scope}
+use Rattle.std.specs.Prelude.{◌≡◌, List, ◌++◌, length}
+use Rattle.fac_vocab.specs.Scopes.{Scope}
 use Rattle.fac_vocab.specs.declared.mark.Mark.{Mark}
 
 -- One list begins with another. The rest is data, so it can be named.

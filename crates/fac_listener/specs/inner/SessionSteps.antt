@@ -11,14 +11,15 @@ use Rattle.fac_vm.specs.SeenMachine.{MachineSeen}
 use Rattle.fac_session.specs.Sessions.{Session, Meant, first_session}
 use Rattle.fac_session.specs.SessionLines.{ran, failed, spent, line_world, session_with}
 use Rattle.fac_judge.specs.JudgedPrograms.{IsAccepted}
-use Rattle.fac_judge.specs.KnownTexts.{GoesOn, IsKnownBehind}
+use Rattle.fac_known.specs.KnownPrograms.{IsKnown}
 use Rattle.fac_listener.specs.CutRuns.{RunPieces, stack_behind}
 use Rattle.fac_listener.specs.Replies.{AnswerPieces, IsAnswer, TextReplies, by_input, by_output, by_memory}
 use Rattle.fac_listener.specs.StandingSessions.{HoldsSession, IsReady, Stands}
-use Rattle.fac_judge.specs.TextMeanings.{has_item}
+use Rattle.fac_judge.specs.TextMeanings.{IsAcceptedText, has_item}
 use Rattle.fac_judge.specs.declared.meaning.Accepted.{Accepted}
 use Rattle.fac_listener.specs.declared.reply.Reply.{Reply}
 use Rattle.fac_listener.specs.declared.reply.Reply.TheVariants as reply
+use Rattle.fac_listener.specs.declared.session.Between.{Between}
 use Rattle.fac_listener.specs.declared.session.Session.{Session as SessionSeen}
 use Rattle.fac_listener.specs.inner.PhraseRuns.{IsPhraseCutShort, phrase_behind, session_run}
 
@@ -35,13 +36,17 @@ pub record HoldsReady (s : Session) (m : MachineSeen) : Type 0 where
 abbrev pub MachineGoesOn : MachineSeen → Closed → MachineSeen → Type 0
 MachineGoesOn old closed next = (s : Session) (q : Known) → HoldsSession s old → IsLonger s.known.program q.program → IsAccepted q.program (length s.stack) closed → HoldsReady (line_session s q) next
 
--- a session's text was accepted, and it goes on with this
-pub record TextGoesOn (texts : List (List ℕ)) (m : MachineSeen) (accepted : Accepted) (text : List ℕ) (s : Session) (q : Known) : Type 0 where
-  pub known : IsKnownBehind texts s.known
+-- what stands is a session's, and the machine's image carries the session's program
+pub record StandsReady (s : Session) (b : Between) : Type 0 where
+  pub known_is : b.known ≡ s.known
+  pub known : IsKnown s.known
+  pub machine : HoldsReady s b.machine
+
+-- a session's text was accepted, where a machine holds the session
+pub record TextGoesOn (m : MachineSeen) (accepted : Accepted) (text : List ℕ) (s : Session) : Type 0 where
+  pub known : IsKnown s.known
   pub holds : HoldsSession s m
-  pub goes_on : GoesOn s.known text q
-  pub accepts : IsAccepted q.program (length s.stack) accepted.checked.closed
-  pub runs : accepted.runs ≡ has_item (word_phrase q.program q.program.top)
+  pub accepts : IsAcceptedText s.known (length s.stack) text accepted
 
 -- a machine for an accepted program before the first line
 abbrev pub MachineBegins : Closed → MachineSeen → Type 0

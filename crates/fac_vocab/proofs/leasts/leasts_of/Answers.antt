@@ -1,4 +1,4 @@
-use Rattle.std.proofs.Common.{◌∙◌, ap, sym, subst, List, ℕ}
+use Rattle.std.proofs.Common.{◌∙◌, ap, subst, List, ℕ}
 use Rattle.std.specs.Str.{bytes_eq}
 use Rattle.fac_lang.specs.Whole.{no_two}
 use Rattle.fac_vocab.specs.inner.Leasts.{LeastWhere}

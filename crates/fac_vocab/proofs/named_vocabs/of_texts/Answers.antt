@@ -1,6 +1,4 @@
-use Rattle.std.proofs.Common.{◌∙◌, ap, subst, List, ℕ}
-use Rattle.std.specs.Str.{bytes_eq}
-use Rattle.fac_lang.specs.Whole.{no_two}
+use Rattle.std.proofs.Common.{subst, List, ℕ}
 use Rattle.fac_vocab.specs.inner.Roots.{RootedWhere}
 use Rattle.fac_vocab.proofs.named_vocabs.of_texts.Goals as goal
 

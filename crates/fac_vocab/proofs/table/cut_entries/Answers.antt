@@ -1,4 +1,4 @@
-use Rattle.std.proofs.Common.{◌≡◌, ◌<◌, ◌∙◌, ap, sym, subst, arith, length, take, refl, List}
+use Rattle.std.proofs.Common.{◌<◌, ◌∙◌, ap, sym, subst, arith, length, take, refl, List}
 use Rattle.std.proofs.lemmas.List.{take_all}
 use Rattle.fac_vocab.specs.Scopes.{Entry}
 use Rattle.fac_vocab.proofs.CutLemmas.{front_shorter, last_there}

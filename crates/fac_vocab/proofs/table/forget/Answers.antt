@@ -1,4 +1,4 @@
-use Rattle.std.proofs.Common.{◌≡◌, ◌≤◌, ◌∙◌, ap, subst, length, List, ℕ}
+use Rattle.std.proofs.Common.{◌≤◌, ◌∙◌, ap, subst, length, List, ℕ}
 use Rattle.fac_vocab.specs.declared.few.TheConstants.{FEW}
 use Rattle.fac_vocab.specs.inner.Index.{numbers_in}
 use Rattle.fac_vocab.proofs.CutLemmas.{few_cut, late_forgotten, names_cut, numbers_cut}

@@ -2,13 +2,13 @@ use Rattle.std.proofs.Common.{inl, refl}
 use Rattle.fac_lines.proofs.ChannelLemmas.{no_faults}
 use Rattle.fac_lines.proofs.InputLemmas.{reads_so, unread}
 use Rattle.fac_listener.proofs.PhraseLemmas.{nothing_taken}
-use Rattle.fac_listener.proofs.StepLemmas.{has_machine, line_pieces, line_replies}
+use Rattle.fac_listener.proofs.StepLemmas.{has_between, line_pieces, line_replies}
 use Rattle.fac_listener.proofs.session.Session.line.Goals as goal
 
 pub take-requires-in-Ok-after_bounds : goal.take-requires-in-Ok-after_bounds
 take-requires-in-Ok-after_bounds g c κs within =
     let stands = c.requires.1 in
-    (refl, (c.requires.0, stands.known, has_machine c.requires.0 c.args.self.now.machine c.in-Some.machine c.in-Some.is stands.machine))
+    (refl, (c.requires.0, has_between c.requires.0 c.args.self.now.between c.in-Some.between c.in-Some.is stands.between))
 
 pub returns-in-None-clause-replies : goal.returns-in-None-clause-replies
 returns-in-None-clause-replies g c = unread _ _ (λ input source are s stands. inl (nothing_taken input _))
@@ -27,7 +27,7 @@ returns-in-Ok-clause-replies g c =
     reads_so _ _ _ _ c.take-in-Ok.ensures.replies
     (λ input left h source are s stands.
     line_replies source s c.args.self.now.waiting c.args.text.now c.in-Ok.text _ _ _ c.take-in-Ok.result input left stands.waiting c.in-Ok.ensures
-    (h source are s stands.known (has_machine s c.args.self.now.machine c.in-Some.machine c.in-Some.is stands.machine)))
+    (h source are s (has_between s c.args.self.now.between c.in-Some.between c.in-Some.is stands.between)))
 
 pub returns-in-None-clause-pieces : goal.returns-in-None-clause-pieces
 returns-in-None-clause-pieces g c = unread _ _ (λ input source are s stands. tt)
@@ -40,7 +40,7 @@ returns-in-Ok-clause-pieces g c =
     reads_so _ _ _ _ c.take-in-Ok.ensures.replies
     (λ input left h source are s stands.
     line_pieces source s c.args.self.now.waiting c.args.text.now c.in-Ok.text _ _ _ c.take-in-Ok.result input left stands.waiting c.in-Ok.ensures
-    (h source are s stands.known (has_machine s c.args.self.now.machine c.in-Some.machine c.in-Some.is stands.machine)))
+    (h source are s (has_between s c.args.self.now.between c.in-Some.between c.in-Some.is stands.between)))
 
 pub returns-in-None-clause-ended : goal.returns-in-None-clause-ended
 returns-in-None-clause-ended g c = refl

@@ -1,5 +1,5 @@
-use Rattle.std.proofs.Common.{◌∙◌, sym, ap, reverse, arith}
-use Rattle.fac_vocab.proofs.CutLemmas.{brought_all, brought_cut}
+use Rattle.std.proofs.Common.{◌∙◌, ap, reverse}
+use Rattle.fac_vocab.proofs.CutLemmas.{brought_cut}
 use Rattle.fac_vocab.proofs.brought_names.BroughtNames.cut.Goals as goal
 
 pub returns : goal.returns
