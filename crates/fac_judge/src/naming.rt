@@ -97,13 +97,7 @@ fn text_end(alloc: Global, known: Known, forms: List<Form>) -> TextEnd
 }
 
 // What the names of a text of these forms come to, where this is a copy of the program and the scope has come as far as this mark.
-fn name_from(
-    alloc: Global,
-    known: Known,
-    program: Program,
-    mark: Mark,
-    forms: List<Form>,
-) -> Names
+fn name_from(alloc: Global, known: Known, program: Program, mark: Mark, forms: List<Form>) -> Names
     requires known { IsKnown known }
     requires forms { IsWellFormed forms }
     requires program { program ≡ known.program }
