@@ -25,11 +25,11 @@ use Rattle.fac_names.specs.declared.known.Known.{Known}
 use Rattle.fac_notes.specs.Sources.{no_tokens, no_tree, tree}
 use Rattle.fac_session.specs.Sessions.{on_first_names, on_names, refuses, waits}
 use Rattle.fac_judge.specs.TextSources.{IsReadAs}
-use Rattle.fac_judge.specs.KnownTexts.{BeginsWith, GoesOn, GoesOnWith, IsFirst, IsPreludeRefusal, RefusesName, RefusesSession}
+use Rattle.fac_judge.specs.KnownTexts.{BeginsWith, GoesOn, GoesOnWith, IsFirst, IsPreludeRefusal, RefusesSession}
 use Rattle.fac_judge.specs.MeantTexts.{ComesTo, Means}
-use Rattle.fac_judge.specs.NamedSteps.{GoesBack}
+use Rattle.fac_judge.specs.inner.NamedSteps.{GoesBack}
 use Rattle.fac_judge.specs.declared.naming.Step.{Step}
-use Rattle.fac_judge.specs.inner.NamedTexts.{AnswersForms, KnowsBeginning, KnowsPrelude}
+use Rattle.fac_judge.specs.inner.NamedTexts.{AnswersForms, KnowsBeginning, KnowsPrelude, RefusesName}
 
 -- the forms of a tree, each by itself
 pub are_forms : (forms : List Form) → IsWellFormed forms → AreForms forms

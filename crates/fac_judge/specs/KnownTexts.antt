@@ -1,7 +1,6 @@
 -- What is known behind the prelude, and behind a text of a session.
 use Rattle.std.specs.Prelude.{◌≡◌, ℕ, List, Ok, Err}
 use Rattle.fac_source.specs.declared.tree.Form.{Form}
-use Rattle.fac_source.specs.declared.refusal.NameFault.{NameFault}
 use Rattle.fac_known.specs.KnownPrograms.{IsKnown}
 use Rattle.fac_names.specs.Resolved.{going_on}
 use Rattle.fac_names.specs.declared.known.Known.{Known}
@@ -40,10 +39,6 @@ pub record GoesOn (k : Known) (text : List ℕ) (q : Known) : Type 0 where
   pub forms : List Form
   pub is_read : IsReadAs 1 text (tree forms)
   pub goes_on : GoesOnWith k forms q
-
--- behind what is known this name of a text of these forms is refused first
-unfoldable pub RefusesName : Known → List Form → NameFault → Type 0
-RefusesName k forms fault = going_on k forms ≡ Err fault
 
 -- What is known belongs together before the first text, and behind a text where it did before.
 abbrev pub FirstIsKnown : Type 0

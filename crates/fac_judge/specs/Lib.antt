@@ -2,7 +2,6 @@ pub mod TextSources
 pub mod JudgedPrograms
 pub mod TextImages
 pub mod KnownTexts
-pub mod NamedSteps
 pub mod MeantTexts
 pub mod TextMeanings
 pub mod inner

@@ -7,7 +7,7 @@ ghost use Rattle.fac_lang.specs.Whole.{IsWhole};
 ghost use Rattle.fac_known.specs.KnownPrograms.{IsKnown};
 ghost use Rattle.fac_names.specs.declared.known.Known.{Known as KnownSeen};
 ghost use Rattle.fac_judge.specs.KnownTexts.{GoesOn};
-ghost use Rattle.fac_judge.specs.NamedSteps.{GoesBack};
+ghost use Rattle.fac_judge.specs.inner.NamedSteps.{GoesBack};
 ghost use Rattle.fac_judge.specs.TextMeanings.{IsMeaning, body_phrase, has_item};
 ghost use Rattle.fac_judge.specs.TextSources.{IsReadAs};
 ghost use Rattle.fac_judge.specs.inner.ReadTexts.{ReadsText};

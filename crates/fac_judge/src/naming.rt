@@ -6,7 +6,7 @@ ghost use Rattle.fac_names.specs.TakenTexts.{HasGoneOn};
 ghost use Rattle.fac_names.specs.declared.known.Known.{Known as KnownSeen};
 ghost use Rattle.fac_vocab.specs.Marks.{GrewFrom, IsMarked};
 ghost use Rattle.fac_vocab.specs.Scopes.{Scope as ScopeSeen};
-ghost use Rattle.fac_judge.specs.NamedSteps.{GoesBack};
+ghost use Rattle.fac_judge.specs.inner.NamedSteps.{GoesBack};
 ghost use Rattle.fac_judge.specs.inner.NamedTexts.{AnswersForms, NamesForms};
 
 use fac_base::{Duplicate, List};

@@ -1,4 +1,4 @@
--- What is known behind a text, and what takes it back.
+-- Inner contracts: what is known behind a text, and what takes it back.
 use Rattle.std.specs.Prelude.{◌≡◌}
 use Rattle.fac_vocab.specs.Marks.{GrewFrom, IsMarked}
 use Rattle.fac_names.specs.declared.known.Known.{Known}
