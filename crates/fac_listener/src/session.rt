@@ -81,9 +81,9 @@ fn meaning_behind<R: Threads + Sync, G: Gate + Sync>(
 }
 
 // A machine over an image that goes on with what this one holds.
-fn longer_machine(alloc: Global, machine: &Machine, image: Image) -> Result<Machine, Memory>
-    requires { IsLongerImage machine.now.image image }
-    ensures { IfOk result (λ next. (next.image ≡ image) × GoesOnFrom machine.now.image image (held_in machine.now) (held_in next)) }
+fn longer_machine(alloc: Global, machine: Machine, image: Image) -> Result<Machine, Memory>
+    requires { IsLongerImage machine.image image }
+    ensures { IfOk result (λ next. (next.image ≡ image) × GoesOnFrom machine.image image (held_in machine) (held_in next)) }
 {
     machine.go_on(alloc, image)
 }
@@ -91,11 +91,11 @@ fn longer_machine(alloc: Global, machine: &Machine, image: Image) -> Result<Mach
 // A machine for an accepted program that goes on with what this one holds.
 fn machine_for<R: Threads + Sync, G: Gate + Sync>(
     workers: &Workers<'_, R, G>,
-    machine: &Machine,
+    machine: Machine,
     checked: Checked,
 ) -> Result<Machine, Memory>
-    requires { StandsForWhole checked.closed × ((s : Standing) × (q : KnownSeen) × HoldsSession s machine.now × IsLonger s.known.program q.program × IsAccepted q.program (length s.stack) checked.closed) }
-    ensures { IfOk result (MachineGoesOn machine.now checked.closed) }
+    requires { StandsForWhole checked.closed × ((s : Standing) × (q : KnownSeen) × HoldsSession s machine × IsLonger s.known.program q.program × IsAccepted q.program (length s.stack) checked.closed) }
+    ensures { IfOk result (MachineGoesOn machine checked.closed) }
 {
     images_are_longer();
     machines_go_on();
@@ -222,13 +222,13 @@ impl Session {
     fn go_on<R: Threads + Sync, G: Gate + Sync, S: Source, K: Sink>(
         &mut self,
         workers: &Workers<'_, R, G>,
-        machine: &Machine,
+        machine: Machine,
         accepted: Accepted,
         text: Bytes,
         channels: &mut Channels<S, K>,
     ) -> Reply
-        requires { (self.old.machine ≡ no_machine) × ((s : Standing) × (q : KnownSeen) × TextGoesOn self.old.texts machine.now accepted text s q) }
-        ensures replies { OnChannels channels.old channels.new (λ before now input left. (s : Standing) (q : KnownSeen) → TextGoesOn self.old.texts machine.now accepted text s q → TextAnswers s text (goes_on q) before now self.new result input left) }
+        requires { (self.old.machine ≡ no_machine) × ((s : Standing) × (q : KnownSeen) × TextGoesOn self.old.texts machine accepted text s q) }
+        ensures replies { OnChannels channels.old channels.new (λ before now input left. (s : Standing) (q : KnownSeen) → TextGoesOn self.old.texts machine accepted text s q → TextAnswers s text (goes_on q) before now self.new result input left) }
         ensures ended { has_ended self.new ≡ ends_session result }
         ensures faults { CountsFaults channels.old channels.new (IsInputFault result) (IsWriteFault result) }
     {
@@ -276,7 +276,7 @@ impl Session {
                 self.machine = Some(machine);
                 Reply::Refused(why)
             }
-            Meaning::Accepted(accepted) => self.go_on(workers, &machine, accepted, text, channels),
+            Meaning::Accepted(accepted) => self.go_on(workers, machine, accepted, text, channels),
         }
     }
 
