@@ -16,6 +16,6 @@ pub use hints::{push_hint, push_meant};
 pub use names::{language_names, push_defined};
 pub use nearness::closest;
 pub use pictures::{push_marked_at, push_place, told_token};
-pub use places::{byte_place, refused_token, token_place};
-pub use pushing::{push_told, say};
+pub use places::{byte_place, refused_token, spot_numbered, token_place};
+pub use pushing::{push_number, push_told, say};
 pub use sentences::{push_kind, push_rule, push_syntax};

@@ -2,7 +2,7 @@
 ghost use Rattle.std.specs.Prelude.{◌≡◌, ◌≤◌, ◌+◌, length, take, drop, Some, IfOk};
 ghost use Rattle.std.specs.List.{count_by};
 ghost use Rattle.fac_token.specs.Spots.{is_break as is_line_break, since_break};
-ghost use Rattle.fac_explain.specs.Places.{begins_character as may_begin_character, characters as characters_in, AreSpots, byte_spot, IsTokenPlace, refused_token as token_refused, spot_numbered};
+ghost use Rattle.fac_explain.specs.Places.{begins_character as may_begin_character, characters as characters_in, AreSpots, byte_spot, IsTokenPlace, refused_token as token_refused, spot_numbered as numbered_spot};
 
 use fac_base::{List, Memory};
 use fac_parse::Why;
@@ -123,9 +123,9 @@ pub fn spots_in(alloc: Global, text: &[u8]) -> Result<List<Spot>, Memory>
     }
 }
 
-// The place of the token with this number, from 1 on.
-fn numbered(spots: &List<Spot>, number: u32) -> Option<Spot>
-    ensures { result ≡ spot_numbered spots.now number }
+/// The place of the token with this number, from 1 on.
+pub fn spot_numbered(spots: &List<Spot>, number: u32) -> Option<Spot>
+    ensures { result ≡ numbered_spot spots.now number }
 {
     if number == 0 {
         return None;
@@ -141,7 +141,7 @@ pub fn token_place(alloc: Global, text: &[u8], number: u32) -> Result<Option<Spo
     ensures { IfOk result (IsTokenPlace text.now number) }
 {
     let spots = spots_in(alloc, text)?;
-    Ok(numbered(&spots, number))
+    Ok(spot_numbered(&spots, number))
 }
 
 /// The token of a refusal of the grammar.

@@ -2,6 +2,8 @@ pub mod Reports
 pub mod CheckAnswers
 pub mod Homes
 pub mod Help
+pub mod Spelled
+pub mod Stacks
 pub mod Explanations
 pub mod Explains
 pub mod VerdictLaws

@@ -34,8 +34,8 @@ pub fn file_names(alloc: Global, files: &[String]) -> Result<List<Text>, Memory>
     Ok(names)
 }
 
-// The name of a file by its number; nothing where no file has it.
-fn file_name(names: &List<Text>, file: u32) -> &[u8]
+/// The name of a file by its number; nothing where no file has it.
+pub fn file_name(names: &List<Text>, file: u32) -> &[u8]
     ensures { result.now ≡ name_of_file names.now file }
 {
     match names.get(file as usize) {

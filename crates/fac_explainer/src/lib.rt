@@ -15,6 +15,7 @@ mod laws;
 mod program;
 mod reports;
 mod silent;
+mod spelling;
 
 pub use explain::explain_top;
 pub use laws::{explanation_is_of_check, one_explanation, one_refusal};
