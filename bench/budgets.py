@@ -90,7 +90,7 @@ def compared(part):
             names, _ = model.program_of(command.files, model.sources_of(command.files, case.files))
             for ticks in range(whole.ticks + 2):
                 limited = compare.with_budget(case, command, ticks)
-                answer = model.answer_of_run(names.top, ticks, io.BytesIO(case.given))
+                answer = model.answer_of_run(names, ticks, io.BytesIO(case.given))
                 for one in (limited, Case(["exec", "--steps", str(ticks), "image"], {}, case.given)):
                     runs += 1
                     told = comparison.difference(one, answer)

@@ -88,7 +88,7 @@ def value_left(text):
     """The value on top behind this text, by the model; None where the text is refused or doesn't end."""
     try:
         names, _ = model.program_of(["a"], [call_source(text)])
-        run = model.Run(3_000)
+        run = model.Run(3_000, fault=names.fault)
         run.run(names.top)
     except (model.Refusal, model.RunError, model.Spent):
         return None

@@ -253,7 +253,7 @@ class Hierarchy:
             return "refused"
         try:
             model.Walk(model.Marks()).items(form.word.text, model.Stack(None, []), 0)
-            model.Run(20_000).run(form.word.text)
+            model.Run(20_000, fault=names.fault).run(form.word.text)
         except model.Refused:
             return "refused"
         except (model.RunError, model.Spent):

@@ -46,11 +46,12 @@ from input_kinds import INPUT_KINDS
 from kinds import KINDS, Case, happens, run_of
 from local_kinds import LOCAL_KINDS
 from loop_kinds import LOOP_KINDS
+from recover_kinds import RECOVER_KINDS
 from session_kinds import SESSION_KINDS
 from store_kinds import STORE_KINDS
 from wide_kinds import WIDE_KINDS
 
-ALL_KINDS = KINDS + CLASS_KINDS + LOCAL_KINDS + CALL_KINDS + INPUT_KINDS + STORE_KINDS + LOOP_KINDS + SESSION_KINDS + WIDE_KINDS
+ALL_KINDS = KINDS + CLASS_KINDS + LOCAL_KINDS + CALL_KINDS + INPUT_KINDS + STORE_KINDS + LOOP_KINDS + SESSION_KINDS + WIDE_KINDS + RECOVER_KINDS
 
 # The most ticks that the model takes for a program.
 MOST_TICKS = 200_000

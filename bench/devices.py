@@ -52,7 +52,7 @@ class Program:
         self.given = case.given
         names, definitions = model.program_of(list(self.files), list(self.files.values()))
         self.checked = model.Answer(model.DONE, "checked", output=f"checked {definitions} definitions\n")
-        self.top = names.top
+        self.names = names
         self.kept = {}
         # Asked with a budget, a run stops there; so the last answer has its ticks.
         self.whole, _ = self.answer(most_ticks, ())
@@ -62,7 +62,7 @@ class Program:
         if (ticks, reads) not in self.kept:
             stream = cases.Input(self.given, reads)
             try:
-                answer = model.answer_of_run(self.top, ticks, stream)
+                answer = model.answer_of_run(self.names, ticks, stream)
             except cases.InputFault:
                 answer = None
             self.kept[ticks, reads] = answer, (stream.coming.read(), stream.held, stream.reads, stream.ended)

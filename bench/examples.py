@@ -1870,6 +1870,116 @@ EXAMPLES_OF_SESSIONS = [
 ]
 
 
+# What a recovery does that writes the three slots of what it gets.
+TELLS = "[ dup name>> . dup value>> . word>> . ]"
+
+# A text that fails, without a value on the stack that stands then, and the name, the value and the word of what the error comes to.
+EXAMPLES_OF_FAULTS = [
+    ('1 "a" +', "not-integer", '"a"', "math:+"),
+    ("t 2 *", "not-integer", "t", "math:*"),
+    ("5 length", "not-sequence", "5", "sequences:length"),
+    ("5 name>>", "not-tuple", "5", "accessors:name>>"),
+    ("5 f >>word", "not-tuple", "5", "accessors:>>word"),
+    ("1 f value<<", "not-tuple", "f", "accessors:value<<"),
+    ("5 new", "not-tuple", "5", "kernel:new"),
+    ("\\ s new", "not-tuple", "s", "kernel:new"),
+    ("p new name>>", "no-slot", "T{ p f }", "accessors:name>>"),
+    ("{ } g", "no-method", "{ }", "scratchpad:g"),
+    ("5 g", "no-next-method", "5", "scratchpad:g"),
+    ("5 call( -- )", "wrong-values", "5", "call("),
+    ("1 [ + ] call( x -- y )", "wrong-values", "[ ... ]", "call("),
+    ("\\ + execute( -- )", "wrong-values", "+", "execute("),
+    ("5 execute( -- )", "wrong-values", "5", "execute("),
+    ("[ ] [ ] \\ recover execute( p q -- )", "wrong-values", "recover", "execute("),
+    ("1 2 curry", "wrong-values", "2", "kernel:curry"),
+    ("f [ ] compose", "wrong-values", "f", "kernel:compose"),
+    ("5 print", "bad-text", "5", "io:print"),
+    ("readln drop readln", "bad-text", "f", "io:readln"),
+    (f"{GREATEST} 1 +", "overflow", "f", "math:+"),
+    ("5 0 /i", "zero-divisor", "f", "math:/i"),
+    ("5 0 mod", "zero-divisor", "f", "math:mod"),
+    ("3 { 1 2 3 } nth", "bounds", "f", "sequences:nth"),
+    ("-1 f <array>", "length", "f", "arrays:<array>"),
+    ("-1 <iota>", "length", "f", "sequences:<iota>"),
+    ("{ t } { } (select)", "length", "f", "sequences.private:(select)"),
+    ("5 { { [ drop f ] [ ] } } cond", "no-cond", "f", "combinators.private:(no-cond)"),
+    ("[ ] [ ] =", "no-compare", "f", "kernel:="),
+    ("[ ] { [ ] } first eq?", "no-compare", "f", "kernel:eq?"),
+    ("1000000 1 <array> dup >array =", "compare-too-large", "f", "kernel:="),
+    ("1000000 1 <array> .", "text-too-long", "f", "prettyprint:."),
+]
+
+# A text behind H, and the status, the ticks, the output and the note of `run`. Caught errors.
+EXAMPLES_OF_RECOVER = [
+    ("[ 1 0 /i ] [ word>> ] recover .", 0, 8, '"math:/i"\n', ""),
+    ('1 2 [ + "x" throw ] [ nip ] recover . .', 0, 11, '"x"\n1\n', ""),
+    ("{ 0 } dup [ 7 0 rot set-nth 1 0 /i ] [ drop ] recover drop .", 0, 15, "{ 7 }\n", ""),
+    # a callable that is done, and what it leaves
+    ("[ 1 ] [ ] recover .", 0, 5, "1\n", ""),
+    ("1 2 [ + ] [ drop nip ] recover .", 0, 7, "3\n", ""),
+    ("5 [ ] [ drop ] recover .", 0, 5, "5\n", ""),
+    # what stands below is there again, whatever was taken of it
+    ('1 2 3 [ 3drop "x" throw ] [ ] recover . . . .', 0, 13, '"x"\n3\n2\n1\n', ""),
+    ("1 2 [ swap 5 throw ] [ ] recover . . .", 0, 11, "5\n2\n1\n", ""),
+    ("1 2 [ [ drop ] dip 5 throw ] [ ] recover . . .", 0, 13, "5\n2\n1\n", ""),
+    ("1 [ 2 3 [ throw ] dip ] [ ] recover . .", 0, 11, "2\n1\n", ""),
+    # what was thrown is any value
+    ("[ f throw ] [ ] recover .", 0, 6, "f\n", ""),
+    ("[ [ 5 ] throw ] [ call( -- x ) ] recover .", 0, 8, "5\n", ""),
+    ("{ 1 } [ dup throw ] [ 2dup eq? . 2drop ] recover", 0, 10, "t\n", ""),
+    ("[ [ 1 0 /i drop ] [ throw ] recover ] [ fault? . ] recover", 0, 12, "t\n", ""),
+    ("[ 5 throw ] [ fault? . ] recover", 0, 7, "f\n", ""),
+    # one in another: the innermost one that is open catches, and a recovery stands under those around it alone
+    ("[ [ 1 throw ] [ 2 throw ] recover ] [ ] recover .", 0, 11, "2\n", ""),
+    ("[ [ 1 ] [ ] recover throw ] [ 10 + ] recover .", 0, 11, "11\n", ""),
+    ("[ 1 throw ] [ [ 2 throw ] [ + ] recover ] recover .", 0, 12, "3\n", ""),
+    ("[ 1 ] [ ] recover throw", 1, 5, "", "error: thrown in kernel:throw: 1\n"),
+    ("[ 1 throw ] [ throw ] recover", 1, 6, "", "error: thrown in kernel:throw: 1\n"),
+    ("[ 1 0 /i ] [ throw ] recover", 1, 7, "", 'error: thrown in kernel:throw: T{ fault "zero-divisor" f "math:/i" }\n'),
+    ("[ 1 throw ] [ name>> ] recover", 1, 6, "", "error: not-tuple in accessors:name>>: 1\n"),
+    # under calls, branches and loops
+    (": w ( n -- m ) [ 10 swap /i ] [ 2drop -1 ] recover ; 0 w . 5 w .", 0, 20, "-1\n2\n", ""),
+    (": w ( n -- ) dup 0 = [ throw ] [ 1 - w ] if ; [ 3 w 5 ] [ ] recover .", 0, 40, "0\n", ""),
+    ("0 { 1 0 2 } [ [ 10 swap /i + ] [ 2drop 1 + ] recover ] each .", 0, None, "16\n", ""),
+    ("3 [ [ 1 throw ] [ . ] recover ] times", 0, None, "1\n1\n1\n", ""),
+    ("t [ [ 1 throw ] ] [ [ 2 throw ] ] if [ ] recover", 5, 0, "", "check: top-level, a token 28: not-known\n"),
+    # callables that were made
+    ("5 [ throw ] curry [ 1 + ] recover .", 0, 10, "6\n", ""),
+    ("[ 5 ] [ throw ] compose 3 [ 2dup + . 2drop ] curry recover", 0, 15, "8\n", ""),
+    (":: w ( a -- b ) [ a throw ] [| e | e a + ] recover ; 4 w .", 0, 13, "8\n", ""),
+    ("5 '[ _ throw ] 6 '[ _ + ] recover .", 0, 10, "11\n", ""),
+    # recover as a word
+    ("[ 5 throw ] [ 1 + ] \\ recover execute .", 0, 10, "6\n", ""),
+    ("[ 5 throw ] [ 1 + ] { recover } first execute( p q -- x )", 1, None, "", "error: wrong-values in execute(: recover\n"),
+    ("\\ recover . \\ fault . fault new .", 0, 7, "recover\nfault\nT{ fault f f f }\n", ""),
+    ("GENERIC: k ( x -- ) M: fault k name>> . ; M: object k . ; [ 1 0 /i drop ] [ k ] recover [ 7 throw ] [ k ] recover", 0, 16, '"zero-divisor"\n7\n', ""),
+    # a class with slots of these names has the accessors that are there
+    ('TUPLE: person name age ; [ "ann" 5 person boa throw ] [ name>> . ] recover', 0, 10, '"ann"\n', ""),
+    ("TUPLE: worse < fault more ; 1 2 3 4 worse boa fault? . 8 name>>", 1, None, "t\n", "error: not-tuple in accessors:name>>: 8\n"),
+    # what was written stays written, and what was read stays read
+    ('[ "a" write 1 throw ] [ . ] recover', 0, 8, "a1\n", ""),
+    ("[ readln print 5 throw ] [ drop ] recover readln .", 0, 10, "one\nf\n", ""),
+    # what the check refuses
+    ("[ 1 ] [ drop ] recover", 5, 0, "", "check: top-level, a token 18: branches, 1 and 0\n"),
+    ("recover", 5, 0, "", "check: top-level, a token 12: underflow, needs 2, has 0\n"),
+    ("[ ] recover", 5, 0, "", "check: top-level, a token 14: underflow, needs 2, has 1\n"),
+    ("1 [ ] recover", 5, 0, "", "check: top-level, a token 15: not-known\n"),
+    ("[ ] 1 recover", 5, 0, "", "check: top-level, a token 15: not-known\n"),
+    ("[ + ] [ ] recover", 5, 0, "", "check: top-level, a token 13: underflow, needs 2, has 0\n"),
+    ("[ ] [ ] recover", 5, 0, "", "check: top-level, a token 16: branches, 0 and 1\n"),
+    ("[ ] [ + ] recover", 5, 0, "", "check: top-level, a token 15: underflow, needs 2, has 1\n"),
+    ("1 [ drop ] [ ] recover", 5, 0, "", "check: top-level, a token 18: branches, 0 and 2\n"),
+    (": w ( x -- * ) [ throw ] [ throw ] recover ; 5 w", 1, 7, "", "error: thrown in kernel:throw: 5\n"),
+    (": w ( -- x ) [ 5 throw ] [ ] recover ; w .", 0, 7, "5\n", ""),
+    (": w ( -- * ) [ 5 throw ] [ ] recover ; w", 5, 0, "", "check: scratchpad:w, a token 13: must-return\n"),
+    (": recover ( p q -- ) 2drop ; [ ] [ ] recover", 0, 4, "", ""),
+    ("IN: kernel : recover ( -- ) ;", 4, 0, "", "name: a token 15: twice recover\n"),
+    ("IN: kernel TUPLE: fault ;", 4, 0, "", "name: a token 15: twice fault\n"),
+    ("IN: accessors : name>> ( x -- y ) ;", 4, 0, "", "name: a token 15: twice name>>\n"),
+    ("IN: a : fault ( -- ) ; IN: b USE: a fault", 4, 0, "", "name: a token 24: ambiguous fault, a:fault and kernel:fault\n"),
+]
+
+
 def all_examples():
     """Every example: words, files by their names, the input, and the status, ticks, output and note that are wanted. Of few the ticks
     aren't told, which are None."""
@@ -1901,6 +2011,13 @@ def all_examples():
         yield words.split(" ") if words else [], {name: text.encode() for name, text in files.items()}, b"", wanted
     for text, given, *wanted in EXAMPLES_OF_INPUT:
         yield ["run", "a"], {"a": f"{H} {text}".encode()}, given, wanted
+    defined = "SYMBOL: s TUPLE: p x ; GENERIC: g ( x -- y ) M: integer g call-next-method ; USE: sequences.private"
+    for text, *slots in EXAMPLES_OF_FAULTS:
+        name, value, word = slots
+        files = {"a": f"{H} {defined} [ {text} 0 throw ] {TELLS} recover".encode()}
+        yield ["run", "a"], files, b"one\n\xff", [model.DONE, None, f'"{name}"\n{value}\n"{word}"\n', ""]
+    for text, *wanted in EXAMPLES_OF_RECOVER:
+        yield ["run", "a"], {"a": f"{H} {text}".encode()}, b"one\n", wanted
     for lines, *wanted in EXAMPLES_OF_SESSIONS:
         yield ["listen"], {}, "\n".join(lines).encode(), wanted
 

@@ -77,9 +77,9 @@ def rule_sentence(rule, numbers, token, word):
         place, expected, found = numbers
         if place == 0:
             return f"Where {token} runs itself nothing may stand between its inputs and the row. Here stands {counted(found)}."
-        if token in ("call", "dip", "if") and expected == found:
+        if token in ("call", "dip", "if", "recover") and expected == found:
             return f"The input {place} of {word} is run on another row than it takes."
-        if token in ("call", "dip", "if"):
+        if token in ("call", "dip", "if", "recover"):
             return f"The input {place} of {word} takes {counted(expected)} on the row, and finds {counted(found)} above it."
         if expected == found:
             return f"The callable for input {place} of {token} ends with as many values as it has to, but on another row, with another callable below, or where it never should."

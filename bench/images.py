@@ -64,7 +64,7 @@ SHORT, SHORT_IN_CASES, SMALL = 150, 700, 2_000
 # The room of a sink that is made for a damaged image.
 ROOM = 300_000
 # So many of the images with which damage begins are written here; more of it is theirs, since they are small.
-BY_HERE = 3
+BY_HERE = 4
 MOST_BUILT_BYTES = 20_000
 MOST_MEMORY = 2 * 2**30
 MEMORY = 12
@@ -247,6 +247,68 @@ SOME = Image(
     start=6,
 )
 
+# Texts of the image below: vocabulary, words, the class of faults with its slots, and a class of two slots.
+FAULT_TEXTS = ["demo", "fault", "name", "value", "word", "caught", "over", "pair"]
+OF_FAULT, FAULT, NAME, VALUE, WORD, CAUGHT, OVER, PAIR = range(len(FAULT_TEXTS))
+
+
+def catching(text, kind=8):
+    """An image whose start has these instructions, behind the code of some templates. It has the kinds of faults, of pairs and of a singleton,
+    and a word that catches, whose faults are of this kind."""
+    code = assemble(
+        # 0: fails; 4: writes what it gets; 6: takes two values and throws; 10: catches within
+        "int 1, int 0, prim /i, ret, prim ., ret, prim 2drop, int 9, prim throw, ret, quot 0, quot 1, recover 8 1, ret,"
+        # 14: takes a held value and throws; 18: calls what it gets; 20: throws what it gets; 22: pushes a value
+        "back, prim drop, int 3, prim throw, call 1, ret, prim throw, ret, int 4, ret"
+    )
+    return Image(
+        texts=FAULT_TEXTS,
+        kinds=[(OF_FAULT, FAULT, [NAME, VALUE, WORD]), (OF_FAULT, PAIR, [NAME, VALUE]), (OF_FAULT, OVER, None)],
+        templates=[(entry, [], 0, None) for entry in (0, 4, 6, 10, 14, 18, 20, 22)],
+        words=[(OF_FAULT, CAUGHT, (9, kind), None), (OF_FAULT, OVER, (0, image_model.TABLE.index(model.THROW)), (1, None))],
+        code=code + assemble(text),
+        start=len(code),
+    )
+
+
+# What fails, what writes, what throws over two values, what catches, what throws a held value, what calls, what throws on, and what pushes.
+FAILS, WRITES, THROWS, CATCHES, LETS_GO, CALLS, THROWS_ON, PUSHES = range(8)
+
+# Such images: their starts, and what they come to.
+CATCHING = [
+    (f"int 5, int 6, quot {FAILS}, quot {WRITES}, recover 8 0, prim ., prim ., halt", 0, 'T{ fault "zero-divisor" f "unnamed" }\n6\n5\n', ""),
+    (f"int 5, int 6, quot {THROWS}, quot {WRITES}, recover 8 0, prim ., prim ., halt", 0, "9\n6\n5\n", ""),
+    (f"int 5, quot {PUSHES}, quot {WRITES}, recover 8 0, prim ., prim ., halt", 0, "4\n5\n", ""),
+    (f"quot {CATCHES}, quot {WRITES}, recover 8 0, halt", 0, 'T{ fault "zero-divisor" f "unnamed" }\n', ""),
+    (f"int 7, hold, quot {LETS_GO}, quot {WRITES}, recover 8 0, back, prim ., halt", 0, "3\n7\n", ""),
+    (
+        f"int 7, quot {FAILS}, quot {THROWS_ON}, recover 8 0, halt", 1, "",
+        'error: thrown in demo:over: T{ fault "zero-divisor" f "unnamed" }\n',
+    ),
+    (f"quot {FAILS}, quot {WRITES}, word 0, execute 0, halt", 0, 'T{ fault "zero-divisor" f "unnamed" }\n', ""),
+    (f"int 2, quot {FAILS}, prim curry, int 3, quot {WRITES}, prim curry, recover 8 0, prim ., halt", 0, '3\nT{ fault "zero-divisor" f "unnamed" }\n', ""),
+    (f"int 2, quot {WRITES}, recover 8 0, halt", 7, "", "image: trap at 26: kind\n"),
+    (f"quot {WRITES}, recover 8 0, halt", 7, "", "image: trap at 25: stack\n"),
+    (f"quot {WRITES}, int 2, recover 8 0, halt", 7, "", "image: trap at 26: kind\n"),
+    (f"quot {PUSHES}, quot {WRITES}, recover 8 1, halt", 7, "", "image: trap at 23: return\n"),
+    (f"int 1, quot {CALLS}, quot {WRITES}, recover 8 0, halt", 7, "", "image: trap at 18: kind\n"),
+    (f"quot {FAILS}, quot {FAILS}, recover 8 0, halt", 1, "", "error: zero-divisor in unnamed\n"),
+    (f"quot {FAILS}, quot {PUSHES}, recover 8 0, quot {FAILS}, call 0, halt", 1, "", "error: zero-divisor in unnamed\n"),
+    (f"quot {PUSHES}, quot {WRITES}, recover 8 0, quot {FAILS}, call 0, halt", 1, "", "error: zero-divisor in unnamed\n"),
+]
+
+
+def bytes_of_catching(text, **more):
+    """The bytes of such an image."""
+    return image_model.encode(catching(text, **more))
+
+
+def refused_catching(text, **more):
+    """The row of such an image in which a number names nothing of its kind."""
+    given = bytes_of_catching(text, **more)
+    return text, "", given, 7, "", f"image: byte {len(given)}\n"
+
+
 # Images with a name, the words behind `exec`, the bytes, and the status, the output and the note.
 BY_HAND = [
     ("halt", "", HALT, 0, "", ""),
@@ -271,7 +333,7 @@ BY_HAND = [
     ("held values", "", plain("int 1, int 2, hold, int 3, back, prim ., prim ., prim ., halt"), 0, "2\n3\n1\n", ""),
     ("a call of a place", "", plain("int 9, bind, callp 5 0, local 0, jump 9, local 0, unbind 1, int 4, ret, prim ., prim ., prim ., halt"), 0, "9\n4\n9\n", ""),
     ("an error without a word", "", plain("int 1, int 0, prim /i"), 1, "", "error: zero-divisor in unnamed\n"),
-    ("an instruction that isn't there", "", HALT[:13] + b"\x22\0", 7, "", "image: byte 13\n"),
+    ("an instruction that isn't there", "", HALT[:13] + b"\x23\0", 7, "", "image: byte 13\n"),
     ("a primitive that isn't there", "", HALT[:13] + b"\x0a\x3d\0", 7, "", "image: byte 14\n"),
     ("a flag that is none", "", HALT[:13] + b"\x0c\x02\0", 7, "", "image: byte 14\n"),
     ("a start that isn't there", "", HALT[:14] + b"\1", 7, "", "image: byte 15\n"),
@@ -282,6 +344,13 @@ BY_HAND = [
     ("a class set that descends", "", b"FCI1\0\0\0\1\2\5\5", 7, "", "image: byte 10\n"),
     ("a class set without room", "", b"FCI1\0\0\0\1\2\xff\xff\xff\xff\x0f", 7, "", "image: byte 13\n"),
     ("a method's number again", "", b"FCI1\0\0\0\0\0\0\1\0\2\5\0\0\5", 7, "", "image: byte 16\n"),
+    *((text, "", bytes_of_catching(text), *wanted) for text, *wanted in CATCHING),
+    ("a budget that ends in the callable", "--steps 4", bytes_of_catching(CATCHING[0][0]), 6, "", "spent: 4 ticks\n"),
+    ("a budget that ends at the failure", "--steps 7", bytes_of_catching(CATCHING[0][0]), 6, "", "spent: 7 ticks\n"),
+    ("a budget that ends in the recovery", "--steps 8", bytes_of_catching(CATCHING[0][0]), 6, "", "spent: 8 ticks\n"),
+    ("a budget that ends where what curry made is entered", "--steps 11", bytes_of_catching(CATCHING[7][0]), 6, "", "spent: 11 ticks\n"),
+    *(refused_catching(f"recover {kind} 0, halt") for kind in (0, 7, 9, 10, 11)),
+    *(refused_catching("halt", kind=kind) for kind in (0, 7, 9, 10, 11)),
 ]
 
 
@@ -375,7 +444,7 @@ def changed_instruction(image, chance):
         "text": len(image.texts), "array": len(image.arrays), "word": len(image.words), "quot": len(image.templates),
         "fry": len(image.templates), "callw": len(image.words), "generic": len(image.generics), "isa": len(image.sets),
         "callp": len(image.code), "jump": len(image.code), "branch": len(image.code), "tick": 5, "local": 3, "unbind": 3,
-        "callx": 3, "execx": 3, "get": len(image.texts), "set": len(image.texts), "put": len(image.texts),
+        "callx": 3, "execx": 3, "recover": image_model.FIRST_KIND + len(image.kinds), "get": len(image.texts), "set": len(image.texts), "put": len(image.texts),
     }
     numbers = [number for _, methods in image.generics for number, _, _ in methods] or [0]
     operands = []
@@ -411,8 +480,8 @@ def changed(image, chance):
         elif way == 7 and words:
             number = chance.randrange(len(words))
             vocabulary, name, does, height = words[number]
-            tag = chance.randrange(9)
-            most = {0: 60, 1: 4, 2: len(code) - 1, 4: len(image.generics), 8: len(sets)}.get(tag, len(image.texts))
+            tag = chance.randrange(10)
+            most = {0: 60, 1: 4, 9: image_model.FIRST_KIND + len(image.kinds), 2: len(code) - 1, 4: len(image.generics), 8: len(sets)}.get(tag, len(image.texts))
             does = (tag, None if tag == 3 else chance.randrange(most + 1))
             words[number] = (vocabulary, name, does, chance.choice([height, None, (0, 1), (1, 1), (2, 1), (0, None)]))
         elif way == 8 and templates:
@@ -731,13 +800,13 @@ def main():
     path = None if words.itself else os.path.abspath(speed.built(words.program))
     program = Played() if path is None else Built(path)
     report = Report()
-    whole, short = image_model.encode(ALL), image_model.encode(SOME)
+    whole, short, catches = image_model.encode(ALL), image_model.encode(SOME), bytes_of_catching(", ".join(text.removesuffix(", halt") for text, status, *_ in CATCHING if status == 0) + ", halt")
     if image_model.decode(whole) != ALL or image_model.decode(short) != SOME:
         report.fail("the model decodes the images written here otherwise")
     compare_by_hand(program, report)
     if path is not None:
         compare_commands(program, report)
-    images = [HALT, short, whole] + compare_built(program, report)
+    images = [HALT, short, whole, catches] + compare_built(program, report)
     most = SHORT_IN_CASES if words.cases else SHORT
     built = sorted(images[BY_HERE:], key=len)
     if not report.failed:

@@ -39,7 +39,7 @@ class Plain:
         self.methods = {}
         self.kinds = {}
         self.ahead = []
-        for word, _ in names.classes:
+        for word in names.classes_of_all()[len(names.built_in) :]:
             if word.shape.sort in ("tuple", "singleton"):
                 self.kinds[word] = image_model.FIRST_KIND + len(self.kinds)
                 slots = [self.text(slot) for slot in model.slots_of(word)] if word.shape.sort == "tuple" else None
@@ -82,12 +82,16 @@ class Plain:
         """The vocabulary of a word that no source defines."""
         if word in VOCABULARY_OF:
             return VOCABULARY_OF[word]
-        return next(vocabulary for vocabulary, name, _ in model.BUILT_IN_CLASSES if name + "?" == word.name)
+        if word.result.__name__ in ACCESSORS:
+            return "accessors"
+        return kept_in(word.result, "of").vocabulary
 
     def action(self, word):
         """What a word does."""
         if word in CORE_NUMBERS:
             return image_model.CORE, CORE_NUMBERS[word]
+        if word is model.RECOVER:
+            return image_model.RECOVER, self.kinds[self.names.fault]
         if word in image_model.TABLE:
             return image_model.PRIMITIVE, image_model.TABLE.index(word)
         if word is model.COND or type(word) is model.Word and word.symbol:
@@ -228,6 +232,8 @@ class Plain:
         number = self.word(word)
         if word in CORE_CODE:
             return CORE_CODE[word]
+        if word is model.RECOVER:
+            return "recover", self.kinds[self.names.fault], 0
         tag, of = self.image.words[number][2] if self.image.words[number] is not None else self.action_again(word)
         if tag == image_model.PRIMITIVE:
             return "prim", of

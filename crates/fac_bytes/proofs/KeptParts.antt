@@ -4,14 +4,14 @@ use Rattle.std.specs.Prelude.{◌&&◌, nat_le, nat_lt}
 use Rattle.std.specs.List.{list_all}
 use Rattle.std.proofs.lemmas.Bool.{and_from, and_parts, ltb-true}
 use Rattle.fac_lang.specs.declared.core_table.CoreWord.{CoreWord}
-use Rattle.fac_lang.specs.declared.core_table.CoreWord.TheVariants.{Call, Dip, If, Execute, Boa, Cond}
+use Rattle.fac_lang.specs.declared.core_table.CoreWord.TheVariants.{Call, Dip, If, Execute, Boa, Recover, Cond}
 use Rattle.fac_lang.specs.CoreWords.{core_number}
 use Rattle.fac_lang.specs.Primitives.{built_count, is_built_primitive}
 use Rattle.fac_code.specs.declared.image.Action.{Action}
 use Rattle.fac_code.specs.declared.image.Action.TheVariants as action
 use Rattle.fac_code.specs.declared.image.WordRow.{WordRow}
 use Rattle.fac_code.specs.declared.image.Instr.{Instr}
-use Rattle.fac_code.specs.declared.image.Instr.TheVariants.{Prim}
+use Rattle.fac_code.specs.declared.image.Instr.TheVariants.{Prim, Recover}
 use Rattle.fac_code.specs.declared.image.Tables.{Tables}
 use Rattle.fac_code.specs.declared.image.Image.{Image}
 use Rattle.fac_code.specs.Code.{is_built_instr, has_built_code, is_core_action}
@@ -35,6 +35,7 @@ last_is_action Dip h = omega arith
 last_is_action If h = omega arith
 last_is_action Execute h = omega arith
 last_is_action Boa h = omega arith
+last_is_action Recover h = absurd (cc)
 last_is_action Cond h = absurd (cc)
 
 -- ---- tables

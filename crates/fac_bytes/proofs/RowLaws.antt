@@ -2,7 +2,7 @@
 use Rattle.std.proofs.Common.{◌≡◌, ◌≤◌, ℕ, zero, suc, List, [], ◌∷◌, Option, Some, None, refl, ap, arith}
 use Rattle.std.specs.Prelude.{ℤ}
 use Rattle.fac_lang.specs.declared.core_table.CoreWord.{CoreWord}
-use Rattle.fac_lang.specs.declared.core_table.CoreWord.TheVariants.{Call, Dip, If, Execute, Boa, Cond}
+use Rattle.fac_lang.specs.declared.core_table.CoreWord.TheVariants.{Call, Dip, If, Execute, Boa, Recover, Cond}
 use Rattle.fac_lang.specs.CoreWords.{core_number}
 use Rattle.fac_base.specs.declared.height.Height.{Height}
 use Rattle.fac_code.specs.declared.image.Elem.{Elem}
@@ -56,6 +56,7 @@ core_back Dip = refl
 core_back If = refl
 core_back Execute = refl
 core_back Boa = refl
+core_back Recover = refl
 core_back Cond = refl
 
 core_holds : RowHolds action_parts 1 (with_number last_core (λ k. a.Core (core_numbered k)))
@@ -67,7 +68,7 @@ core_holds = record { below = (omega arith, tt); back = go }
     go (x ∷ y ∷ xs) h = absurd h.1
 
 action_rows_hold : RowsHold action_parts 0 (action_first ∷ action_rows)
-action_rows_hold = (number_holds action_parts 0 last_primitive (λ x. a.Prim x) last_small (λ x. refl), (core_holds, (number_holds action_parts 2 greatest32 (λ x. a.Code x) (omega arith) (λ x. refl), (plain_holds action_parts 3 a.Itself refl, (number_holds action_parts 4 greatest32 (λ x. a.Generic x) (omega arith) (λ x. refl), (number_holds action_parts 5 greatest32 (λ x. a.Get x) (omega arith) (λ x. refl), (number_holds action_parts 6 greatest32 (λ x. a.Set x) (omega arith) (λ x. refl), (number_holds action_parts 7 greatest32 (λ x. a.Put x) (omega arith) (λ x. refl), (number_holds action_parts 8 greatest32 (λ x. a.Isa x) (omega arith) (λ x. refl), tt)))))))))
+action_rows_hold = (number_holds action_parts 0 last_primitive (λ x. a.Prim x) last_small (λ x. refl), (core_holds, (number_holds action_parts 2 greatest32 (λ x. a.Code x) (omega arith) (λ x. refl), (plain_holds action_parts 3 a.Itself refl, (number_holds action_parts 4 greatest32 (λ x. a.Generic x) (omega arith) (λ x. refl), (number_holds action_parts 5 greatest32 (λ x. a.Get x) (omega arith) (λ x. refl), (number_holds action_parts 6 greatest32 (λ x. a.Set x) (omega arith) (λ x. refl), (number_holds action_parts 7 greatest32 (λ x. a.Put x) (omega arith) (λ x. refl), (number_holds action_parts 8 greatest32 (λ x. a.Isa x) (omega arith) (λ x. refl), (number_holds action_parts 9 greatest32 (λ x. a.Recover x) (omega arith) (λ x. refl), tt))))))))))
 
 action_back : (v : Action) → (row_at action_first action_rows (action_parts v).0).make (action_parts v).1 ≡ v
 action_back (a.Prim x) = refl
@@ -79,6 +80,7 @@ action_back (a.Get x) = refl
 action_back (a.Set x) = refl
 action_back (a.Put x) = refl
 action_back (a.Isa x) = refl
+action_back (a.Recover x) = refl
 
 pub action_exact : Exact action
 action_exact = choice_exact action_first action_rows action_parts (omega arith) action_rows_hold action_back

@@ -1,7 +1,7 @@
 -- The bytes of the elements of literal arrays, and of the rows of kinds, templates and words.
 use Rattle.std.specs.Prelude.{ℕ, zero, suc, List, [], ◌∷◌, Option, Some, None}
 use Rattle.fac_lang.specs.declared.core_table.CoreWord.{CoreWord}
-use Rattle.fac_lang.specs.declared.core_table.CoreWord.TheVariants.{Call, Dip, If, Execute, Boa, Cond}
+use Rattle.fac_lang.specs.declared.core_table.CoreWord.TheVariants.{Call, Dip, If, Execute, Boa, Recover, Cond}
 use Rattle.fac_lang.specs.CoreWords.{core_number}
 use Rattle.fac_base.specs.declared.height.Height.{Height}
 use Rattle.fac_code.specs.declared.image.Elem.{Elem}
@@ -47,14 +47,15 @@ elem = choice elem_first elem_rows elem_parts
 
 -- ---- actions
 
--- the core word that images have this number for; `cond` stands in none
+-- the core word with this number, which images have for it
 abbrev pub core_numbered : ℕ → CoreWord
 core_numbered zero = Call
 core_numbered (suc zero) = Dip
 core_numbered (suc (suc zero)) = If
 core_numbered (suc (suc (suc zero))) = Execute
 core_numbered (suc (suc (suc (suc zero)))) = Boa
-core_numbered (suc (suc (suc (suc (suc k))))) = Cond
+core_numbered (suc (suc (suc (suc (suc zero))))) = Recover
+core_numbered (suc (suc (suc (suc (suc (suc k)))))) = Cond
 
 -- the number of the last one that is an action
 abbrev pub last_core : ℕ
@@ -73,6 +74,7 @@ action_rows =
     ∷ with_number greatest32 (λ s. a.Set s)
     ∷ with_number greatest32 (λ s. a.Put s)
     ∷ with_number greatest32 (λ c. a.Isa c)
+    ∷ with_number greatest32 (λ k. a.Recover k)
     ∷ []
 
 abbrev pub action_parts : Action → ℕ × List ℕ
@@ -85,6 +87,7 @@ action_parts (a.Get s) = (5, s ∷ [])
 action_parts (a.Set s) = (6, s ∷ [])
 action_parts (a.Put s) = (7, s ∷ [])
 action_parts (a.Isa c) = (8, c ∷ [])
+action_parts (a.Recover k) = (9, k ∷ [])
 
 abbrev pub action : Format Action
 action = choice action_first action_rows action_parts

@@ -22,7 +22,7 @@ use std::alloc::Global;
 // The number of the last core word that is an action.
 const LAST_CORE: u32 = 4;
 
-// The number that images have for a core word. `cond` stands in none, and its number is past the last.
+// The number of a core word, which images have for it. Those of `recover` and `cond`, which are no such actions, are past the last.
 fn number_of_core(core: CoreWord) -> u32
     ensures { result ≡ core_number core }
 {
@@ -32,11 +32,12 @@ fn number_of_core(core: CoreWord) -> u32
         CoreWord::If => 2,
         CoreWord::Execute => 3,
         CoreWord::Boa => 4,
-        CoreWord::Cond => 5,
+        CoreWord::Recover => 5,
+        CoreWord::Cond => 6,
     }
 }
 
-// The core word that images have this number for.
+// The core word with this number.
 fn core_of_number(number: u32) -> CoreWord
     ensures { result ≡ core_numbered number }
 {
@@ -46,6 +47,7 @@ fn core_of_number(number: u32) -> CoreWord
         2 => CoreWord::If,
         3 => CoreWord::Execute,
         4 => CoreWord::Boa,
+        5 => CoreWord::Recover,
         _ => CoreWord::Cond,
     }
 }
@@ -123,7 +125,7 @@ impl Part for Elem {
 fn read_action(bytes: &[u8]) -> Result<(Action, &[u8]), ReadFault>
     ensures { Gives (λ x. (x.0, x.1.now)) result (action_format.read bytes.now) }
 {
-    let (tag, rest) = read_number(bytes, 0, 8)?;
+    let (tag, rest) = read_number(bytes, 0, 9)?;
     match tag {
         0 => {
             let (primitive, rest) = read_number(rest, 0, last_primitive())?;
@@ -154,9 +156,13 @@ fn read_action(bytes: &[u8]) -> Result<(Action, &[u8]), ReadFault>
             let (slot, rest) = read_number(rest, 0, u32::MAX)?;
             Ok((Action::Put(slot), rest))
         }
-        _ => {
+        8 => {
             let (set, rest) = read_number(rest, 0, u32::MAX)?;
             Ok((Action::Isa(set), rest))
+        }
+        _ => {
+            let (kind, rest) = read_number(rest, 0, u32::MAX)?;
+            Ok((Action::Recover(kind), rest))
         }
     }
 }
@@ -175,6 +181,7 @@ fn write_action(action: Action, out: &mut Bytes) -> Result<(), Memory>
         Action::Set(slot) => write_one(out, 6, u128::from(slot)),
         Action::Put(slot) => write_one(out, 7, u128::from(slot)),
         Action::Isa(set) => write_one(out, 8, u128::from(set)),
+        Action::Recover(kind) => write_one(out, 9, u128::from(kind)),
     }
 }
 
@@ -193,6 +200,7 @@ fn action_fits(_action: Action)
         Action::Set(_) => {}
         Action::Put(_) => {}
         Action::Isa(_) => {}
+        Action::Recover(_) => {}
     }
 }
 

@@ -17,7 +17,7 @@ use Rattle.fac_code.specs.declared.image.Image.{Image}
 use Rattle.fac_store.specs.MachineValues.{MValue, m_plain, m_fun, m_seen, machine_values}
 use Rattle.fac_carry.specs.Accessors.{Accessor, getting, setting, putting, accessor_ins, accessor_outs, accessor_fn}
 use Rattle.fac_carry.specs.MachineView.{Templates, value_view, object_view, world_view, gives_view}
-use Rattle.fac_carry.specs.WholeValues.{Whole, AllWhole, WholeObject, WholeObjects, WholeGives, Keeps}
+use Rattle.fac_carry.specs.WholeValues.{OrWhole, Whole, AllWhole, WholeObject, WholeObjects, WholeGives, Keeps}
 use Rattle.fac_carry.proofs.GivenValues.{IsLong, IsCounted}
 use Rattle.fac_carry.proofs.KeptPrimitives.{set_whole, object_added, object_set}
 use Rattle.fac_carry.proofs.SamePrimitives.{map_more, map_set, Same, seen_same}
@@ -130,9 +130,9 @@ module _ (T : Templates) (N : Names) where
 
 -- They make whole values of whole ones.
 module _ (P : Program) (M : Image) (N : Names) where
-  or_bad_keeps : {A : Type 0} (o : Option A) (e : ErrorName) (v : Option MValue) (w : World MValue) (go : A → Gives MValue) → WholeObjects P M w.objects → ((y : A) → o ≡ Some y → WholeGives P M (go y)) → WholeGives P M (or_bad machine_values o e v w go)
-  or_bad_keeps None e v w go os h = os
-  or_bad_keeps (Some y) e v w go os h = h y refl
+  or_bad_keeps : {A : Type 0} (o : Option A) (e : ErrorName) (v : Option MValue) (w : World MValue) (go : A → Gives MValue) → OrWhole P M v → WholeObjects P M w.objects → ((y : A) → o ≡ Some y → WholeGives P M (go y)) → WholeGives P M (or_bad machine_values o e v w go)
+  or_bad_keeps None e v w go hv os h = (hv, os)
+  or_bad_keeps (Some y) e v w go hv os h = h y refl
 
   abbrev WholeTuple : Option (ℕ × List MValue) → Type 0
   WholeTuple None = Unit {0}
@@ -148,27 +148,27 @@ module _ (P : Program) (M : Image) (N : Names) where
   tuple_whole (x ∷ os) (suc a) h = tuple_whole os a h.1
 
   place_keeps :
-      (s : List ℕ) (v : MValue) (w : World MValue) (a : ℕ) (t : Option (ℕ × List MValue)) (go : Slot machine_values N → Gives MValue) → WholeTuple t → WholeObjects P M w.objects → ((p : Slot machine_values N) → AllWhole P M p.values → WholeGives P M (go p)) →
+      (s : List ℕ) (v : MValue) (w : World MValue) (a : ℕ) (t : Option (ℕ × List MValue)) (go : Slot machine_values N → Gives MValue) → Whole P M v → WholeTuple t → WholeObjects P M w.objects → ((p : Slot machine_values N) → AllWhole P M p.values → WholeGives P M (go p)) →
       WholeGives P M (slot_place machine_values N s v w a t go)
-  place_keeps s v w a None go whole os h = os
-  place_keeps s v w a (Some t) go whole os h =
-      or_bad_keeps (name_at 0 s (N.kind_slots t.0)) NoSlot (Some v) w (λ k. go (record { address = a; kind = t.0; values = t.1; place = k })) os (λ k e. h (record { address = a; kind = t.0; values = t.1; place = k }) whole)
+  place_keeps s v w a None go hv whole os h = (hv, os)
+  place_keeps s v w a (Some t) go hv whole os h =
+      or_bad_keeps (name_at 0 s (N.kind_slots t.0)) NoSlot (Some v) w (λ k. go (record { address = a; kind = t.0; values = t.1; place = k })) hv os (λ k e. h (record { address = a; kind = t.0; values = t.1; place = k }) whole)
 
   slot_keeps :
-      (s : List ℕ) (v : MValue) (w : World MValue) (go : Slot machine_values N → Gives MValue) → WholeObjects P M w.objects → ((p : Slot machine_values N) → AllWhole P M p.values → WholeGives P M (go p)) → WholeGives P M (want_slot machine_values N s v w go)
-  slot_keeps s v w go os h =
-      or_bad_keeps (seen_tuple (m_seen v)) NotTuple (Some v) w (λ a. slot_place machine_values N s v w a (tuple_of machine_values (slice_get w.objects a)) go) os
-      (λ a e. place_keeps s v w a (tuple_of machine_values (slice_get w.objects a)) go (tuple_whole w.objects a os) os h)
+      (s : List ℕ) (v : MValue) (w : World MValue) (go : Slot machine_values N → Gives MValue) → Whole P M v → WholeObjects P M w.objects → ((p : Slot machine_values N) → AllWhole P M p.values → WholeGives P M (go p)) → WholeGives P M (want_slot machine_values N s v w go)
+  slot_keeps s v w go hv os h =
+      or_bad_keeps (seen_tuple (m_seen v)) NotTuple (Some v) w (λ a. slot_place machine_values N s v w a (tuple_of machine_values (slice_get w.objects a)) go) hv os
+      (λ a e. place_keeps s v w a (tuple_of machine_values (slice_get w.objects a)) go hv (tuple_whole w.objects a os) os h)
 
   put_keeps : (p : Slot machine_values N) (y : MValue) (w : World MValue) → AllWhole P M p.values → Whole P M y → WholeObjects P M w.objects → WholeObjects P M (with_slot machine_values N p y w).objects
   put_keeps p y w h g os = object_set P M w.objects p.address (tuple p.kind (set p.values p.place y)) os (set_whole P M p.values p.place y h g)
 
   pub accessor_keeps : (x : Accessor) (s : List ℕ) → Keeps P M (accessor_fn machine_values N x s)
   accessor_keeps getting s = λ v w hv os.
-      slot_keeps s v w (λ p. or_bad machine_values (slice_get p.values p.place) NoSlot (Some v) w (λ y. gives (y ∷ []) w)) os
-      (λ p h. or_bad_keeps (slice_get p.values p.place) NoSlot (Some v) w (λ y. gives (y ∷ []) w) os (λ y e. ((get_whole P M p.values p.place y h e, tt), os)))
-  accessor_keeps setting s = λ v y w hv hy os. slot_keeps s v w (λ p. gives (v ∷ []) (with_slot machine_values N p y w)) os (λ p h. ((hv, tt), put_keeps p y w h hy os))
-  accessor_keeps putting s = λ y v w hy hv os. slot_keeps s v w (λ p. gives [] (with_slot machine_values N p y w)) os (λ p h. (tt, put_keeps p y w h hy os))
+      slot_keeps s v w (λ p. or_bad machine_values (slice_get p.values p.place) NoSlot (Some v) w (λ y. gives (y ∷ []) w)) hv os
+      (λ p h. or_bad_keeps (slice_get p.values p.place) NoSlot (Some v) w (λ y. gives (y ∷ []) w) hv os (λ y e. ((get_whole P M p.values p.place y h e, tt), os)))
+  accessor_keeps setting s = λ v y w hv hy os. slot_keeps s v w (λ p. gives (v ∷ []) (with_slot machine_values N p y w)) hv os (λ p h. ((hv, tt), put_keeps p y w h hy os))
+  accessor_keeps putting s = λ y v w hy hv os. slot_keeps s v w (λ p. gives [] (with_slot machine_values N p y w)) hv os (λ p h. (tt, put_keeps p y w h hy os))
 
   pub tuple_keeps : (k : ℕ) (vs : List MValue) (w : World MValue) → AllWhole P M vs → WholeObjects P M w.objects → WholeGives P M (made_tuple machine_values N k vs w)
   tuple_keeps k vs w h os = ((tt, tt), object_added P M w.objects (tuple k vs) os h)

@@ -1,5 +1,5 @@
 -- What a word does by its action, and the steps of the cases that do that or test what they call.
-use Rattle.std.proofs.Common.{◌≡◌, ◌≢◌, ℕ, zero, suc, ◌+◌, ◌<◌, List, [], ◌∷◌, ◌++◌, length, Bool, true, false, Option, Some, None, refl, ap, sym, subst, ◌∙◌, arith}
+use Rattle.std.proofs.Common.{◌≡◌, ◌≢◌, ℕ, zero, suc, ◌+◌, ◌<◌, List, [], ◌∷◌, ◌++◌, length, Bool, true, false, Option, Some, None, refl, ap, sym, subst, ◌∙◌, arith, true≢false}
 use Rattle.std.proofs.lemmas.List.{length-map}
 use Rattle.std.proofs.lemmas.Option.{slice_get-map}
 use Rattle.std.specs.Prelude.{slice_get}
@@ -22,11 +22,13 @@ use Rattle.fac_lang.specs.Procedures.{Gives, gives, bad, Fn, fn0, fn1, fn2, fn3}
 use Rattle.fac_lang.specs.Primitives.{prim_fn}
 use Rattle.fac_lang.specs.Eval.{Result, Stuck, Act, wrong, goes, runs, Run, run_callable}
 use Rattle.fac_lang.specs.declared.core_table.CoreWord.{CoreWord}
-use Rattle.fac_lang.specs.declared.core_table.CoreWord.TheVariants.{Call as c_call, Dip as c_dip, If as c_if, Execute as c_execute, Boa as c_boa, Cond as c_cond}
+use Rattle.fac_lang.specs.declared.core_table.CoreWord.TheVariants.{Call as c_call, Dip as c_dip, If as c_if, Execute as c_execute, Boa as c_boa, Cond as c_cond, Recover as c_recover}
 use Rattle.fac_lang.specs.Meaning.{meaning_values, names, sort_of, word_phrase, is_top_phrase, word_call, word_execute, one_item, nowhere, sort_act, enters as meaning_enters, either, error, callable_fits, run_phrase, act}
+use Rattle.fac_lang.specs.Faults.{fault_kind}
 use Rattle.fac_lang.proofs.Laws.{within_call}
 use Rattle.fac_code.specs.declared.image.Instr.{Instr}
 use Rattle.fac_code.specs.declared.image.Instr.TheVariants.{Ret, Execute, CallEffect, ExecuteEffect}
+use Rattle.fac_code.specs.Code.{is_core_action}
 use Rattle.fac_code.specs.declared.image.Action.{Action}
 use Rattle.fac_code.specs.declared.image.Action.TheVariants as action
 use Rattle.fac_code.specs.declared.image.Image.{Image}
@@ -36,16 +38,16 @@ use Rattle.fac_code.specs.declared.image.WordRow.{WordRow}
 use Rattle.fac_code.specs.declared.names.TrapWhy.TheVariants.{Kind as t_kind}
 use Rattle.fac_store.specs.MachineValues.{MValue, m_plain, m_fun, MCallable, m_lit, m_cur, m_com, kept_list, m_seen, machine_values}
 use Rattle.fac_store.specs.CallableHeights.{height_there, callable_height}
-use Rattle.fac_machine.specs.Machine.{Machine, Entry, resume, put_back, enter, Job, instr, acts, spent, failed, Step, goes_on, ends, after, given as machine_given, does as machine_does, popping1, word_with, or_trap, branch, method_for, template_heights, fits_in, row_height, back, returning, enters_method, enters_if, tested_call, executes, executes_if, tested_word, does_core, does_action, fetched, step}
-use Rattle.fac_machine.proofs.Leading.{leads_none, leads_step, ends_step}
+use Rattle.fac_machine.specs.Machine.{Machine, Entry, resume, put_back, enter, Job, instr, acts, spent, failed, Step, goes_on, ends, after, given as machine_given, does as machine_does, recovers, popping1, word_with, or_trap, branch, method_for, template_heights, fits_in, row_height, back, returning, enters_method, enters_if, tested_call, executes, executes_if, tested_word, does_core, does_action, fetched, tried}
+use Rattle.fac_machine.proofs.Leading.{HasNoGuard, leads_none, leads_tried, spent_tried}
 use Rattle.fac_carry.specs.Accessors.{Accessor, getting, setting, putting, accessor_action, accessor_ins, accessor_outs, accessor_fn}
 use Rattle.fac_carry.specs.MachineView.{Templates, value_view, callable_view, values_view, kept_view, world_view, state_view}
-use Rattle.fac_carry.specs.Stands.{PushesItself, HasCode, SameMethod, Acting, a_itself, a_prim, a_accessor, a_isa, a_core, a_stuck, a_code, a_generic, HasAction}
-use Rattle.fac_carry.specs.Symbols.{Sym, here, Task, do_phrase, heres, AllHere, all_none, all_more, ins, outs}
+use Rattle.fac_carry.specs.Stands.{PushesItself, HasCode, SameMethod, Acting, a_itself, a_prim, a_accessor, a_isa, a_recover, a_core, a_stuck, a_code, a_generic, HasAction}
+use Rattle.fac_carry.specs.Symbols.{Sym, here, Task, do_phrase, no_task, heres, AllHere, all_none, all_more, ins, outs}
 use Rattle.fac_carry.specs.WholeValues as whole
 use Rattle.fac_carry.specs.TestedCalls.{TestsCallables}
 use Rattle.fac_carry.proofs.RunLaws.{free, spares, live_first}
-use Rattle.fac_carry.proofs.SymbolicStacks.{Left, l_phrase, r_here, lies_none, lies_more, Keeps, keeps_phrase, needs_any, all_heres, needed, all_here}
+use Rattle.fac_carry.proofs.SymbolicStacks.{Left, l_phrase, r_here, lies_none, lies_more, Keeps, keeps_none, keeps_phrase, needs_any, all_heres, needed, all_here}
 use Rattle.fac_carry.proofs.HeldFrames.{kept_list_view}
 use Rattle.fac_carry.proofs.PlainIsCode.{built_there}
 use Rattle.fac_carry.proofs.WholeValueLemmas.{pile_whole, branch_whole}
@@ -54,9 +56,9 @@ use Rattle.fac_carry.proofs.SamePrimitives.{prim_same}
 use Rattle.fac_carry.proofs.KeptPrimitives.{prim_keeps}
 use Rattle.fac_carry.proofs.FittingHeights.{fits_so}
 use Rattle.fac_carry.specs.Setting.{Setting}
-use Rattle.fac_carry.proofs.Following.{state, HasNoGuard, at, left, Follows, step_before, fetch, spent_here, then_follows, Live, LivePhrase, Go, Behind, CallsTo, Templated, first_goes, first_runs, live_goes, live_runs, wrong_here, then_done, live_phrase}
+use Rattle.fac_carry.proofs.Following.{state, at, left, Follows, step_before, fetch, spent_here, then_follows, Live, LivePhrase, Go, Behind, CallsTo, Templated, first_goes, first_runs, live_goes, live_runs, wrong_here, then_done, live_phrase}
 use Rattle.fac_carry.proofs.CaseLemmas.{prim_acts, prim_goes, prim_done, fails_so}
-use Rattle.fac_carry.proofs.CallLemmas.{pile_views, Rest, entries, leaves, unguarded, goes_back, phrase_runs, enters, g_ran, g_entered, core_is, chosen}
+use Rattle.fac_carry.proofs.CallLemmas.{pile_views, Rest, entries, leaves, unguarded, goes_back, phrase_runs, enters, g_ran, g_entered, g_tried, nothing_behind, returns_free, core_is, chosen}
 use Rattle.fac_carry.proofs.ClassCases.{accesses_so, accessor_done, kinds_same, m_isa, isa_done, boa_done, row_goes}
 
 module _ (Y : Setting) where
@@ -77,7 +79,7 @@ module _ (Y : Setting) where
   run = free A
 
   abbrev stepping : Machine → ℕ → Step
-  stepping = step M
+  stepping = tried M
 
   abbrev V : World MValue → World Value
   V = world_view T
@@ -138,7 +140,7 @@ module _ (Y : Setting) where
   behind_action F pc R base S n a s k ms vs w e ok lv l = record {
     stood = doing (instr Ret) F pc ms base R w;
     ticks = n;
-    leads = leads_step M s (doing (instr Ret) F pc ms base R w) k n e;
+    leads = leads_tried M s (doing (instr Ret) F pc ms base R w) k n e;
     pc = pc;
     frame = F;
     stack = ms;
@@ -147,13 +149,6 @@ module _ (Y : Setting) where
     same = ap (λ (us : List Value). state us (V w)) (all_here T S ms vs a l);
     fine = record { cells = tt; held = tt; values = ok.values; objects = ok.objects };
   }
-
-  -- what a return entry leads to doesn't hang on the entries that the machine has
-  returns_free : (R xs ys : List Entry) (F : List MValue) (pc : ℕ) (ms rs : List MValue) (w : World MValue) (n : ℕ) → returning M R (at F pc ms rs xs w) n ≡ returning M R (at F pc ms rs ys w) n
-  returns_free [] xs ys F pc ms rs w n = refl
-  returns_free (resume a G ∷ R) xs ys F pc ms rs w n = refl
-  returns_free (put_back v ∷ R) xs ys F pc ms rs w n = returns_free R xs ys F pc (v ∷ ms) rs w n
-  returns_free (enter c ∷ R) xs ys F pc ms rs w n = refl
 
   -- An action that runs a callable of the meaning: behind it values are put back, and the machine goes on as at `ret`.
   acted_runs : (wd : ℕ) (R own : List Entry) → HasNoGuard own → (base : List MValue) (st st' : State Value) (c : Callable) (put : List MValue) → AllWhole put → A (word wd) st ≡ runs c st' (values_view T put) → (n : ℕ) →
@@ -203,44 +198,56 @@ module _ (Y : Setting) where
   no_act wd st e lv = wrong_here Y (word wd) nowhere end [] st e lv
 
   -- From a step with n ticks that does a core word by its action.
-  core_acted : (f : ℕ) → Templated Y f → (n : ℕ) → n < f → (wd : ℕ) (o : CoreWord) → sort_of P wd ≡ Some (core_sort o) → (F : List MValue) (pc : ℕ) (R : List Entry) (base : List MValue) (w : World MValue) → Executes n F pc R base w →
+  core_acted : (f : ℕ) → Templated Y f → (n : ℕ) → n < f → (wd : ℕ) (o : CoreWord) → is_core_action o ≡ true → sort_of P wd ≡ Some (core_sort o) → (F : List MValue) (pc : ℕ) (R : List Entry) (base : List MValue) (w : World MValue) → Executes n F pc R base w →
       (ms : List MValue) (s : Machine) (j : ℕ) → stepping s j ≡ does_core M o (at F pc ms base R w) n → Fine F base ms w → Live Y (l_phrase (alone wd) ∷ []) (state_view T ms w) → Follows Y (Some Ret) R base s j (left Y (l_phrase (alone wd) ∷ []) (state_view T ms w) (suc n))
-  core_acted f tpl n lt wd c_cond es F pc R base w again ms s j e ok lv = no_act wd (state_view T ms w) (core_is Y wd c_cond (state_view T ms w) es) lv
-  core_acted f tpl n lt wd c_call es F pc R base w again [] s j e ok lv = no_act wd (state_view T [] w) (core_is Y wd c_call _ es) lv
-  core_acted f tpl n lt wd c_call es F pc R base w again (m_plain x ∷ ms) s j e ok lv = no_act wd (state_view T (m_plain x ∷ ms) w) (core_is Y wd c_call _ es) lv
-  core_acted f tpl n lt wd c_call es F pc R base w again (m_fun c ∷ ms) s j e ok lv =
+  core_acted f tpl n lt wd c_recover h es F pc R base w again ms s j e ok lv = absurd (true≢false (sym h))
+  core_acted f tpl n lt wd c_cond h es F pc R base w again ms s j e ok lv = no_act wd (state_view T ms w) (core_is Y wd c_cond (state_view T ms w) es) lv
+  core_acted f tpl n lt wd c_call h es F pc R base w again [] s j e ok lv = no_act wd (state_view T [] w) (core_is Y wd c_call _ es) lv
+  core_acted f tpl n lt wd c_call h es F pc R base w again (m_plain x ∷ ms) s j e ok lv = no_act wd (state_view T (m_plain x ∷ ms) w) (core_is Y wd c_call _ es) lv
+  core_acted f tpl n lt wd c_call h es F pc R base w again (m_fun c ∷ ms) s j e ok lv =
       acted_runs wd R [] tt base (state_view T (m_fun c ∷ ms) w) (state_view T ms w) (callable_view T c) [] tt (core_is Y wd c_call _ es) n (λ G pc2 ms2 w2 m. refl) lv s j
       (λ live. enters Y f tpl c ok.values.0 F pc R base ms w n lt (record { cells = tt; held = ok.held; values = ok.values.1; objects = ok.objects }) live s j e)
-  core_acted f tpl n lt wd c_dip es F pc R base w again [] s j e ok lv = no_act wd (state_view T [] w) (core_is Y wd c_dip _ es) lv
-  core_acted f tpl n lt wd c_dip es F pc R base w again (q ∷ []) s j e ok lv = no_act wd (state_view T (q ∷ []) w) (core_is Y wd c_dip _ es) lv
-  core_acted f tpl n lt wd c_dip es F pc R base w again (m_plain y ∷ x ∷ ms) s j e ok lv = no_act wd (state_view T (m_plain y ∷ x ∷ ms) w) (core_is Y wd c_dip _ es) lv
-  core_acted f tpl n lt wd c_dip es F pc R base w again (m_fun c ∷ x ∷ ms) s j e ok lv =
+  core_acted f tpl n lt wd c_dip h es F pc R base w again [] s j e ok lv = no_act wd (state_view T [] w) (core_is Y wd c_dip _ es) lv
+  core_acted f tpl n lt wd c_dip h es F pc R base w again (q ∷ []) s j e ok lv = no_act wd (state_view T (q ∷ []) w) (core_is Y wd c_dip _ es) lv
+  core_acted f tpl n lt wd c_dip h es F pc R base w again (m_plain y ∷ x ∷ ms) s j e ok lv = no_act wd (state_view T (m_plain y ∷ x ∷ ms) w) (core_is Y wd c_dip _ es) lv
+  core_acted f tpl n lt wd c_dip h es F pc R base w again (m_fun c ∷ x ∷ ms) s j e ok lv =
       acted_runs wd R (put_back x ∷ []) (tt, tt) base (state_view T (m_fun c ∷ x ∷ ms) w) (state_view T ms w) (callable_view T c) (x ∷ []) (ok.values.1.0, tt) (core_is Y wd c_dip _ es) n
-      (λ G pc2 ms2 w2 m. returns_free R (put_back x ∷ R) R G pc2 (x ∷ ms2) base w2 m) lv s j
+      (λ G pc2 ms2 w2 m. returns_free Y R (put_back x ∷ R) R G pc2 (x ∷ ms2) base w2 m) lv s j
       (λ live. enters Y f tpl c ok.values.0 F pc (put_back x ∷ R) base ms w n lt (record { cells = tt; held = ok.held; values = ok.values.1.1; objects = ok.objects }) live s j e)
-  core_acted f tpl n lt wd c_if es F pc R base w again [] s j e ok lv = no_act wd (state_view T [] w) (core_is Y wd c_if _ es) lv
-  core_acted f tpl n lt wd c_if es F pc R base w again (q ∷ []) s j e ok lv = no_act wd (state_view T (q ∷ []) w) (core_is Y wd c_if _ es) lv
-  core_acted f tpl n lt wd c_if es F pc R base w again (q ∷ y ∷ []) s j e ok lv = no_act wd (state_view T (q ∷ y ∷ []) w) (core_is Y wd c_if _ es) lv
-  core_acted f tpl n lt wd c_if es F pc R base w again (q ∷ m_plain y ∷ x ∷ ms) s j e ok lv = no_act wd (state_view T (q ∷ m_plain y ∷ x ∷ ms) w) (core_is Y wd c_if _ es) lv
-  core_acted f tpl n lt wd c_if es F pc R base w again (m_plain q ∷ m_fun c ∷ x ∷ ms) s j e ok lv = no_act wd (state_view T (m_plain q ∷ m_fun c ∷ x ∷ ms) w) (core_is Y wd c_if _ es) lv
-  core_acted f tpl n lt wd c_if es F pc R base w again (m_fun d ∷ m_fun c ∷ x ∷ ms) s j e ok lv =
+  core_acted f tpl n lt wd c_if h es F pc R base w again [] s j e ok lv = no_act wd (state_view T [] w) (core_is Y wd c_if _ es) lv
+  core_acted f tpl n lt wd c_if h es F pc R base w again (q ∷ []) s j e ok lv = no_act wd (state_view T (q ∷ []) w) (core_is Y wd c_if _ es) lv
+  core_acted f tpl n lt wd c_if h es F pc R base w again (q ∷ y ∷ []) s j e ok lv = no_act wd (state_view T (q ∷ y ∷ []) w) (core_is Y wd c_if _ es) lv
+  core_acted f tpl n lt wd c_if h es F pc R base w again (q ∷ m_plain y ∷ x ∷ ms) s j e ok lv = no_act wd (state_view T (q ∷ m_plain y ∷ x ∷ ms) w) (core_is Y wd c_if _ es) lv
+  core_acted f tpl n lt wd c_if h es F pc R base w again (m_plain q ∷ m_fun c ∷ x ∷ ms) s j e ok lv = no_act wd (state_view T (m_plain q ∷ m_fun c ∷ x ∷ ms) w) (core_is Y wd c_if _ es) lv
+  core_acted f tpl n lt wd c_if h es F pc R base w again (m_fun d ∷ m_fun c ∷ x ∷ ms) s j e ok lv =
       let b = seen_no (m_seen x) in
       acted_runs wd R [] tt base (state_view T (m_fun d ∷ m_fun c ∷ x ∷ ms) w) (state_view T ms w) (callable_view T (branch b c d)) [] tt (core_is Y wd c_if _ es ∙ chosen Y x c d (values_view T ms) (V w)) n (λ G pc2 ms2 w2 m. refl) lv s j
       (λ live. enters Y f tpl (branch b c d) (branch_whole P M b c d ok.values.1.0 ok.values.0) F pc R base ms w n lt (record { cells = tt; held = ok.held; values = ok.values.1.1.1; objects = ok.objects }) live s j e)
-  core_acted f tpl n lt wd c_execute es F pc R base w again [] s j e ok lv = no_act wd (state_view T [] w) (core_is Y wd c_execute _ es) lv
-  core_acted f tpl n lt wd c_execute es F pc R base w again (m_fun c ∷ ms) s j e ok lv = no_act wd (state_view T (m_fun c ∷ ms) w) (core_is Y wd c_execute _ es) lv
-  core_acted f tpl n lt wd c_execute es F pc R base w again (m_plain (int z) ∷ ms) s j e ok lv = no_act wd (state_view T (m_plain (int z) ∷ ms) w) (core_is Y wd c_execute _ es) lv
-  core_acted f tpl n lt wd c_execute es F pc R base w again (m_plain yes ∷ ms) s j e ok lv = no_act wd (state_view T (m_plain yes ∷ ms) w) (core_is Y wd c_execute _ es) lv
-  core_acted f tpl n lt wd c_execute es F pc R base w again (m_plain no ∷ ms) s j e ok lv = no_act wd (state_view T (m_plain no ∷ ms) w) (core_is Y wd c_execute _ es) lv
-  core_acted f tpl n lt wd c_execute es F pc R base w again (m_plain (str cs) ∷ ms) s j e ok lv = no_act wd (state_view T (m_plain (str cs) ∷ ms) w) (core_is Y wd c_execute _ es) lv
-  core_acted f tpl n lt wd c_execute es F pc R base w again (m_plain (iota i) ∷ ms) s j e ok lv = no_act wd (state_view T (m_plain (iota i) ∷ ms) w) (core_is Y wd c_execute _ es) lv
-  core_acted f tpl n lt wd c_execute es F pc R base w again (m_plain (arr b) ∷ ms) s j e ok lv = no_act wd (state_view T (m_plain (arr b) ∷ ms) w) (core_is Y wd c_execute _ es) lv
-  core_acted f tpl n lt wd c_execute es F pc R base w again (m_plain (tup b) ∷ ms) s j e ok lv = no_act wd (state_view T (m_plain (tup b) ∷ ms) w) (core_is Y wd c_execute _ es) lv
-  core_acted f tpl n lt wd c_execute es F pc R base w again (m_plain (wrd a) ∷ ms) s j e ok lv =
+  core_acted f tpl n lt wd c_execute h es F pc R base w again [] s j e ok lv = no_act wd (state_view T [] w) (core_is Y wd c_execute _ es) lv
+  core_acted f tpl n lt wd c_execute h es F pc R base w again (m_fun c ∷ ms) s j e ok lv = no_act wd (state_view T (m_fun c ∷ ms) w) (core_is Y wd c_execute _ es) lv
+  core_acted f tpl n lt wd c_execute h es F pc R base w again (m_plain (int z) ∷ ms) s j e ok lv = no_act wd (state_view T (m_plain (int z) ∷ ms) w) (core_is Y wd c_execute _ es) lv
+  core_acted f tpl n lt wd c_execute h es F pc R base w again (m_plain yes ∷ ms) s j e ok lv = no_act wd (state_view T (m_plain yes ∷ ms) w) (core_is Y wd c_execute _ es) lv
+  core_acted f tpl n lt wd c_execute h es F pc R base w again (m_plain no ∷ ms) s j e ok lv = no_act wd (state_view T (m_plain no ∷ ms) w) (core_is Y wd c_execute _ es) lv
+  core_acted f tpl n lt wd c_execute h es F pc R base w again (m_plain (str cs) ∷ ms) s j e ok lv = no_act wd (state_view T (m_plain (str cs) ∷ ms) w) (core_is Y wd c_execute _ es) lv
+  core_acted f tpl n lt wd c_execute h es F pc R base w again (m_plain (iota i) ∷ ms) s j e ok lv = no_act wd (state_view T (m_plain (iota i) ∷ ms) w) (core_is Y wd c_execute _ es) lv
+  core_acted f tpl n lt wd c_execute h es F pc R base w again (m_plain (arr b) ∷ ms) s j e ok lv = no_act wd (state_view T (m_plain (arr b) ∷ ms) w) (core_is Y wd c_execute _ es) lv
+  core_acted f tpl n lt wd c_execute h es F pc R base w again (m_plain (tup b) ∷ ms) s j e ok lv = no_act wd (state_view T (m_plain (tup b) ∷ ms) w) (core_is Y wd c_execute _ es) lv
+  core_acted f tpl n lt wd c_execute h es F pc R base w again (m_plain (wrd a) ∷ ms) s j e ok lv =
       acted_runs wd R [] tt base (state_view T (m_plain (wrd a) ∷ ms) w) (state_view T ms w) (of_phrase (alone a)) [] tt (core_is Y wd c_execute _ es) n (λ G pc2 ms2 w2 m. refl) lv s j
       (λ live. step_before Y (Some Ret) R base s (doing (acts a) F pc ms base R w) j n _ e (again a ms ok.values.0 (record { cells = ok.cells; held = ok.held; values = ok.values.1; objects = ok.objects }) live))
-  core_acted f tpl n lt wd c_boa es F pc R base w again ms s j e ok lv =
+  core_acted f tpl n lt wd c_boa h es F pc R base w again ms s j e ok lv =
       boa_done Y (back pc) F (Some Ret) wd nowhere end pc R base base [] w n (behind_action F pc R base (here ∷ []) n (all_more all_none)) es s j ms e ok lv
+
+  -- likewise one that catches errors
+  recover_acted : (f : ℕ) → Templated Y f → (n : ℕ) → n < f → (wd : ℕ) → sort_of P wd ≡ Some (core_sort c_recover) → (F : List MValue) (pc : ℕ) (R : List Entry) (base : List MValue) (w : World MValue) → (ms : List MValue) (s : Machine) (j : ℕ) →
+      stepping s j ≡ recovers M fault_kind true (at F pc ms base R w) n → Fine F base ms w → Live Y (l_phrase (alone wd) ∷ []) (state_view T ms w) → Follows Y (Some Ret) R base s j (left Y (l_phrase (alone wd) ∷ []) (state_view T ms w) (suc n))
+  recover_acted f tpl n lt wd es F pc R base w [] s j e ok lv = no_act wd (state_view T [] w) (core_is Y wd c_recover _ es) lv
+  recover_acted f tpl n lt wd es F pc R base w (q ∷ []) s j e ok lv = no_act wd (state_view T (q ∷ []) w) (core_is Y wd c_recover _ es) lv
+  recover_acted f tpl n lt wd es F pc R base w (q ∷ m_plain y ∷ ms) s j e ok lv = no_act wd (state_view T (q ∷ m_plain y ∷ ms) w) (core_is Y wd c_recover _ es) lv
+  recover_acted f tpl n lt wd es F pc R base w (m_plain q ∷ m_fun c ∷ ms) s j e ok lv = no_act wd (state_view T (m_plain q ∷ m_fun c ∷ ms) w) (core_is Y wd c_recover _ es) lv
+  recover_acted f tpl n lt wd es F pc R base w (m_fun d ∷ m_fun c ∷ ms) s j e ok lv =
+      g_tried Y f tpl (Some Ret) (word wd) nowhere end F pc R [] tt base base ms [] w n lt (record { cells = tt; held = ok.held; values = ok.values.1.1; objects = ok.objects }) (state_view T (m_fun d ∷ m_fun c ∷ ms) w) c d ok.values.1.0 ok.values.0
+      (core_is Y wd c_recover _ es) (nothing_behind Y [] no_task R base base [] keeps_none n) lv s j e
 
   -- From a step with n ticks that does a word by its action.
   acted_by : (f : ℕ) → Templated Y f → ((m a : ℕ) → HasCode P M m a → CallsTo Y (Some Ret) f [] a [] (word_phrase P m)) → (n : ℕ) → n < f → (wd : ℕ) → is_top_phrase P wd ≡ false → (x : Action) → Acting P M wd x →
@@ -268,7 +275,8 @@ module _ (Y : Setting) where
       let kinds = slice_get M.sets k in
       isa_done Y (to_ret pc) F (Some Ret) wd c kinds nowhere end [] pc R base base [] w n (behind_action F pc R base (here ∷ []) n (all_more all_none)) es same s j ms (values_view T ms)
       (e ∙ back_does pc wd (m_isa Y kinds) F ms base R w n (λ s'. goes_on (after s') n)) ok lv (needed T 1 [] [] (needs_any 1) ms (values_view T ms) lies_none)
-  acted_by f tpl words n lt wd none x (a_core c es) F pc R base w again ms s j e ok lv = core_acted f tpl n lt wd c es F pc R base w again ms s j e ok lv
+  acted_by f tpl words n lt wd none x (a_recover es) F pc R base w again ms s j e ok lv = recover_acted f tpl n lt wd es F pc R base w ms s j e ok lv
+  acted_by f tpl words n lt wd none x (a_core c h es) F pc R base w again ms s j e ok lv = core_acted f tpl n lt wd c h es F pc R base w again ms s j e ok lv
   acted_by f tpl words n lt wd none x (a_stuck y stuck) F pc R base w again ms s j e ok lv = no_act wd (state_view T ms w) (stuck fits Y.callable_height (state_view T ms w)) lv
   acted_by f tpl words n lt wd none x (a_code a code) F pc R base w again ms s j e ok lv =
       let st = state_view T ms w in
@@ -284,7 +292,7 @@ module _ (Y : Setting) where
     where
       by : (o : Option MethodRow) (o' : Option ℕ) → SameMethod P M o o' → A (word wd) (state_view T (v ∷ ms) w) ≡ meaning_enters P o' NoMethod wd (value_view T v) (state_view T ms w) → stepping s j ≡ enters_method M o NoMethod wd v (at F pc ms base R w) n →
           Follows Y (Some Ret) R base s j (left Y (l_phrase (alone wd) ∷ []) (state_view T (v ∷ ms) w) (suc n))
-      by None None same acted steps = fails_so Y F (Some Ret) (word wd) nowhere end [] R [] tt base base ms (state_view T (v ∷ ms) w) w pc n NoMethod v wd acted s j steps
+      by None None same acted steps = fails_so Y F (Some Ret) (word wd) nowhere end [] R [] tt base base ms (state_view T (v ∷ ms) w) w pc n NoMethod v wd ok.values.0 ok.objects acted s j steps
       by (Some m) (Some d) same acted steps =
           acted_runs wd R [] tt base (state_view T (v ∷ ms) w) (state_view T (v ∷ ms) w) (of_phrase (word_phrase P d)) [] tt acted n (λ G pc2 ms2 w2 m. refl) lv s j
           (λ live. step_before Y (Some Ret) R base s (at [] m.entry (v ∷ ms) base R w) j n _ steps (words d m.entry same R base (v ∷ ms) (values_view T (v ∷ ms)) w n lt (record { cells = tt; held = ok.held; values = ok.values; objects = ok.objects }) live lies_none))
@@ -307,7 +315,7 @@ module _ (Y : Setting) where
   -- A word that comes next does what its item does, at fewer than f ticks.
   executed : (f : ℕ) → Templated Y f → ((m a : ℕ) → HasCode P M m a → CallsTo Y (Some Ret) f [] a [] (word_phrase P m)) → ((a : ℕ) (d : WordDef) → slice_get P.words a ≡ Some d → is_top_phrase P a ≡ false → HasAction P M a) → (n : ℕ) → n < f →
       (F : List MValue) (pc : ℕ) (R : List Entry) (base : List MValue) (w : World MValue) → Executes n F pc R base w
-  executed f tpl words actions zero lt F pc R base w a ms none ok lv = (at F pc ms base R w, ends_step M (doing (acts a) F pc ms base R w) 0 (spent (at F pc ms base R w)) refl, refl)
+  executed f tpl words actions zero lt F pc R base w a ms none ok lv = (at F pc ms base R w, spent_tried M (doing (acts a) F pc ms base R w) 0 (at F pc ms base R w) refl, refl)
   executed f tpl words actions (suc n) lt F pc R base w a ms none ok lv =
       let lower : n < f = omega (arith, lt) in
       executed_by f tpl words actions n lower F pc R base w (executed f tpl words actions n lower F pc R base w) a ms none ok lv (slice_get P.words a) refl
@@ -359,11 +367,11 @@ module _ (Y : Setting) where
       tests v ms = ap (λ (u : Machine). popping1 u.stack u n (λ v s'. tested_call M q v s' n)) (leaves Y tail F pc (v ∷ ms) rs R w)
 
       unfit : (v : MValue) (ms : List MValue) (vs : List Value) → A (call_effect q) (state vs (V w)) ≡ error WrongValues (value_view T v) word_call (state (values_view T ms) (V w)) →
-          fetched M (Some (CallEffect q tail)) (at F pc (v ∷ ms) rs R w) (suc n) ≡ ends (failed (record { name = WrongValues; value = Some v; word = word_call }) (at F pc ms rs (entries Y tail F pc ++ R) w) n) →
+          fetched M (Some (CallEffect q tail)) (at F pc (v ∷ ms) rs R w) (suc n) ≡ ends (failed (record { name = WrongValues; value = Some v; word = word_call }) (at F pc ms rs (entries Y tail F pc ++ R) w) n) → Fine F rs (v ∷ ms) w →
           Follows Y last R base (at F pc (v ∷ ms) rs R w) (suc n) (left Y (l_phrase (then (call_effect q) p t) ∷ L1) (state vs (V w)) (suc n))
-      unfit v ms vs acted steps =
+      unfit v ms vs acted steps ok =
           let s = at F pc (v ∷ ms) rs R w in
-          fails_so Y F last (call_effect q) p t L1 R (entries Y tail F pc) (unguarded Y tail F pc) base rs ms (state vs (V w)) w pc n WrongValues v word_call acted s (suc n) (fetch Y s (suc n) (CallEffect q tail) e ∙ steps)
+          fails_so Y F last (call_effect q) p t L1 R (entries Y tail F pc) (unguarded Y tail F pc) base rs ms (state vs (V w)) w pc n WrongValues v word_call ok.values.0 ok.objects acted s (suc n) (fetch Y s (suc n) (CallEffect q tail) e ∙ steps)
 
       -- by whether it fits
       by : (b : Bool) (c : MCallable) (ms : List MValue) (vs : List Value) → A (call_effect q) (state vs (V w)) ≡ either b (runs (callable_view T c) (state_view T ms w) []) (error WrongValues (fun (callable_view T c)) word_call (state_view T ms w)) →
@@ -373,12 +381,12 @@ module _ (Y : Setting) where
           let s = at F pc (m_fun c ∷ ms) rs R w in
           g_entered Y f F tpl last (call_effect q) p t pc R (entries Y tail F pc) (unguarded Y tail F pc) base (m_fun c ∷ ms) ms rs vs L1 w n le (record { cells = tt; held = ok.held; values = ok.values.1; objects = ok.objects }) c ok.values.0
           [] acted (fetch Y s (suc n) (CallEffect q tail) e ∙ steps) (goes_back Y f F pc tail last t K rest R base rs L1 h ok.cells ok.held n (omega (arith, le))) lv
-      by false c ms vs acted steps ok lv = unfit (m_fun c) ms vs acted steps
+      by false c ms vs acted steps ok lv = unfit (m_fun c) ms vs acted steps ok
 
       one : (ms : List MValue) (vs : List Value) → vs ≡ values_view T ms → Fine F rs ms w → Live Y (l_phrase (then (call_effect q) p t) ∷ L1) (state vs (V w)) →
           Follows Y last R base (at F pc ms rs R w) (suc n) (left Y (l_phrase (then (call_effect q) p t) ∷ L1) (state vs (V w)) (suc n))
       one [] vs is ok lv = wrong_here Y (call_effect q) p t L1 (state vs (V w)) (rw is refl) lv
-      one (m_plain x ∷ ms) vs is ok lv = unfit (m_plain x) ms vs (rw is refl) (tests (m_plain x) ms)
+      one (m_plain x ∷ ms) vs is ok lv = unfit (m_plain x) ms vs (rw is refl) (tests (m_plain x) ms) ok
       one (m_fun c ∷ ms) vs is ok lv =
           let st' = state_view T ms w in
           let cv = callable_view T c in
@@ -396,11 +404,11 @@ module _ (Y : Setting) where
       tests v ms = ap (λ (u : Machine). popping1 u.stack u n (λ v s'. tested_word M q v (seen_word (m_seen v)) s' n)) (leaves Y tail F pc (v ∷ ms) rs R w)
 
       unfit : (v : MValue) (ms : List MValue) (vs : List Value) → A (execute_effect q) (state vs (V w)) ≡ error WrongValues (value_view T v) word_execute (state (values_view T ms) (V w)) →
-          fetched M (Some (ExecuteEffect q tail)) (at F pc (v ∷ ms) rs R w) (suc n) ≡ ends (failed (record { name = WrongValues; value = Some v; word = word_execute }) (at F pc ms rs (entries Y tail F pc ++ R) w) n) →
+          fetched M (Some (ExecuteEffect q tail)) (at F pc (v ∷ ms) rs R w) (suc n) ≡ ends (failed (record { name = WrongValues; value = Some v; word = word_execute }) (at F pc ms rs (entries Y tail F pc ++ R) w) n) → Fine F rs (v ∷ ms) w →
           Follows Y last R base (at F pc (v ∷ ms) rs R w) (suc n) (left Y (l_phrase (then (execute_effect q) p t) ∷ L1) (state vs (V w)) (suc n))
-      unfit v ms vs acted steps =
+      unfit v ms vs acted steps ok =
           let s = at F pc (v ∷ ms) rs R w in
-          fails_so Y F last (execute_effect q) p t L1 R (entries Y tail F pc) (unguarded Y tail F pc) base rs ms (state vs (V w)) w pc n WrongValues v word_execute acted s (suc n) (fetch Y s (suc n) (ExecuteEffect q tail) e ∙ steps)
+          fails_so Y F last (execute_effect q) p t L1 R (entries Y tail F pc) (unguarded Y tail F pc) base rs ms (state vs (V w)) w pc n WrongValues v word_execute ok.values.0 ok.objects acted s (suc n) (fetch Y s (suc n) (ExecuteEffect q tail) e ∙ steps)
 
       -- by whether it fits
       by : (b : Bool) (d : ℕ) (ms : List MValue) (vs : List Value) → A (execute_effect q) (state vs (V w)) ≡ either b (run_phrase (alone d) (state_view T ms w)) (error WrongValues (plain (wrd d)) word_execute (state_view T ms w)) →
@@ -409,19 +417,19 @@ module _ (Y : Setting) where
       by true d ms vs acted steps ok lv =
           let s = at F pc (m_plain (wrd d) ∷ ms) rs R w in
           g_executed f F tpl words actions tail last (execute_effect q) p t K pc rest R base ms rs vs L1 w n (omega (arith, le)) h d ok acted lv s (suc n) (fetch Y s (suc n) (ExecuteEffect q tail) e ∙ steps)
-      by false d ms vs acted steps ok lv = unfit (m_plain (wrd d)) ms vs acted steps
+      by false d ms vs acted steps ok lv = unfit (m_plain (wrd d)) ms vs acted steps ok
 
       one : (ms : List MValue) (vs : List Value) → vs ≡ values_view T ms → Fine F rs ms w → Live Y (l_phrase (then (execute_effect q) p t) ∷ L1) (state vs (V w)) →
           Follows Y last R base (at F pc ms rs R w) (suc n) (left Y (l_phrase (then (execute_effect q) p t) ∷ L1) (state vs (V w)) (suc n))
       one [] vs is ok lv = wrong_here Y (execute_effect q) p t L1 (state vs (V w)) (rw is refl) lv
-      one (m_fun c ∷ ms) vs is ok lv = unfit (m_fun c) ms vs (rw is refl) (tests (m_fun c) ms)
-      one (m_plain (int z) ∷ ms) vs is ok lv = unfit (m_plain (int z)) ms vs (rw is refl) (tests (m_plain (int z)) ms)
-      one (m_plain yes ∷ ms) vs is ok lv = unfit (m_plain yes) ms vs (rw is refl) (tests (m_plain yes) ms)
-      one (m_plain no ∷ ms) vs is ok lv = unfit (m_plain no) ms vs (rw is refl) (tests (m_plain no) ms)
-      one (m_plain (str cs) ∷ ms) vs is ok lv = unfit (m_plain (str cs)) ms vs (rw is refl) (tests (m_plain (str cs)) ms)
-      one (m_plain (iota i) ∷ ms) vs is ok lv = unfit (m_plain (iota i)) ms vs (rw is refl) (tests (m_plain (iota i)) ms)
-      one (m_plain (arr b) ∷ ms) vs is ok lv = unfit (m_plain (arr b)) ms vs (rw is refl) (tests (m_plain (arr b)) ms)
-      one (m_plain (tup b) ∷ ms) vs is ok lv = unfit (m_plain (tup b)) ms vs (rw is refl) (tests (m_plain (tup b)) ms)
+      one (m_fun c ∷ ms) vs is ok lv = unfit (m_fun c) ms vs (rw is refl) (tests (m_fun c) ms) ok
+      one (m_plain (int z) ∷ ms) vs is ok lv = unfit (m_plain (int z)) ms vs (rw is refl) (tests (m_plain (int z)) ms) ok
+      one (m_plain yes ∷ ms) vs is ok lv = unfit (m_plain yes) ms vs (rw is refl) (tests (m_plain yes) ms) ok
+      one (m_plain no ∷ ms) vs is ok lv = unfit (m_plain no) ms vs (rw is refl) (tests (m_plain no) ms) ok
+      one (m_plain (str cs) ∷ ms) vs is ok lv = unfit (m_plain (str cs)) ms vs (rw is refl) (tests (m_plain (str cs)) ms) ok
+      one (m_plain (iota i) ∷ ms) vs is ok lv = unfit (m_plain (iota i)) ms vs (rw is refl) (tests (m_plain (iota i)) ms) ok
+      one (m_plain (arr b) ∷ ms) vs is ok lv = unfit (m_plain (arr b)) ms vs (rw is refl) (tests (m_plain (arr b)) ms) ok
+      one (m_plain (tup b) ∷ ms) vs is ok lv = unfit (m_plain (tup b)) ms vs (rw is refl) (tests (m_plain (tup b)) ms) ok
       one (m_plain (wrd d) ∷ ms) vs is ok lv =
           let st' = state_view T ms w in
           let b = fits_in q (row_height (slice_get M.words d)) in

@@ -24,8 +24,8 @@ use Rattle.fac_code.specs.ImageNames.{image_names}
 use Rattle.fac_code.specs.declared.image.Action.TheVariants as action
 use Rattle.fac_code.specs.declared.names.TrapWhy.TheVariants.{Kind as t_kind, Frame as t_frame}
 use Rattle.fac_store.specs.MachineValues.{MValue, m_plain, MCallable, machine_values, cells_at}
-use Rattle.fac_machine.specs.Machine.{Machine, Entry, failed, spent, Step, goes_on, ends, after, given as machine_given, does as machine_does, does_prim, word_with, or_trap, fetched, step}
-use Rattle.fac_machine.proofs.Leading.{leads_none}
+use Rattle.fac_machine.specs.Machine.{Machine, Entry, failed, spent, Step, goes_on, ends, after, given as machine_given, does as machine_does, does_prim, word_with, or_trap, fetched, tried}
+use Rattle.fac_machine.proofs.Leading.{HasNoGuard, leads_none}
 use Rattle.fac_carry.specs.MachineView.{Templates, value_view, values_view, world_view, gives_view}
 use Rattle.fac_carry.specs.WholeValues as whole
 use Rattle.fac_carry.specs.Symbols.{Sym, here, off, k_phrase, Task, do_phrase, Needs, heres, AllHere, ins, outs, count}
@@ -36,7 +36,7 @@ use Rattle.fac_carry.proofs.WholeValueLemmas.{pile_whole, cells_whole, made, mad
 use Rattle.fac_carry.proofs.SamePrimitives.{Same, prim_same}
 use Rattle.fac_carry.proofs.KeptPrimitives.{prim_keeps}
 use Rattle.fac_carry.specs.Setting.{Setting}
-use Rattle.fac_carry.proofs.Following.{HasNoGuard, owing, state, at, left, Follows, step_before, fetch, spent_here, Live, Go, Behind}
+use Rattle.fac_carry.proofs.Following.{owing, state, at, left, Follows, step_before, fetch, spent_here, Live, Go, Behind}
 use Rattle.fac_carry.proofs.Following.{first_is, owed_goes, owed_none, live_is, live_goes, wrong_here}
 
 module _ (Y : Setting) where
@@ -57,7 +57,7 @@ module _ (Y : Setting) where
   run = free A
 
   abbrev stepping : Machine → ℕ → Step
-  stepping = step M
+  stepping = tried M
 
   abbrev V : World MValue → World Value
   V = world_view T
@@ -205,6 +205,8 @@ module _ (Y : Setting) where
         uncaught = tt;
         same = refl;
         world = refl;
+        whole_value = hg.0;
+        whole_objects = hg.1;
       })
 
   -- a list that is too short for it
@@ -272,10 +274,10 @@ module _ (Y : Setting) where
       one ∙ two ∙ three
 
   -- an item that fails with a value as a step fails, which left these entries
-  pub fails_so : (F : List MValue) (last : Option Instr) (i : Item) (p : Place) (t : Phrase) (L : List Left) (R own : List Entry) → HasNoGuard own → (base rs ms : List MValue) (st : State Value) (w : World MValue) (pc n : ℕ) (name : ErrorName) (v : MValue) (a : ℕ) →
+  pub fails_so : (F : List MValue) (last : Option Instr) (i : Item) (p : Place) (t : Phrase) (L : List Left) (R own : List Entry) → HasNoGuard own → (base rs ms : List MValue) (st : State Value) (w : World MValue) (pc n : ℕ) (name : ErrorName) (v : MValue) (a : ℕ) → whole.Whole P M v → whole.WholeObjects P M w.objects →
       A i st ≡ fails (record { name = name; value = Some (value_view T v); word = a }) (state (values_view T ms) (V w)) → (s : Machine) (k : ℕ) → stepping s k ≡ ends (failed (record { name = name; value = Some v; word = a }) (at F pc ms rs (own ++ R) w) n) →
       Follows Y last R base s k (left Y (l_phrase (then i p t) ∷ L) st (suc n))
-  fails_so F last i p t L R own none base rs ms st w pc n name v a acts s k e =
+  fails_so F last i p t L R own none base rs ms st w pc n name v a hv os acts s k e =
       subst (λ (r : Result). Follows Y last R base s k r) (sym (first_is Y i p t L st n (fails (record { name = name; value = Some (value_view T v); word = a }) (state (values_view T ms) (V w))) acts)) (record {
         stood = s;
         ticks = k;
@@ -288,6 +290,8 @@ module _ (Y : Setting) where
         uncaught = none;
         same = refl;
         world = refl;
+        whole_value = hv;
+        whole_objects = os;
       })
 
   pub g_prim : (f : ℕ) (F : List MValue) (last : Option Instr) (wd k : ℕ) (q : Primitive) (p : Place) (t : Phrase) (S S1 : List Sym) (K : List Task) (pc : ℕ) → sort_of P wd ≡ Some (prim_sort k) → prim_numbered k ≡ Some q →

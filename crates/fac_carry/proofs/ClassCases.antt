@@ -27,7 +27,7 @@ use Rattle.fac_code.specs.declared.image.MethodRow.{MethodRow}
 use Rattle.fac_code.specs.ImageNames.{image_names}
 use Rattle.fac_code.specs.declared.names.TrapWhy.TheVariants.{Kind as t_kind}
 use Rattle.fac_store.specs.MachineValues.{MValue, m_plain, m_fun, machine_values}
-use Rattle.fac_machine.specs.Machine.{Machine, Entry, spent, Step, goes_on, ends, after, given as machine_given, does as machine_does, word_with, or_trap, popping, set_has, method_for, method_after, method_place, dispatches_on, goes_on_from, truth, accesses, makes_tuple as machine_makes_tuple, kind_in, enters_method, enters_for, fetched, step}
+use Rattle.fac_machine.specs.Machine.{Machine, Entry, spent, Step, goes_on, ends, after, given as machine_given, does as machine_does, word_with, or_trap, popping, set_has, method_for, method_after, method_place, dispatches_on, goes_on_from, truth, accesses, makes_tuple as machine_makes_tuple, kind_in, enters_method, enters_for, fetched, tried}
 use Rattle.fac_carry.specs.Accessors.{Accessor, getting, setting, putting, accessor_sort, accessor_instr, accessor_action, accessor_ins, accessor_outs, accessor_fn}
 use Rattle.fac_carry.specs.MachineView.{Templates, value_view, values_view, world_view}
 use Rattle.fac_carry.specs.Stands.{HasCode, SameMethod}
@@ -81,7 +81,7 @@ module _ (Y : Setting) where
   run = free A
 
   abbrev stepping : Machine → ℕ → Step
-  stepping = step M
+  stepping = tried M
 
   abbrev V : World MValue → World Value
   V = world_view T
@@ -254,7 +254,7 @@ module _ (Y : Setting) where
       Follows Y last R base (at F pc (v ∷ ms) rs R w) (suc n) (left Y (l_phrase (then i p t) ∷ L) (state (values_view T (v ∷ ms)) (V w)) (suc n))
   dispatched f F tail last x i p t S K pc name g e calls rest R base rs v ms L w n le ok lv l h None None same acts steps =
       let s = at F pc (v ∷ ms) rs R w in
-      fails_so Y F last i p t L R (entries Y tail F pc) (unguarded Y tail F pc) base rs ms (state (values_view T (v ∷ ms)) (V w)) w pc n name v g acts s (suc n) (fetch Y s (suc n) x e ∙ steps)
+      fails_so Y F last i p t L R (entries Y tail F pc) (unguarded Y tail F pc) base rs ms (state (values_view T (v ∷ ms)) (V w)) w pc n name v g ok.values.0 ok.objects acts s (suc n) (fetch Y s (suc n) x e ∙ steps)
   dispatched f F tail last x i p t S K pc name g e calls rest R base rs v ms L w n le ok lv l h (Some r) (Some m) same acts steps =
       called_at Y f F tail last x i (word_phrase P m) p t [] r.entry S K pc tt e (calls m r.entry same) rest R base (v ∷ ms) rs (values_view T (v ∷ ms)) L w n le ok lv l h acts steps
   dispatched f F tail last x i p t S K pc name g e calls rest R base rs v ms L w n le ok lv l h None (Some m) same acts steps = absurd same

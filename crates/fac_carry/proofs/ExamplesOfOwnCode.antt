@@ -174,8 +174,8 @@ unfolding built_count
 each_action zero d e past = record { row = row (action.Prim 0); there = refl; acts = a_prim 0 refl refl refl }
 each_action (suc zero) d e past = record { row = row (action.Prim 1); there = refl; acts = a_prim 1 refl refl refl }
 each_action (suc (suc zero)) d e past = record { row = row (action.Prim 2); there = refl; acts = a_prim 2 refl refl refl }
-each_action (suc (suc (suc zero))) d e past = record { row = row (action.Core w_call); there = refl; acts = a_core w_call refl }
-each_action (suc (suc (suc (suc zero)))) d e past = record { row = row (action.Core w_if); there = refl; acts = a_core w_if refl }
+each_action (suc (suc (suc zero))) d e past = record { row = row (action.Core w_call); there = refl; acts = a_core w_call refl refl }
+each_action (suc (suc (suc (suc zero)))) d e past = record { row = row (action.Core w_if); there = refl; acts = a_core w_if refl refl }
 each_action (suc (suc (suc (suc (suc zero))))) d e past = record { row = row (action.Code 9); there = refl; acts = a_code 9 (in_code 5 9 (omega arith) tt refl) }
 each_action (suc (suc (suc (suc (suc (suc zero)))))) d e past = record { row = row (action.Code 5); there = refl; acts = a_code 5 (in_code 6 5 (omega arith) tt refl) }
 each_action (suc (suc (suc (suc (suc (suc (suc zero))))))) d e past = absurd (cc)

@@ -324,8 +324,8 @@ each_template (suc q) r k e size = absurd (cc)
 each_action : (w : ℕ) (d : WordDef) → slice_get program.words w ≡ Some d → is_top_phrase program w ≡ false → HasAction program image w
 unfolding built_count
 each_action zero d e past = record { row = row (action.Prim 26); there = refl; acts = a_prim 26 refl refl refl }
-each_action (suc zero) d e past = record { row = row (action.Core w_call); there = refl; acts = a_core w_call refl }
-each_action (suc (suc zero)) d e past = record { row = row (action.Core w_dip); there = refl; acts = a_core w_dip refl }
+each_action (suc zero) d e past = record { row = row (action.Core w_call); there = refl; acts = a_core w_call refl refl }
+each_action (suc (suc zero)) d e past = record { row = row (action.Core w_dip); there = refl; acts = a_core w_dip refl refl }
 each_action (suc (suc (suc zero))) d e past = record { row = row (action.Prim 3); there = refl; acts = a_prim 3 refl refl refl }
 each_action (suc (suc (suc (suc zero)))) d e past = record { row = row (action.Code 32); there = refl; acts = a_code 32 (in_code 4 32 (omega arith) tt refl) }
 each_action (suc (suc (suc (suc (suc zero))))) d e past = record { row = row (action.Code 58); there = refl; acts = a_code 58 (in_code 5 58 (omega arith) tt refl) }
@@ -333,7 +333,7 @@ each_action (suc (suc (suc (suc (suc (suc zero)))))) d e past = record { row = r
 each_action (suc (suc (suc (suc (suc (suc (suc zero))))))) d e past = record { row = row (action.Prim 16); there = refl; acts = a_prim 16 refl refl refl }
 each_action (suc (suc (suc (suc (suc (suc (suc (suc zero)))))))) d e past = record { row = row (action.Prim 2); there = refl; acts = a_prim 2 refl refl refl }
 each_action (suc (suc (suc (suc (suc (suc (suc (suc (suc zero))))))))) d e past = record { row = row (action.Code 11); there = refl; acts = a_code 11 (in_code 9 11 (omega arith) tt refl) }
-each_action (suc (suc (suc (suc (suc (suc (suc (suc (suc (suc zero)))))))))) d e past = record { row = row (action.Core w_if); there = refl; acts = a_core w_if refl }
+each_action (suc (suc (suc (suc (suc (suc (suc (suc (suc (suc zero)))))))))) d e past = record { row = row (action.Core w_if); there = refl; acts = a_core w_if refl refl }
 each_action (suc (suc (suc (suc (suc (suc (suc (suc (suc (suc (suc zero))))))))))) d e past = record { row = row (action.Code 18); there = refl; acts = a_code 18 (in_code 11 18 (omega arith) tt refl) }
 each_action (suc (suc (suc (suc (suc (suc (suc (suc (suc (suc (suc (suc zero)))))))))))) d e past = record { row = row (action.Prim 17); there = refl; acts = a_prim 17 refl refl refl }
 each_action (suc (suc (suc (suc (suc (suc (suc (suc (suc (suc (suc (suc (suc zero))))))))))))) d e past = record { row = row (action.Prim 1); there = refl; acts = a_prim 1 refl refl refl }

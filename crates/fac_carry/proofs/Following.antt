@@ -9,7 +9,7 @@ use Rattle.fac_base.specs.declared.place.Place.{Place}
 use Rattle.fac_lang.specs.declared.program.Program.{Program}
 use Rattle.fac_lang.specs.Phrases.{Phrase, then, Item, Value, plain, fun, Callable}
 use Rattle.fac_lang.specs.World.{World, State, Error, push, push_each}
-use Rattle.fac_lang.specs.Eval.{Result, Done, Failed, Spent, Stuck, then_do, Act, wrong, goes, runs, Run, run_callable, go_on}
+use Rattle.fac_lang.specs.Eval.{Result, Done, Failed, Spent, Stuck, then_do, Act, wrong, goes, runs, tries, Run, run_callable, Maker, caught, go_on}
 use Rattle.fac_base.specs.HeightArithmetic.{fits}
 use Rattle.fac_lang.specs.Meaning.{act}
 use Rattle.fac_lang.proofs.Laws.{Within}
@@ -18,8 +18,8 @@ use Rattle.fac_code.specs.declared.image.Instr.TheVariants.{Ret}
 use Rattle.fac_code.specs.declared.image.Image.{Image}
 use Rattle.fac_code.specs.declared.image.TemplateRow.{TemplateRow}
 use Rattle.fac_store.specs.MachineValues.{MValue, Kept, kept_list}
-use Rattle.fac_machine.specs.Machine.{Machine, Leads, Entry, resume, put_back, enter, failed, spent, Step, goes_on, ends, fetched, step, Ends}
-use Rattle.fac_machine.proofs.Leading.{leads_on, leads_step, ends_after, ends_step}
+use Rattle.fac_machine.specs.Machine.{Machine, Leads, Entry, failed, spent, Step, goes_on, ends, fetched, tried, Ends}
+use Rattle.fac_machine.proofs.Leading.{HasNoGuard, no_guard_more, leads_on, leads_tried, ends_after, spent_tried}
 use Rattle.fac_carry.specs.MachineView.{Templates, kept_view, world_view, state_view, error_view}
 use Rattle.fac_carry.specs.WholeValues as whole
 use Rattle.fac_carry.specs.Symbols.{Sym, Task, Special}
@@ -35,20 +35,6 @@ owing w (suc d) (suc n) go = owing w d n go
 
 abbrev pub state : List Value → World Value → State Value
 state vs w = record { stack = vs; world = w }
-
--- no entry catches a run error yet
-abbrev IsNoGuard : Entry → Type 0
-IsNoGuard (resume a F) = Unit {0}
-IsNoGuard (put_back v) = Unit {0}
-IsNoGuard (enter c) = Unit {0}
-
-abbrev pub HasNoGuard : List Entry → Type 0
-HasNoGuard [] = Unit {0}
-HasNoGuard (e ∷ es) = IsNoGuard e × HasNoGuard es
-
-pub no_guard_more : (xs ys : List Entry) → HasNoGuard xs → HasNoGuard ys → HasNoGuard (xs ++ ys)
-no_guard_more [] ys h g = g
-no_guard_more (x ∷ xs) ys h g = (h.0, no_guard_more xs ys h.1 g)
 
 -- a machine with no job, by the frame, the place and what changes while a phrase runs
 abbrev pub at : List MValue → ℕ → List MValue → List MValue → List Entry → World MValue → Machine
@@ -70,8 +56,9 @@ module _ (Y : Setting) where
   abbrev run : Run
   run = free A
 
+  -- a step before an error is caught
   abbrev stepping : Machine → ℕ → Step
-  stepping = step M
+  stepping = tried M
 
   abbrev V : World MValue → World Value
   V = world_view T
@@ -125,6 +112,8 @@ module _ (Y : Setting) where
     pub uncaught : HasNoGuard above
     pub same : error_view T error ≡ e
     pub world : V fallen.world ≡ w
+    pub whole_value : whole.OrWhole P M error.value
+    pub whole_objects : whole.WholeObjects P M fallen.world.objects
 
   -- the machine does what the meaning does; nothing is said where that is stuck
   abbrev pub Follows : Option Instr → List Entry → List MValue → Machine → ℕ → Result → Type 0
@@ -150,13 +139,15 @@ module _ (Y : Setting) where
     uncaught = h.uncaught;
     same = h.same;
     world = h.world;
+    whole_value = h.whole_value;
+    whole_objects = h.whole_objects;
   }
   way_before last R base s s' n n' (Spent st i) l h = (h.0, ends_after M s s' n n' _ l h.1, h.2)
   way_before last R base s s' n n' Stuck l h = tt
 
   -- by one step
   pub step_before : (last : Option Instr) (R : List Entry) (base : List MValue) (s s' : Machine) (n n' : ℕ) (r : Result) → stepping s n ≡ goes_on s' n' → Follows last R base s' n' r → Follows last R base s n r
-  step_before last R base s s' n n' r e h = way_before last R base s s' n n' r (leads_step M s s' n n' e) h
+  step_before last R base s s' n n' r e h = way_before last R base s s' n n' r (leads_tried M s s' n n' e) h
 
   -- without a job
   abbrev pub bare : Machine → Machine
@@ -167,7 +158,7 @@ module _ (Y : Setting) where
 
   pub spent_here : (last : Option Instr) (R : List Entry) (base : List MValue) (s : Machine) (st : State Value) (i : Option Item) (x : Instr) → slice_get M.code s.pc ≡ Some x → fetched M (Some x) (bare s) zero ≡ ends (spent (bare s)) →
       V s.world ≡ st.world → Follows last R base (bare s) zero (Spent st i)
-  spent_here last R base s st i x e none same = (bare s, ends_step M (bare s) 0 (spent (bare s)) (fetch s 0 x e ∙ none), same)
+  spent_here last R base s st i x e none same = (bare s, spent_tried M (bare s) 0 (bare s) (fetch s 0 x e ∙ none), same)
 
   -- what runs after a run that arrived at a `ret`, with more entries
   pub then_follows : (b : ℕ) (last : Option Instr) (R own : List Entry) → HasNoGuard own → (base base' : List MValue) (s : Machine) (n : ℕ) (r : Result) (go : State Value → ℕ → Result) → Within b r → Follows (Some Ret) (own ++ R) base' s n r →
@@ -189,6 +180,8 @@ module _ (Y : Setting) where
         uncaught = no_guard_more h.above own h.uncaught none;
         same = h.same;
         world = h.world;
+        whole_value = h.whole_value;
+        whole_objects = h.whole_objects;
       }
   then_follows b last R own none base base' s n (Spent st i) go w h next = h
   then_follows b last R own none base base' s n Stuck go w h next = tt
@@ -280,6 +273,15 @@ module _ (Y : Setting) where
   pub live_runs : (i : Item) (p : Place) (t : Phrase) (L : List Left) (st st' : State Value) (c : Callable) (put : List Value) → A i st ≡ runs c st' put → Live (l_phrase (then i p t) ∷ L) st → (m : ℕ) →
       then_do (run_callable run c st' m) (λ s k. left (l_phrase t ∷ L) (push_each put s) k) ≢ Stuck
   live_runs i p t L st st' c put e lv m is = lv (suc m) (first_runs i p t L st st' c put m e ∙ is)
+
+  -- an item that tries a callable
+  pub first_tries : (i : Item) (p : Place) (t : Phrase) (L : List Left) (st st' : State Value) (c d : Callable) (make : Maker) (m : ℕ) → A i st ≡ tries c d make st' →
+      left (l_phrase (then i p t) ∷ L) st (suc m) ≡ then_do (caught run make d st'.stack (run_callable run c st' m)) (left (l_phrase t ∷ L))
+  first_tries i p t L st st' c d make m e = first_is i p t L st m (tries c d make st') e ∙ then_again (caught run make d st'.stack (run_callable run c st' m)) (λ s k. run t s k) (left L)
+
+  pub live_tries : (i : Item) (p : Place) (t : Phrase) (L : List Left) (st st' : State Value) (c d : Callable) (make : Maker) → A i st ≡ tries c d make st' → Live (l_phrase (then i p t) ∷ L) st → (m : ℕ) →
+      then_do (caught run make d st'.stack (run_callable run c st' m)) (left (l_phrase t ∷ L)) ≢ Stuck
+  live_tries i p t L st st' c d make e lv m is = lv (suc m) (first_tries i p t L st st' c d make m e ∙ is)
 
   -- an item that can't take what is on the list
   pub wrong_here : {X : Type 0} (i : Item) (p : Place) (t : Phrase) (L : List Left) (st : State Value) → A i st ≡ wrong → Live (l_phrase (then i p t) ∷ L) st → X

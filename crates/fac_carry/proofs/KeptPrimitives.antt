@@ -7,17 +7,18 @@ use Rattle.fac_lang.specs.World.{Object, array, tuple, World}
 use Rattle.fac_base.specs.declared.limits.TheConstants.{MOST_PAIRS}
 use Rattle.fac_lang.specs.Equality.{equal_pairs}
 use Rattle.fac_lang.specs.Printed.{Names, printed}
-use Rattle.fac_lang.specs.Procedures.{Procedure, leaves, answers, answers_array, answers_tuple, curries, composes, fails, looks, adds, opens, puts, compares, prints, asks, writes, reads, Gives, line_in, behind_line, places_from, picked, repeated, value_at, array_in, opened, opened_places, with_element, made_or, followed, by_inputs}
+use Rattle.fac_lang.specs.Procedures.{value_if, Procedure, leaves, answers, answers_array, answers_tuple, curries, composes, fails, looks, adds, opens, puts, compares, prints, asks, writes, reads, Gives, line_in, behind_line, places_from, picked, repeated, value_at, array_in, opened, opened_places, with_element, made_or, followed, by_inputs}
 use Rattle.fac_lang.specs.Primitives.{Primitive, prim_numbered, prim_fn}
+use Rattle.fac_lang.specs.ErrorTexts.{error_text}
+use Rattle.fac_lang.specs.Faults.{fault_of}
+use Rattle.fac_lang.specs.declared.error_name.ErrorName.{ErrorName}
+use Rattle.fac_lang.specs.declared.error_name.ErrorName.TheVariants.{Thrown}
 use Rattle.fac_code.specs.declared.image.Image.{Image}
 use Rattle.fac_store.specs.MachineValues.{MValue, m_plain, m_fun, m_seen, m_curry, m_compose, machine_values}
-use Rattle.fac_carry.specs.WholeValues.{Whole, AllWhole, WholeObject, WholeObjects, WholeGives, Keeps}
+use Rattle.fac_carry.specs.WholeValues.{Whole, OrWhole, AllWhole, WholeObject, WholeObjects, WholeGives, Keeps}
 use Rattle.fac_carry.proofs.NoWords.{IsNoWord, AreNoWords, MakesNoWord, no_words}
 
 module _ (P : Program) (M : Image) where
-  abbrev or_whole : Option MValue → Type 0
-  or_whole None = Unit {0}
-  or_whole (Some v) = Whole P M v
 
   -- values at places
   at_whole : (vs : List MValue) (k : ℕ) → AllWhole P M vs → Whole P M (value_at machine_values vs k)
@@ -66,6 +67,14 @@ module _ (P : Program) (M : Image) where
   object_set (x ∷ os) zero o h g = (g, h.1)
   object_set (x ∷ os) (suc a) o h g = (h.0, object_set os a o h.1 g)
 
+  -- what an error comes to for a program that catches it, where its value is whole
+  pub fault_of_whole : (k : ℕ) (e : ErrorName) (v : Option MValue) (word : List ℕ) (w : World MValue) → OrWhole P M v → WholeObjects P M w.objects →
+      Whole P M (fault_of machine_values k e v word w).0 × WholeObjects P M (fault_of machine_values k e v word w).1.objects
+  fault_of_whole k Thrown (Some v) word w h os = (h, os)
+  fault_of_whole k Thrown None word w h os = (tt, object_added w.objects (tuple k (m_plain (str (error_text Thrown)) ∷ m_plain no ∷ m_plain (str word) ∷ [])) os (tt, (tt, (tt, tt))))
+  fault_of_whole k e (Some v) word w h os = (tt, object_added w.objects (tuple k (m_plain (str (error_text e)) ∷ v ∷ m_plain (str word) ∷ [])) os (tt, (h, (tt, tt))))
+  fault_of_whole k e None word w h os = (tt, object_added w.objects (tuple k (m_plain (str (error_text e)) ∷ m_plain no ∷ m_plain (str word) ∷ [])) os (tt, (tt, (tt, tt))))
+
   abbrev WholeArray : Option (List MValue) → Type 0
   WholeArray None = Unit {0}
   WholeArray (Some es) = AllWhole P M es
@@ -88,18 +97,22 @@ module _ (P : Program) (M : Image) where
   element_whole os a i v (Some es) h g e = object_set os a (array (set es i v)) h (set_whole es i v e g)
 
   -- what `curry` and `compose` make
-  made_keeps : (o : Option MValue) (w : World MValue) (g : Gives MValue) → or_whole o → WholeObjects P M w.objects → WholeGives P M g → WholeGives P M (made_or machine_values o w g)
+  made_keeps : (o : Option MValue) (w : World MValue) (g : Gives MValue) → OrWhole P M o → WholeObjects P M w.objects → WholeGives P M g → WholeGives P M (made_or machine_values o w g)
   made_keeps None w g h os k = k
   made_keeps (Some c) w g h os k = ((h, tt), os)
 
-  curry_whole : (x q : MValue) → Whole P M x → Whole P M q → or_whole (m_curry x q)
+  curry_whole : (x q : MValue) → Whole P M x → Whole P M q → OrWhole P M (m_curry x q)
   curry_whole x (m_plain p) h g = tt
   curry_whole x (m_fun c) h g = (h, g)
 
-  compose_whole : (p q : MValue) → Whole P M p → Whole P M q → or_whole (m_compose p q)
+  compose_whole : (p q : MValue) → Whole P M p → Whole P M q → OrWhole P M (m_compose p q)
   compose_whole (m_plain p) q h g = tt
   compose_whole (m_fun c) (m_plain q) h g = tt
   compose_whole (m_fun c) (m_fun d) h g = (h, g)
+
+  if_whole : (vs : List MValue) (k : Option ℕ) → AllWhole P M vs → OrWhole P M (value_if machine_values vs k)
+  if_whole vs None h = tt
+  if_whole vs (Some k) h = at_whole vs k h
 
   module _ (N : Names) where
     -- A procedure of which no step makes a word, followed from whole values, makes whole ones.
@@ -110,7 +123,7 @@ module _ (P : Program) (M : Image) where
     followed_keeps (answers_tuple c n) g vs w h os = ((tt, tt), object_added w.objects (tuple c (repeated n (m_plain no))) os (repeated_whole n (m_plain no) tt))
     followed_keeps (curries j k p) g vs w h os = made_keeps (m_curry (value_at machine_values vs j) (value_at machine_values vs k)) w (followed machine_values N p vs w) (curry_whole (value_at machine_values vs j) (value_at machine_values vs k) (at_whole vs j h) (at_whole vs k h)) os (followed_keeps p g vs w h os)
     followed_keeps (composes j k p) g vs w h os = made_keeps (m_compose (value_at machine_values vs j) (value_at machine_values vs k)) w (followed machine_values N p vs w) (compose_whole (value_at machine_values vs j) (value_at machine_values vs k) (at_whole vs j h) (at_whole vs k h)) os (followed_keeps p g vs w h os)
-    followed_keeps (fails e k) g vs w h os = os
+    followed_keeps (fails e k) g vs w h os = (if_whole vs k h, os)
     followed_keeps (looks k go) g vs w h os = let v = m_seen (value_at machine_values vs k) in followed_keeps (go v) (g v) vs w h os
     followed_keeps (adds ps go) g vs w h os = let ks = places_from (length vs) (length ps) in followed_keeps (go ks) (g.1 ks) (vs ++ map m_plain ps) w (more_whole vs (map m_plain ps) h (plains_whole ps g.0)) os
     followed_keeps (opens a go) g vs w h os =

@@ -15,7 +15,7 @@ use Rattle.fac_carry.specs.Accessors.{accessor_ins, accessor_outs}
 use Rattle.fac_carry.specs.MachineView.{Templates, template_phrases, value_view, kept_view}
 use Rattle.fac_carry.specs.Symbols.{Sym, here, Task, do_phrase, no_task, heres, AllHere, all_none, all_more, ins, outs, Special}
 use Rattle.fac_carry.specs.Expanded.{Code, c_last, c_make, c_trim, c_end, c_off, c_int, c_true, c_false, c_text, c_array, c_reference, c_symbol, c_prim, c_accessor, c_isa, c_boa, c_held, c_bind, c_fry, c_stuck, c_word, c_call, c_dip, c_if, c_execute, c_call_effect, c_execute_effect, c_generic, c_next, c_tail, EachCalled, ExpandedCode}
-use Rattle.fac_carry.specs.Stands.{Calling, l_word, l_call, l_if, l_execute, l_call_effect, l_execute_effect, l_generic, l_next, Translates, t_int, t_true, t_false, t_text, t_array, t_reference, t_symbol, t_held, t_quot, t_fry, t_prim, t_accessor, t_isa, t_dip, t_boa, t_stuck, t_calling, Stands, s_end, s_item, s_tail, s_bind, Coded, PlainCode}
+use Rattle.fac_carry.specs.Stands.{Calling, l_word, l_call, l_if, l_recover, l_execute, l_call_effect, l_execute_effect, l_generic, l_next, Translates, t_int, t_true, t_false, t_text, t_array, t_reference, t_symbol, t_held, t_quot, t_fry, t_prim, t_accessor, t_isa, t_dip, t_boa, t_stuck, t_calling, Stands, s_end, s_item, s_tail, s_bind, Coded, PlainCode}
 use Rattle.fac_carry.proofs.ElementLemmas.{element_at}
 use Rattle.fac_carry.proofs.SymbolicStacks.{needs_any, all_heres}
 
@@ -30,6 +30,7 @@ module _ (P : Program) (M : Image) (T : Templates) where
   calling_code Γ last F i x p t K pc e (l_word w a code) rest = c_word w a code all_none e rest
   calling_code Γ last F i x p t K pc e (l_call w es) rest = c_call w es all_none e rest
   calling_code Γ last F i x p t K pc e (l_if w es) rest = c_if w es all_none e rest
+  calling_code Γ last F i x p t K pc e (l_recover w es) rest = c_recover w es all_none e rest
   calling_code Γ last F i x p t K pc e (l_execute w es) rest = c_execute w es all_none e rest
   calling_code Γ last F i x p t K pc e (l_call_effect h) rest = c_call_effect h all_none e rest
   calling_code Γ last F i x p t K pc e (l_execute_effect h) rest = c_execute_effect h all_none e rest

@@ -21,8 +21,8 @@ use Rattle.fac_code.specs.declared.image.Image.{Image}
 use Rattle.fac_code.specs.declared.image.Action.TheVariants as action
 use Rattle.fac_code.specs.declared.names.TrapWhy.TheVariants.{Frame as t_frame}
 use Rattle.fac_store.specs.MachineValues.{MValue, m_seen, machine_values}
-use Rattle.fac_machine.specs.Machine.{Machine, Entry, Step, goes_on, paying, after, word_with, does as machine_does, or_trap, cut_where, without_last, step}
-use Rattle.fac_machine.proofs.Leading.{ends_step}
+use Rattle.fac_machine.specs.Machine.{Machine, Entry, Step, goes_on, paying, after, word_with, does as machine_does, or_trap, cut_where, without_last, tried}
+use Rattle.fac_machine.proofs.Leading.{spent_tried}
 use Rattle.fac_carry.specs.MachineView.{Templates, value_view, world_view}
 use Rattle.fac_carry.specs.Stands.{RunsPhrase}
 use Rattle.fac_carry.specs.WholeValues as whole
@@ -71,7 +71,7 @@ module _ (Y : Setting) where
   run = free A
 
   abbrev stepping : Machine → ℕ → Step
-  stepping = step M
+  stepping = tried M
 
   abbrev V : World MValue → World Value
   V = world_view T
@@ -89,7 +89,7 @@ module _ (Y : Setting) where
   pays : (last : Option Instr) (R : List Entry) (base : List MValue) (s s' : Machine) (N : ℕ) (w : World Value) (d k n : ℕ) (go : ℕ → Result) → V s.world ≡ w → stepping s N ≡ paying k s n (λ m. goes_on s' m) →
       ((m : ℕ) → m ≤ n → Follows Y last R base s' m (owing w d m go)) → Follows Y last R base s N (owing w (more k d) n go)
   pays last R base s s' N w d zero n go e st next = step_before Y last R base s s' N n _ st (next n (omega arith))
-  pays last R base s s' N w d (suc k) zero go e st next = (s, ends_step M s N _ st, e)
+  pays last R base s s' N w d (suc k) zero go e st next = (s, spent_tried M s N _ st, e)
   pays last R base s s' N w d (suc k) (suc n) go e st next = pays last R base s s' N w d k n go e st (λ m le. next m (omega (arith, le)))
 
   pub g_tick : (f : ℕ) (F : List MValue) (last : Option Instr) (d : ℕ) (S : List Sym) (K : List Task) (pc k : ℕ) → slice_get M.code pc ≡ Some (Tick k) → Go Y f F last d S K (pc + 1) → Go Y f F last (more k d) S K pc

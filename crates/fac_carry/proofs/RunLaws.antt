@@ -1,12 +1,12 @@
 -- Laws of a run whose fuel is its ticks.
-use Rattle.std.proofs.Common.{◌≡◌, ◌≢◌, ℕ, zero, suc, ◌≤◌, refl, ap, subst, ◌∙◌, arith}
+use Rattle.std.proofs.Common.{◌≡◌, ◌≢◌, ℕ, zero, suc, ◌≤◌, List, refl, ap, subst, ◌∙◌, arith}
 use Rattle.fac_lang.specs.Phrases.{Phrase, then, Item, held, Callable, of_phrase, cur, both}
 use Rattle.fac_base.specs.declared.place.Place.{Place}
-use Rattle.fac_lang.specs.World.{State, push, push_each}
+use Rattle.fac_lang.specs.World.{World, State, Error, push, push_each}
 use Rattle.fac_lang.specs.Phrases.{Value}
 use Rattle.fac_lang.specs.Substitution.{put_local}
-use Rattle.fac_lang.specs.Eval.{Result, Done, Failed, Spent, Stuck, then_do, Act, wrong, fails, goes, binds, runs, Run, run_callable, go_on, eval}
-use Rattle.fac_lang.proofs.Laws.{Sparing, within, within_call, Agree, agree_then, agree_call, same_run, more, Longer, longer}
+use Rattle.fac_lang.specs.Eval.{Result, Done, Failed, Spent, Stuck, then_do, Act, wrong, fails, goes, binds, runs, tries, Run, run_callable, Maker, after_error, caught, go_on, eval}
+use Rattle.fac_lang.proofs.Laws.{Sparing, within, within_call, within_caught, Agree, agree_then, agree_call, agree_caught, same_run, more, Longer, longer, longer_caught}
 
 acts_agree : (run run' : Run) (b : ℕ) → Sparing run → Agree b run run' → (a : Act) (t : Phrase) (n : ℕ) → n ≤ b → go_on run a t n ≡ go_on run' a t n
 acts_agree run run' b s h wrong t n le = refl
@@ -16,6 +16,10 @@ acts_agree run run' b s h (binds x v st) t n le = h (put_local x (held v) t) st 
 acts_agree run run' b s h (runs c st back) t n le =
     agree_then b (run_callable run c st n) (λ st' m. run t (push_each back st') m) (λ st' m. run' t (push_each back st') m) (within_call run s b c st n le) (λ st' m le'. h t (push_each back st') m le') ∙
     ap (λ r. then_do r (λ st' m. run' t (push_each back st') m)) (agree_call run run' b s h c st n le)
+acts_agree run run' b s h (tries c d make st) t n le =
+    let w = within_call run s b c st n le in
+    agree_then b (caught run make d st.stack (run_callable run c st n)) (λ st' m. run t st' m) (λ st' m. run' t st' m) (within_caught run s b make d st.stack (run_callable run c st n) w) (λ st' m le'. h t st' m le') ∙
+    ap (λ r. then_do r (λ st' m. run' t st' m)) (agree_caught run run' b s h make d st.stack (run_callable run c st n) w ∙ ap (caught run' make d st.stack) (agree_call run run' b s h c st n le))
 
 module _ (act : Item → State Value → Act) where
   abbrev pub free : Run
@@ -72,6 +76,9 @@ module _ (act : Item → State Value → Act) where
   stays_call (both c d) st (suc n) k =
       stays_then k (run_callable (free act) c st n) (run_callable (free act) c st (more n k)) (run_callable (free act) d) (run_callable (free act) d) (stays_call c st n k) (λ st' m. stays_call d st' m k)
 
+  pub stays_caught : (make : Maker) (c d : Callable) (vs : List Value) (st : State Value) → Stays (λ n. caught (free act) make d vs (run_callable (free act) c st n))
+  stays_caught make c d vs st n k = longer_caught k (free act) (free act) (λ t st n. stays_phrase t st n k) make d vs (run_callable (free act) c st n) (run_callable (free act) c st (more n k)) (stays_call c st n k)
+
 -- where a run and what comes after it aren't stuck at any budget, neither is the run, nor what comes after its end
 pub live_first : (X : ℕ → Result) (go : State Value → ℕ → Result) → ((m : ℕ) → then_do (X m) go ≢ Stuck) → (m : ℕ) → X m ≢ Stuck
 live_first X go h m e = h m (ap (λ r. then_do r go) e)
@@ -81,3 +88,15 @@ live_rest X go sx sg h n m st e k s =
     let one : X (more n k) ≡ Done st (more m k) = subst (λ (r : Result). Longer k r (X (more n k))) e (sx n k) in
     let two : go st (more k m) ≡ Stuck = subst (λ (r : Result). Longer m r (go st (more k m))) s (sg st k m) in
     h (more n k) (ap (λ r. then_do r go) one ∙ ap (go st) (more_turned m k) ∙ two)
+
+-- likewise where the run's errors are caught
+pub live_tried : (run : Run) (make : Maker) (d : Callable) (vs : List Value) (X : ℕ → Result) (go : State Value → ℕ → Result) → ((m : ℕ) → then_do (caught run make d vs (X m)) go ≢ Stuck) → (m : ℕ) → X m ≢ Stuck
+live_tried run make d vs X go h m e = h m (ap (λ r. then_do (caught run make d vs r) go) e)
+
+pub live_caught : (run : Run) (make : Maker) (d : Callable) (vs : List Value) (X : ℕ → Result) (go : State Value → ℕ → Result) → Stays X → ((st : State Value) → Stays (run_callable run d st)) → ((m : ℕ) → then_do (caught run make d vs (X m)) go ≢ Stuck) →
+    (n m : ℕ) (x : Error Value) (st : State Value) → X n ≡ Failed x st m → (k : ℕ) → run_callable run d (after_error vs (make x st.world)) k ≢ Stuck
+live_caught run make d vs X go sx sd h n m x st e k s =
+    let st2 = after_error vs (make x st.world) in
+    let one : X (more n k) ≡ Failed x st (more m k) = subst (λ (r : Result). Longer k r (X (more n k))) e (sx n k) in
+    let two : run_callable run d st2 (more k m) ≡ Stuck = subst (λ (r : Result). Longer m r (run_callable run d st2 (more k m))) s (sd st2 k m) in
+    h (more n k) (ap (λ r. then_do (caught run make d vs r) go) one ∙ ap (λ j. then_do (run_callable run d st2 j) go) (more_turned m k) ∙ ap (λ r. then_do r go) two)

@@ -15,21 +15,21 @@ use Rattle.fac_code.specs.declared.image.Image.{Image}
 use Rattle.fac_code.specs.declared.image.WordRow.{WordRow}
 use Rattle.fac_code.specs.declared.names.TrapWhy.TheVariants.{Kind as t_kind}
 use Rattle.fac_store.specs.MachineValues.{MValue, m_plain, kept_list}
-use Rattle.fac_machine.specs.Machine.{Machine, Entry, End, done, failed, spent, goes_on, or_trap, fetched, Ends}
-use Rattle.fac_machine.proofs.Leading.{ends_after, ends_step}
+use Rattle.fac_machine.specs.Machine.{Machine, Entry, End, done, failed, spent, goes_on, or_trap, fetched, caught, Ends}
+use Rattle.fac_machine.proofs.Leading.{ends_after, ends_step, failed_tried}
 use Rattle.fac_carry.specs.MachineView.{Templates, value_view, values_view, kept_view, world_view, state_view}
 use Rattle.fac_carry.specs.Carries.{SameEnd}
 use Rattle.fac_carry.specs.WholeValues as whole
 use Rattle.fac_carry.specs.Accessors.{accessor_outs}
-use Rattle.fac_carry.specs.Stands.{HasCode, Calling, l_word, l_call, l_if, l_execute, l_call_effect, l_execute_effect, l_generic, l_next}
+use Rattle.fac_carry.specs.Stands.{HasCode, Calling, l_word, l_call, l_if, l_recover, l_execute, l_call_effect, l_execute_effect, l_generic, l_next}
 use Rattle.fac_carry.specs.Symbols.{Sym, here, off, kept, k_phrase, k_cur, k_com, Task, do_phrase, do_back, do_call, below as under, heres, AllHere, all_none, outs, Empties, Special, own_code, In, in_first, in_later}
-use Rattle.fac_carry.specs.Expanded.{Code, c_last, c_tick, c_jump, c_unbind, c_hold, c_back, c_fetch, c_make, c_trim, c_end, c_run, c_cur, c_com, c_off, c_fry_off, c_move_off, c_curry_off, c_compose_off, c_call_off, c_dip_off, c_if_off, c_expand, c_move, c_curry, c_fry_kept, c_int, c_true, c_false, c_text, c_array, c_reference, c_symbol, c_prim, c_accessor, c_isa, c_boa, c_held, c_bind, c_fry, c_stuck, c_word, c_call, c_dip, c_if, c_execute, c_call_effect, c_execute_effect, c_generic, c_next, c_tail, c_special, c_own, c_special_tail, c_own_tail, EachCalled}
+use Rattle.fac_carry.specs.Expanded.{Code, c_last, c_tick, c_jump, c_unbind, c_hold, c_back, c_fetch, c_make, c_trim, c_end, c_run, c_cur, c_com, c_off, c_fry_off, c_move_off, c_curry_off, c_compose_off, c_call_off, c_dip_off, c_if_off, c_expand, c_move, c_curry, c_fry_kept, c_int, c_true, c_false, c_text, c_array, c_reference, c_symbol, c_prim, c_accessor, c_isa, c_boa, c_held, c_bind, c_fry, c_stuck, c_word, c_call, c_dip, c_if, c_recover, c_execute, c_call_effect, c_execute_effect, c_generic, c_next, c_tail, c_special, c_own, c_special_tail, c_own_tail, EachCalled}
 use Rattle.fac_carry.proofs.RunLaws.{free}
 use Rattle.fac_carry.proofs.SymbolicStacks.{l_phrase, Lies, lies_none, keeps_none, keeps_phrase, all_here}
 use Rattle.fac_carry.specs.Setting.{Setting}
 use Rattle.fac_carry.proofs.Following.{state, at, Follows, LivePhrase, Go, CallsTo, Templated, Valid, then_done, live_phrase}
 use Rattle.fac_carry.proofs.CaseLemmas.{g_array, g_end, g_fry_off, g_last, g_make, g_off, g_prim, g_push, g_stuck, g_trim}
-use Rattle.fac_carry.proofs.CallLemmas.{on, none_left, g_call, g_dip, g_if, g_word, g_special}
+use Rattle.fac_carry.proofs.CallLemmas.{on, none_left, g_call, g_dip, g_if, g_word, g_special, g_recover}
 use Rattle.fac_carry.proofs.FrameCases.{g_held, g_bind, g_fry}
 use Rattle.fac_carry.proofs.PutOffCases.{g_tick, g_jump, g_unbind, g_hold, g_back, g_fetch, g_run, g_cur, g_com, g_move_off, g_curry_off, g_compose_off, g_call_off, g_dip_off, g_if_off, g_expand, g_move, g_curry, g_fry_kept}
 use Rattle.fac_carry.proofs.ClassCases.{g_accessor, g_boa, g_generic, g_isa, g_next}
@@ -109,6 +109,7 @@ module _ (Y : Setting) where
   g_tail f below each tpl F i x p S K pc (l_word wd at code) k a e = g_word Y f F true (Some Ret) wd at p end S K pc code e (word_called f below each S a wd at code) (none_left k)
   g_tail f below each tpl F i x p S K pc (l_call wd es) k a e = g_call Y f F tpl true (Some Ret) wd p end S K pc es a e (none_left k)
   g_tail f below each tpl F i x p S K pc (l_if wd es) k a e = g_if Y f F tpl true (Some Ret) wd p end S K pc es a e (none_left k)
+  g_tail f below each tpl F i x p S K pc (l_recover wd es) k a e = g_recover Y f F tpl true (Some Ret) wd p end S K pc es a e (none_left k)
   g_tail f below each tpl F i x p S K pc (l_execute wd es) k a e = g_execute Y f F tpl (word_called f below each [] all_none) each.actions true (Some Ret) wd p end S K pc es a e (none_left k)
   g_tail f below each tpl F i x p S K pc (l_call_effect h) k a e = g_call_effect Y f F tpl true (Some Ret) h p end S K pc a e (none_left k)
   g_tail f below each tpl F i x p S K pc (l_execute_effect h) k a e = g_execute_effect Y f F tpl (word_called f below each [] all_none) each.actions true (Some Ret) h p end S K pc a e (none_left k)
@@ -178,6 +179,7 @@ module _ (Y : Setting) where
   main f below each tpl Γ last F d S K pc (c_call {p = p} {t = t} {K = K1} wd es a e c) v = g_call Y f F tpl false last wd p t S K1 pc es a e (on (main f below each tpl Γ last F zero [] (do_phrase t ∷ K1) (pc + 1) c v))
   main f below each tpl Γ last F d S K pc (c_dip {p = p} {t = t} {K = K1} wd es a e c) v = g_dip Y f F tpl last wd p t S K1 pc es a e (main f below each tpl Γ last F zero [] (do_phrase t ∷ K1) (pc + 1) c v)
   main f below each tpl Γ last F d S K pc (c_if {p = p} {t = t} {K = K1} wd es a e c) v = g_if Y f F tpl false last wd p t S K1 pc es a e (on (main f below each tpl Γ last F zero [] (do_phrase t ∷ K1) (pc + 1) c v))
+  main f below each tpl Γ last F d S K pc (c_recover {p = p} {t = t} {K = K1} wd es a e c) v = g_recover Y f F tpl false last wd p t S K1 pc es a e (on (main f below each tpl Γ last F zero [] (do_phrase t ∷ K1) (pc + 1) c v))
   main f below each tpl Γ last F d S K pc (c_execute {p = p} {t = t} {K = K1} wd es a e c) v =
       g_execute Y f F tpl (word_called f below each [] all_none) each.actions false last wd p t S K1 pc es a e (on (main f below each tpl Γ last F zero [] (do_phrase t ∷ K1) (pc + 1) c v))
   main f below each tpl Γ last F d S K pc (c_call_effect {p = p} {t = t} {K = K1} h a e c) v = g_call_effect Y f F tpl false last h p t S K1 pc a e (on (main f below each tpl Γ last F zero [] (do_phrase t ∷ K1) (pc + 1) c v))
@@ -207,8 +209,8 @@ module _ (Y : Setting) where
 
   ending : (s : Machine) (n : ℕ) (r : Result) → r ≢ Stuck → Follows Y (Some Halt) [] [] s n r → (e : End) × Ends M s n e × SameEnd T r e
   ending s n (Done st m) ns h =
-      let last = at h.frame h.pc h.stack [] [] h.world in (done last m, ends_after M s h.stood n h.ticks (done last m) h.leads (ends_step M h.stood h.ticks (done last m) h.does), (h.same, refl))
-  ending s n (Failed e st m) ns h = (failed h.error h.fallen m, ends_after M s h.stood n h.ticks _ h.leads (ends_step M h.stood h.ticks _ h.fails), (h.same, h.world, refl))
+      let last = at h.frame h.pc h.stack [] [] h.world in (done last m, ends_after M s h.stood n h.ticks (done last m) h.leads (ends_step M h.stood h.ticks (done last m) (ap (caught M) h.does)), (h.same, refl))
+  ending s n (Failed e st m) ns h = (failed h.error h.fallen m, ends_after M s h.stood n h.ticks _ h.leads (failed_tried M h.stood h.ticks h.error h.fallen m h.above h.uncaught h.entries h.fails), (h.same, h.world, refl))
   ending s n (Spent st i) ns h = (spent h.0, h.1, h.2)
   ending s n Stuck ns h = absurd (ns refl)
 

@@ -6,11 +6,11 @@ use Rattle.fac_lang.specs.declared.program.Program.{Program}
 use Rattle.fac_lang.specs.declared.program.WordDef.{WordDef}
 use Rattle.fac_lang.specs.declared.program.Sort.{Sort}
 use Rattle.fac_lang.specs.declared.program.Sort.TheVariants.{Core as core_sort, Body as body}
-use Rattle.fac_lang.specs.declared.core_table.CoreWord.TheVariants.{Call as w_call, Dip as w_dip, If as w_if}
+use Rattle.fac_lang.specs.declared.core_table.CoreWord.TheVariants.{Call as w_call, Dip as w_dip, If as w_if, Recover as w_recover}
 use Rattle.fac_lang.specs.Phrases.{Phrase, end, then, Item, quot, word, fry}
 use Rattle.fac_lang.specs.Meaning.{sort_of, word_phrase}
 use Rattle.fac_code.specs.declared.image.Instr.{Instr}
-use Rattle.fac_code.specs.declared.image.Instr.TheVariants.{Tick, Quot, Fry, Callw, Callp, Call, Dip, If, Execute, CallEffect, ExecuteEffect, Ret, Hold, Back, Jump, Branch, Unbind, Generic, Next}
+use Rattle.fac_code.specs.declared.image.Instr.TheVariants.{Tick, Quot, Fry, Callw, Callp, Call, Dip, If, Execute, Recover, CallEffect, ExecuteEffect, Ret, Hold, Back, Jump, Branch, Unbind, Generic, Next}
 use Rattle.fac_code.specs.declared.image.Action.TheVariants as action
 use Rattle.fac_code.specs.declared.image.WordRow.{WordRow}
 use Rattle.fac_code.specs.declared.image.GenericRow.{GenericRow}
@@ -28,11 +28,12 @@ module _ (P : Program) where
   abbrev pub IsNotInline : ℕ → Type 0
   IsNotInline w = (d : WordDef) → slice_get P.words w ≡ Some d → d.inline ≡ false
 
-  -- a word of this sort applies no callable by `call`, `dip` or `if`
+  -- a word of this sort applies no callable by `call`, `dip`, `if` or `recover`
   abbrev pub AppliesNothing : Option Sort → Type 0
   AppliesNothing (Some (core_sort w_call)) = ⊥
   AppliesNothing (Some (core_sort w_dip)) = ⊥
   AppliesNothing (Some (core_sort w_if)) = ⊥
+  AppliesNothing (Some (core_sort w_recover)) = ⊥
   AppliesNothing _ = Unit {0}
 
   -- an item that is no quotation, makes none and applies none
@@ -126,6 +127,7 @@ module _ (M : Image) where
   leaves_entry (Call false) = true
   leaves_entry (If false) = true
   leaves_entry (Execute false) = true
+  leaves_entry (Recover k false) = true
   leaves_entry (CallEffect h false) = true
   leaves_entry (ExecuteEffect h false) = true
   leaves_entry (Generic g false) = true

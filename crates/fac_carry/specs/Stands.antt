@@ -14,10 +14,12 @@ use Rattle.fac_lang.specs.Classes.{has_kind, pick, next}
 use Rattle.fac_lang.specs.Eval.{wrong}
 use Rattle.fac_lang.specs.Primitives.{is_built_primitive}
 use Rattle.fac_lang.specs.declared.core_table.CoreWord.{CoreWord}
-use Rattle.fac_lang.specs.declared.core_table.CoreWord.TheVariants.{Call as c_call, Dip as c_dip, If as c_if, Execute as c_execute, Boa as c_boa}
+use Rattle.fac_lang.specs.declared.core_table.CoreWord.TheVariants.{Call as c_call, Dip as c_dip, If as c_if, Execute as c_execute, Boa as c_boa, Recover as c_recover}
+use Rattle.fac_lang.specs.Faults.{fault_kind}
 use Rattle.fac_lang.specs.Meaning.{sort_of, word_phrase, generic_of, act, is_top_phrase}
+use Rattle.fac_code.specs.Code.{is_core_action}
 use Rattle.fac_code.specs.declared.image.Instr.{Instr}
-use Rattle.fac_code.specs.declared.image.Instr.TheVariants.{Halt, Int, True, False, Text, Array, Word, Quot, Prim, Callw, Call, Dip, If, Execute, CallEffect, ExecuteEffect, Ret, Boa, Isa, Generic, Next, Fry, Bind, Local}
+use Rattle.fac_code.specs.declared.image.Instr.TheVariants.{Halt, Int, True, False, Text, Array, Word, Quot, Prim, Callw, Call, Dip, If, Execute, Recover, CallEffect, ExecuteEffect, Ret, Boa, Isa, Generic, Next, Fry, Bind, Local}
 use Rattle.fac_code.specs.declared.image.Action.{Action}
 use Rattle.fac_code.specs.declared.image.Action.TheVariants as action
 use Rattle.fac_code.specs.declared.image.Image.{Image}
@@ -69,6 +71,7 @@ module _ (P : Program) (M : Image) where
     l_word : (w a : ℕ) → HasCode w a → Calling tail (word w) (Callw w tail)
     l_call : (w : ℕ) → sort_of P w ≡ Some (core_sort c_call) → Calling tail (word w) (Call tail)
     l_if : (w : ℕ) → sort_of P w ≡ Some (core_sort c_if) → Calling tail (word w) (If tail)
+    l_recover : (w : ℕ) → sort_of P w ≡ Some (core_sort c_recover) → Calling tail (word w) (Recover fault_kind tail)
     l_execute : (w : ℕ) → sort_of P w ≡ Some (core_sort c_execute) → Calling tail (word w) (Execute tail)
     l_call_effect : (h : Height) → Calling tail (call_effect h) (CallEffect h tail)
     l_execute_effect : (h : Height) → Calling tail (execute_effect h) (ExecuteEffect h tail)
@@ -85,7 +88,8 @@ module _ (P : Program) (M : Image) where
     a_accessor :
         (x : Accessor) (k : ℕ) (s : List ℕ) → sort_of P w ≡ Some (accessor_sort x s) → slice_get M.texts k ≡ Some s → word_with (accessor_action x k) 0 M.words ≡ w → Acting w (accessor_action x k)
     a_isa : (c k : ℕ) → sort_of P w ≡ Some (isa c) → ((j : ℕ) → set_has (slice_get M.sets k) j ≡ has_kind P.classes c j) → Acting w (action.Isa k)
-    a_core : (c : CoreWord) → sort_of P w ≡ Some (core_sort c) → Acting w (action.Core c)
+    a_recover : sort_of P w ≡ Some (core_sort c_recover) → Acting w (action.Recover fault_kind)
+    a_core : (c : CoreWord) → is_core_action c ≡ true → sort_of P w ≡ Some (core_sort c) → Acting w (action.Core c)
     a_stuck : (x : Action) → IsStuck P (word w) → Acting w x
     a_code : (a : ℕ) → HasCode w a → Acting w (action.Code a)
     a_generic : (n : ℕ) (r : GenericRow) → sort_of P w ≡ Some generic → slice_get M.generics n ≡ Some r → r.word ≡ w → ((k : ℕ) → SameMethod (method_for M.sets k r.methods) (pick P w k)) → Acting w (action.Generic n)

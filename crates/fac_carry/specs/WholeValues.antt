@@ -1,5 +1,5 @@
 -- Values of the machine whose callables are of an image's templates, and whose words are no top-level phrases of its program.
-use Rattle.std.specs.Prelude.{◌+◌, ◌≡◌, List, [], ◌∷◌, length, false, Some, slice_get}
+use Rattle.std.specs.Prelude.{Option, None, ◌+◌, ◌≡◌, List, [], ◌∷◌, length, false, Some, slice_get}
 use Rattle.fac_lang.specs.declared.program.Program.{Program}
 use Rattle.fac_lang.specs.Phrases.{Plain, wrd}
 use Rattle.fac_lang.specs.World.{Object, array, tuple, World}
@@ -42,11 +42,16 @@ module _ (P : Program) (M : Image) where
   WholeObjects [] = Unit {0}
   WholeObjects (o ∷ os) = WholeObject o × WholeObjects os
 
+  -- an error's value
+  abbrev pub OrWhole : Option MValue → Type 0
+  OrWhole None = Unit {0}
+  OrWhole (Some v) = Whole v
+
   abbrev pub WholeGives : Gives MValue → Type 0
   WholeGives (gives vs w) = AllWhole vs × WholeObjects w.objects
-  WholeGives (bad e v w) = WholeObjects w.objects
+  WholeGives (bad e v w) = OrWhole v × WholeObjects w.objects
 
-  -- a primitive that makes whole values of whole ones, and leaves whole objects where it fails
+  -- a primitive that makes whole values of whole ones, and leaves whole objects and a whole value where it fails
   abbrev pub Keeps : Fn MValue → Type 0
   Keeps (fn0 f) = (w : World MValue) → WholeObjects w.objects → WholeGives (f w)
   Keeps (fn1 f) = (x : MValue) (w : World MValue) → Whole x → WholeObjects w.objects → WholeGives (f x w)

@@ -5,7 +5,7 @@ use Rattle.std.proofs.lemmas.Bool.{eqb-true}
 use Rattle.fac_lang.specs.declared.program.Program.{Program}
 use Rattle.fac_lang.specs.declared.program.WordDef.{WordDef}
 use Rattle.fac_lang.specs.Phrases.{Mark, any}
-use Rattle.fac_lang.specs.declared.core_table.CoreWord.TheVariants.{Dip as c_dip, If as c_if}
+use Rattle.fac_lang.specs.declared.core_table.CoreWord.TheVariants.{Dip as c_dip, If as c_if, Recover as c_recover}
 use Rattle.fac_lang.specs.Procedures.{picked}
 use Rattle.fac_base.specs.Signatures.{Signature}
 use Rattle.fac_base.specs.Effects.{inputs_count}
@@ -30,7 +30,7 @@ doing_of words M (Leaves b s) h = h
 doing_of words M (Expands w s) h = absurd (let e = h.0 in cc)
 doing_of words M (Again w s) h = h
 doing_of words M (Walks m s back) h = h
-doing_of words M (Forks m n s) h = h
+doing_of words M (Forks m n s t) h = h
 doing_of words M (Uses w s r) h = absurd (let e = h.0 in cc)
 
 only_defined : (w v : ℕ) (d : WordDef) (q : Bool) → nat_eq v w ≡ q → is_defined (elim q [ true ↦ Some d | false ↦ None ]) ≡ true → (v ≡ w) × ((elim q [ true ↦ Some d | false ↦ None ]) ≡ Some d)
@@ -49,7 +49,7 @@ doing_of_one w d words M (Leaves b s) e h = h
 doing_of_one w d words M (Expands v s) e h = (subst (λ o. is_defined o ≡ true) (only_word w v d words e h.0) h.0, h.1)
 doing_of_one w d words M (Again v s) e h = h
 doing_of_one w d words M (Walks m s back) e h = h
-doing_of_one w d words M (Forks m n s) e h = h
+doing_of_one w d words M (Forks m n s t) e h = h
 doing_of_one w d words M (Uses v s r) e h =
     (subst (λ o. is_defined o ≡ true) (only_word w v d words e h.0) h.0, h.1, h.2)
 
@@ -103,8 +103,23 @@ if_unknown_first P b ms r l x rest e f = rw (e, ← f) refl
 pub if_unknown_second : (P : Program) (b : Option Row) (ms : List Mark) (r l x : Mark) (rest : List Mark) → ms ≡ r ∷ l ∷ x ∷ rest → true ≡ is_callable l → false ≡ is_callable r → breaks NotKnown ≡ core_doing P c_if b ms
 if_unknown_second P b ms r l x rest e f g = rw (e, ← f, ← g) refl
 
-pub if_known : (P : Program) (b : Option Row) (ms : List Mark) (r l x : Mark) (rest : List Mark) → ms ≡ r ∷ l ∷ x ∷ rest → true ≡ is_callable l → true ≡ is_callable r → forks l r b rest ≡ core_doing P c_if b ms
+pub if_known : (P : Program) (b : Option Row) (ms : List Mark) (r l x : Mark) (rest : List Mark) → ms ≡ r ∷ l ∷ x ∷ rest → true ≡ is_callable l → true ≡ is_callable r → forks l r b rest rest ≡ core_doing P c_if b ms
 if_known P b ms r l x rest e f g = rw (e, ← f, ← g) refl
+
+-- a `recover` on too few values, on callables of which one isn't known, and on known ones
+pub recover_lacks : (P : Program) (b : Option Row) (ms : List Mark) → length ms < 2 → breaks (Underflow 2 (length ms)) ≡ core_doing P c_recover b ms
+recover_lacks P b [] l = refl
+recover_lacks P b (c ∷ []) l = refl
+recover_lacks P b (c ∷ m ∷ ms) l = absurd (omega (arith, l))
+
+pub recover_unknown_first : (P : Program) (b : Option Row) (ms : List Mark) (r l : Mark) (rest : List Mark) → ms ≡ r ∷ l ∷ rest → false ≡ is_callable l → breaks NotKnown ≡ core_doing P c_recover b ms
+recover_unknown_first P b ms r l rest e f = rw (e, ← f) refl
+
+pub recover_unknown_second : (P : Program) (b : Option Row) (ms : List Mark) (r l : Mark) (rest : List Mark) → ms ≡ r ∷ l ∷ rest → true ≡ is_callable l → false ≡ is_callable r → breaks NotKnown ≡ core_doing P c_recover b ms
+recover_unknown_second P b ms r l rest e f g = rw (e, ← f, ← g) refl
+
+pub recover_known : (P : Program) (b : Option Row) (ms : List Mark) (r l : Mark) (rest : List Mark) → ms ≡ r ∷ l ∷ rest → true ≡ is_callable l → true ≡ is_callable r → forks l r b rest (any ∷ rest) ≡ core_doing P c_recover b ms
+recover_known P b ms r l rest e f g = rw (e, ← f, ← g) refl
 
 -- a use of a row word that isn't the one that is checked
 module _ (e : Signature) (b : Option Row) (ms : List Mark) where

@@ -30,7 +30,7 @@ alone N M L words others b (Leaves c s) h = tt
 alone N M L words others b (Expands w s) h = tt
 alone N M L words others b (Again w s) h = absurd h
 alone N M L words others b (Walks m s back) h = tt
-alone N M L words others b (Forks m n s) h = tt
+alone N M L words others b (Forks m n s t) h = tt
 alone N M L words others b (Uses w s r) h = tt
 
 -- what the code's items do puts nothing for a local
@@ -42,7 +42,7 @@ names_none N M words b (Leaves c s) = tt
 names_none N M words b (Expands w s) = tt
 names_none N M words b (Again w s) = tt
 names_none N M words b (Walks m s back) = tt
-names_none N M words b (Forks m n s) = tt
+names_none N M words b (Forks m n s t) = tt
 names_none N M words b (Uses w s r) = tt
 
 module _ {C : Program} {templates : List Template} {own : Option ℕ} {inner : ℕ} (O : Opened C templates own inner) (M : MarksSeen) (s : Step) (D : Transfer) (next : Literal) (f : ℕ) where
@@ -88,7 +88,7 @@ act_there words M (Gives s) f h = h
 act_there words M (Leaves b s) f h = h
 act_there words M (Expands w s) f h = h
 act_there words M (Walks m s back) f h = h
-act_there words M (Forks m n s) f h = h
+act_there words M (Forks m n s t) f h = h
 act_there words M (Uses w s r) f h = h
 
 -- fewer items may be walked than any more

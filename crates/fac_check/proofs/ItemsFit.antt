@@ -6,7 +6,7 @@ use Rattle.fac_base.specs.declared.height.Height.{Height}
 use Rattle.fac_lang.specs.Phrases.{Literal, Plain, no, wrd, arr, tup, Phrase, Item, lit, lit_arr, quot, word, bind, local, fry, hole, call_effect, execute_effect, next_method, made, next_after, held, known, Value, plain, fun, Callable, of_phrase, cur, both, Mark, any, lit_mark, cur_mark, com_mark, wrd_mark, par_mark}
 use Rattle.fac_lang.specs.World.{State, World, Error, push, pile}
 use Rattle.fac_lang.specs.declared.error_name.ErrorName.{ErrorName}
-use Rattle.fac_lang.specs.declared.error_name.ErrorName.TheVariants.{NoMethod, NoNextMethod, WrongValues}
+use Rattle.fac_lang.specs.declared.error_name.ErrorName.TheVariants.{NoMethod, NoNextMethod, Thrown, WrongValues}
 use Rattle.fac_lang.specs.Substitution.{put_holes, of_method}
 use Rattle.fac_base.specs.Effects.{effect_height}
 use Rattle.fac_lang.specs.Procedures.{Procedure, leaves, curries, composes, Gives, gives as gave, bad, Fn, fn0, fn1, fn2, fn3, followed, by_inputs, picked, value_at, made_or}
@@ -18,10 +18,11 @@ use Rattle.fac_lang.specs.declared.program.Sort.{Sort}
 use Rattle.fac_lang.specs.declared.program.Sort.TheVariants.{Prim as prim, Core as core, Body as body, Past as past, Itself as itself, Class as class, Isa as isa, Getter as getter, Setter as setter, Putter as putter, Generic as generic, Method as method}
 use Rattle.fac_lang.specs.Objects.{made_tuple, get_slot, set_slot, put_slot, kind_of}
 use Rattle.fac_lang.specs.Classes.{has_kind, pick, next}
-use Rattle.fac_lang.specs.Eval.{Result, Done, Failed, Spent, Stuck, Act, fails, goes, binds, runs, Run, run_callable}
+use Rattle.fac_lang.specs.Faults.{fault_kind, fault, fault_of}
+use Rattle.fac_lang.specs.Eval.{Result, Done, Failed, Spent, Stuck, Act, fails, goes, binds, runs, tries, Run, run_callable, after_error}
 use Rattle.fac_lang.specs.declared.core_table.CoreWord.{CoreWord}
-use Rattle.fac_lang.specs.declared.core_table.CoreWord.TheVariants.{Call as c_call, Dip as c_dip, If as c_if, Execute as c_execute, Boa as c_boa, Cond as c_cond}
-use Rattle.fac_lang.specs.Meaning.{meaning_values, names, seen, curry_of, compose_of, taking1, taking2, taking3, taking, with_callable, given, does, does_call, does_dip, does_if, does_execute, does_boa, with_word, error, word_call, makes_tuple, run_phrase, one_item, core_act, prim_act, generic_of, pushes_array, either, sort_of, sort_act, callable_fits, tested_call, act, word_phrase, enters, tested_execute, word_execute, word_fits, truth_value}
+use Rattle.fac_lang.specs.declared.core_table.CoreWord.TheVariants.{Call as c_call, Dip as c_dip, If as c_if, Execute as c_execute, Boa as c_boa, Recover as c_recover, Cond as c_cond}
+use Rattle.fac_lang.specs.Meaning.{meaning_values, names, seen, curry_of, compose_of, taking1, taking2, taking3, taking, with_callable, given, does, does_call, does_dip, does_if, does_execute, does_boa, does_recover, told_word, with_word, error, word_call, makes_tuple, run_phrase, one_item, core_act, prim_act, generic_of, pushes_array, either, sort_of, sort_act, callable_fits, tested_call, act, word_phrase, enters, tested_execute, word_execute, word_fits, truth_value}
 use Rattle.fac_abs.specs.RowVariables.{Row, is_row}
 use Rattle.fac_abs.specs.Marks.{AbstractStack, dead, on, limited, mark_depth, deepest_mark, is_callable, unknowns, popped, piled, curried_mark, composed_mark}
 use Rattle.fac_abs.specs.declared.rule.Rule.{Rule}
@@ -31,11 +32,10 @@ use Rattle.fac_base.specs.HeightArithmetic.{fits}
 use Rattle.fac_check.specs.CallableEffects.{callable_height}
 use Rattle.fac_check.specs.Promises.{Valid}
 use Rattle.fac_check.proofs.ValuesOfMarks.{Stands, StandsPhrase, StandsItem, StandsOn, EndsSo}
-use Rattle.fac_lang.proofs.Laws.{Sparing}
 use Rattle.fac_abs.proofs.EqualMarks.{never_true, and_first, and_second}
 use Rattle.fac_check.proofs.StandingLaws.{Each, holes_phrase, callable_is}
 use Rattle.fac_check.proofs.PrimitivesKeep.{Regular, RegularFn, followed_regular, inputs_regular, few_inputs}
-use Rattle.fac_check.proofs.WalksFit.{Context, OnState, StackState, PhrasesFit, InputsFit, Does, Back}
+use Rattle.fac_check.proofs.WalksFit.{Context, OnState, StackState, PhrasesFit, InputsFit, Lasting, Does, Back}
 
 -- n values on a list
 abbrev pub Over : ℕ → List Value → List Value → Type 0
@@ -115,7 +115,7 @@ module _ (P : Program) (C : Context) where
   ends_map good better (Spent st i) f h = tt
   ends_map good better Stuck f h = absurd h
 
-  module _ (go : Walk) (run : Run) (f : ℕ) (sparing : Sparing run) (phrases_fit : PhrasesFit P C go run f) (inputs_fit : InputsFit P C run f) where
+  module _ (go : Walk) (run : Run) (f : ℕ) (sparing : Lasting P run) (phrases_fit : PhrasesFit P C go run f) (inputs_fit : InputsFit P C run f) where
     -- what an item does at once in a walk fits what it does in a run
     abbrev D : Doing → Act → Type 0
     D = Does P C go run f sparing phrases_fit inputs_fit
@@ -182,11 +182,28 @@ module _ (P : Program) (C : Context) where
     if_does b (r ∷ []) st e = tt
     if_does b (r ∷ l ∷ []) st e = tt
     if_does b (r ∷ l ∷ x ∷ ms) st e =
-        rw e.0.2 (rw e.0.4.2 (rw e.0.4.4.2 (if_callable (is_callable l && is_callable r) NotKnown (forks l r b ms) (with_callable e.0.4.0 (λ c. with_callable e.0.0 (λ d. runs (elim (seen_no (seen e.0.4.4.0)) [ true ↦ d | false ↦ c ]) (record { stack = e.0.4.4.1; world = st.world }) []))) (λ yes. (let c = callable_is C.inputs l e.0.4.0 e.0.4.3 (and_first (is_callable l) (is_callable r) yes) in let d = callable_is C.inputs r e.0.0 e.0.3 (and_second (is_callable l) (is_callable r) yes) in rw c.1 (rw d.1 (chosen (seen_no (seen e.0.4.4.0)) c.0 d.0 (rw (sym c.1) e.0.4.3) (rw (sym d.1) e.0.3))))))))
+        rw e.0.2 (rw e.0.4.2 (rw e.0.4.4.2 (if_callable (is_callable l && is_callable r) NotKnown (forks l r b ms ms) (with_callable e.0.4.0 (λ c. with_callable e.0.0 (λ d. runs (elim (seen_no (seen e.0.4.4.0)) [ true ↦ d | false ↦ c ]) (record { stack = e.0.4.4.1; world = st.world }) []))) (λ yes. (let c = callable_is C.inputs l e.0.4.0 e.0.4.3 (and_first (is_callable l) (is_callable r) yes) in let d = callable_is C.inputs r e.0.0 e.0.3 (and_second (is_callable l) (is_callable r) yes) in rw c.1 (rw d.1 (chosen (seen_no (seen e.0.4.4.0)) c.0 d.0 (rw (sym c.1) e.0.4.3) (rw (sym d.1) e.0.3))))))))
       where
-        chosen : (q : Bool) (c d : Callable) → Stands C.inputs l (fun c) → Stands C.inputs r (fun d) → D (forks l r b ms) (runs (elim q [ true ↦ d | false ↦ c ]) (record { stack = e.0.4.4.1; world = st.world }) [])
-        chosen true c d x y = (d, record { stack = e.0.4.4.1; world = st.world }, refl, inr y, (e.0.4.4.4, e.1))
-        chosen false c d x y = (c, record { stack = e.0.4.4.1; world = st.world }, refl, inl x, (e.0.4.4.4, e.1))
+        chosen : (q : Bool) (c d : Callable) → Stands C.inputs l (fun c) → Stands C.inputs r (fun d) → D (forks l r b ms ms) (runs (elim q [ true ↦ d | false ↦ c ]) (record { stack = e.0.4.4.1; world = st.world }) [])
+        chosen true c d x y = inl (d, record { stack = e.0.4.4.1; world = st.world }, refl, inr y, (e.0.4.4.4, e.1), refl)
+        chosen false c d x y = inl (c, record { stack = e.0.4.4.1; world = st.world }, refl, inl x, (e.0.4.4.4, e.1), refl)
+
+    -- what an error comes to leaves the addresses of the literal arrays
+    fault_steady : (x : ErrorName) (v : Option Value) (told : List ℕ) (w : World Value) → Valid P w → Valid P (fault_of meaning_values fault_kind x v told w).1
+    fault_steady Thrown (Some v) told w h = h
+    fault_steady Thrown None told w h = still_valid P w (fault_of meaning_values fault_kind Thrown None told w).1 h refl
+    fault_steady x v told w h = still_valid P w (fault_of meaning_values fault_kind x v told w).1 h refl
+
+    pub recover_does : (b : Option Row) (ms : List Mark) (st : State Value) → OnState P C b ms st → D (core_doing P c_recover b ms) (does_recover P st)
+    recover_does b [] st e = tt
+    recover_does b (r ∷ []) st e = tt
+    recover_does b (r ∷ l ∷ ms) st e =
+        let make = fault meaning_values fault_kind (told_word P) in
+        let st' : State Value = record { stack = e.0.4.1; world = st.world } in
+        rw e.0.2 (rw e.0.4.2 (if_callable (is_callable l && is_callable r) NotKnown (forks l r b ms (any ∷ ms)) (with_callable e.0.4.0 (λ c. with_callable e.0.0 (λ d. tries c d make st'))) (λ yes.
+        let c = callable_is C.inputs l e.0.4.0 e.0.4.3 (and_first (is_callable l) (is_callable r) yes) in
+        let d = callable_is C.inputs r e.0.0 e.0.3 (and_second (is_callable l) (is_callable r) yes) in
+        rw c.1 (rw d.1 (inr (c.0, d.0, make, st', refl, rw (sym c.1) e.0.4.3, rw (sym d.1) e.0.3, (e.0.4.4, e.1), λ x w v. (((make x w).0, e.0.4.1, refl, tt, e.0.4.4), fault_steady x.name x.value (told_word P x.word) w v)))))))
 
     pub execute_does : (b : Option Row) (ms : List Mark) (st : State Value) → OnState P C b ms st → D (core_doing P c_execute b ms) (does_execute P st)
     execute_does b [] st e = tt
@@ -413,6 +430,7 @@ module _ (P : Program) (C : Context) where
       core_does c_if b ms st e = if_does b ms st e
       core_does c_execute b ms st e = execute_does b ms st e
       core_does c_boa b ms st e = boa_does b ms st e
+      core_does c_recover b ms st e = recover_does b ms st e
 
       phrase_does : (w : ℕ) (t : Phrase) → StandsPhrase C.inputs t t → (b : Option Row) (ms : List Mark) (st : State Value) → OnState P C b ms st → D (expands w t b ms) (run_phrase t st)
       phrase_does w t h b ms st e = (t, st, refl, h, e)

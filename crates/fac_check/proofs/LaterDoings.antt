@@ -24,7 +24,7 @@ doing_later words M L (Leaves b s) g h = g.stacks s h
 doing_later words M L (Expands w s) g h = (h.0, g.stacks s h.1)
 doing_later words M L (Again w s) g h = g.stacks s h
 doing_later words M L (Walks m s back) g h = (g.marks m h.0, g.stacks s h.1, marks_later M L back g h.2)
-doing_later words M L (Forks m n s) g h = (g.marks m h.0, g.marks n h.1, g.stacks s h.2)
+doing_later words M L (Forks m n s t) g h = (g.marks m h.0, g.marks n h.1, g.stacks s h.2, g.stacks t h.3)
 doing_later words M L (Uses w i r) g h = (h.0, g.stacks i h.1, g.stacks r h.2)
 
 pub act_later : (words : ℕ → Option WordDef) (M L : MarksSeen) (D : Transfer) → Grows M L → IsActOf words M D → IsActOf words L D
@@ -35,7 +35,7 @@ act_later words M L (Gives s) g h = g.stacks s h
 act_later words M L (Leaves b s) g h = g.stacks s h
 act_later words M L (Expands w s) g h = (h.0, g.stacks s h.1)
 act_later words M L (Walks m s back) g h = (g.marks m h.0, g.stacks s h.1, marks_later M L back g h.2)
-act_later words M L (Forks m n s) g h = (g.marks m h.0, g.marks n h.1, g.stacks s h.2)
+act_later words M L (Forks m n s t) g h = (g.marks m h.0, g.marks n h.1, g.stacks s h.2, g.stacks t h.3)
 act_later words M L (Uses w i r) g h = (h.0, g.stacks i h.1, g.stacks r h.2)
 
 -- where no word is found by `execute`, it is what an item does
@@ -47,7 +47,7 @@ act_is_doing words M (Gives s) h = h
 act_is_doing words M (Leaves b s) h = h
 act_is_doing words M (Expands w s) h = h
 act_is_doing words M (Walks m s back) h = h
-act_is_doing words M (Forks m n s) h = h
+act_is_doing words M (Forks m n s t) h = h
 act_is_doing words M (Uses w i r) h = h
 
 module _ (N : Naming) (words : ℕ → Option WordDef) (b : Option Row) (M L : MarksSeen) where
@@ -65,6 +65,6 @@ module _ (N : Naming) (words : ℕ → Option WordDef) (b : Option Row) (M L : M
   doing_stays others (Again w s) g h = ap (λ ms. again w b ms) (g.same_stack N s h)
   doing_stays others (Walks m s back) g h =
       ap (λ x. walks x b (stack_of N L s) (marks_of_option (mark_of N L) back)) (g.same_mark N m h.0) ∙ ap (λ ms. walks (mark_of N M m) b ms (marks_of_option (mark_of N L) back)) (g.same_stack N s h.1) ∙ ap (λ k. walks (mark_of N M m) b (stack_of N M s) k) (back_stays back g h.2)
-  doing_stays others (Forks m n s) g h =
-      ap (λ x. forks x (mark_of N L n) b (stack_of N L s)) (g.same_mark N m h.0) ∙ ap (λ x. forks (mark_of N M m) x b (stack_of N L s)) (g.same_mark N n h.1) ∙ ap (λ ms. forks (mark_of N M m) (mark_of N M n) b ms) (g.same_stack N s h.2)
+  doing_stays others (Forks m n s t) g h =
+      ap (λ x. forks x (mark_of N L n) b (stack_of N L s) (stack_of N L t)) (g.same_mark N m h.0) ∙ ap (λ x. forks (mark_of N M m) x b (stack_of N L s) (stack_of N L t)) (g.same_mark N n h.1) ∙ ap (λ ms. forks (mark_of N M m) (mark_of N M n) b ms (stack_of N L t)) (g.same_stack N s h.2) ∙ ap (λ ms. forks (mark_of N M m) (mark_of N M n) b (stack_of N M s) ms) (g.same_stack N t h.3)
   doing_stays others (Uses w i r) g h = ap (λ ms. uses (effect_of (words w)) ms b (stack_of N L r)) (g.same_stack N i h.1) ∙ ap (λ ms. uses (effect_of (words w)) (stack_of N M i) b ms) (g.same_stack N r h.2)

@@ -3,9 +3,9 @@ use Rattle.std.proofs.Common.{◌≡◌, ℕ, zero, suc, List, [], ◌∷◌, ma
 use Rattle.std.specs.Prelude.{slice_get}
 use Rattle.fac_base.specs.declared.height.Height.{Height}
 use Rattle.fac_lang.specs.Phrases.{int, yes, no, str, iota, wrd, arr, tup, Phrase, end, then, Item, lit, lit_arr, quot, word, bind, local, fry, hole, call_effect, execute_effect, next_method, made, next_after, held, known, Value, plain, fun, Callable, of_phrase, cur, both}
-use Rattle.fac_lang.specs.World.{World, State, push, push_each}
+use Rattle.fac_lang.specs.World.{World, State, Error, push, push_each}
 use Rattle.fac_lang.specs.declared.error_name.ErrorName.{ErrorName}
-use Rattle.fac_lang.specs.declared.error_name.ErrorName.TheVariants.{NoMethod, NoNextMethod}
+use Rattle.fac_lang.specs.declared.error_name.ErrorName.TheVariants.{NoMethod, NoNextMethod, Thrown}
 use Rattle.fac_lang.specs.Procedures.{Gives, gives, bad, Fn, fn0, fn1, fn2, fn3}
 use Rattle.fac_lang.specs.Primitives.{Primitive, prim_numbered, prim_fn}
 use Rattle.fac_lang.specs.Operations.{seen_no}
@@ -15,10 +15,11 @@ use Rattle.fac_lang.specs.declared.program.Sort.{Sort}
 use Rattle.fac_lang.specs.declared.program.Sort.TheVariants.{Prim as prim, Core as core, Body as body, Past as past, Itself as itself, Class as class, Isa as isa, Getter as getter, Setter as setter, Putter as putter, Generic as generic, Method as method}
 use Rattle.fac_lang.specs.Classes.{has_kind, pick, next}
 use Rattle.fac_lang.specs.Substitution.{put_local, put_holes}
-use Rattle.fac_lang.specs.Eval.{Result, Done, Failed, Spent, Stuck, then_do, Act, wrong, fails, goes, binds, runs, Run, run_callable, go_on, eval}
+use Rattle.fac_lang.specs.Faults.{fault_kind, fault, fault_of}
+use Rattle.fac_lang.specs.Eval.{Result, Done, Failed, Spent, Stuck, then_do, Act, wrong, fails, goes, binds, runs, tries, Run, run_callable, after_error, caught, go_on, eval}
 use Rattle.fac_lang.specs.declared.core_table.CoreWord.{CoreWord}
-use Rattle.fac_lang.specs.declared.core_table.CoreWord.TheVariants.{Call as c_call, Dip as c_dip, If as c_if, Execute as c_execute, Boa as c_boa, Cond as c_cond}
-use Rattle.fac_lang.specs.Meaning.{meaning_values, names, seen, taking1, taking2, taking3, taking, with_callable, with_word, given, does, makes_tuple, core_act, prim_act, enters, sort_of, sort_act, truth_value, one_item, either, callable_fits, word_fits, tested_call, tested_execute, pushes_array, generic_of, act, run}
+use Rattle.fac_lang.specs.declared.core_table.CoreWord.TheVariants.{Call as c_call, Dip as c_dip, If as c_if, Execute as c_execute, Boa as c_boa, Recover as c_recover, Cond as c_cond}
+use Rattle.fac_lang.specs.Meaning.{meaning_values, names, seen, taking1, taking2, taking3, taking, with_callable, with_word, given, does, makes_tuple, core_act, prim_act, enters, sort_of, sort_act, truth_value, one_item, either, callable_fits, word_fits, tested_call, tested_execute, pushes_array, generic_of, told_word, act, run}
 use Rattle.fac_check.proofs.PrimitivesStay.{StaysGives, StaysFn, prim_stays, getter_stays, setter_stays, putter_stays}
 
 -- behind the run the literal arrays have these addresses
@@ -35,6 +36,7 @@ module _ (ls : List ℕ) where
   StaysAct (goes st) = st.world.literals ≡ ls
   StaysAct (binds x v st) = st.world.literals ≡ ls
   StaysAct (runs c st back) = st.world.literals ≡ ls
+  StaysAct (tries c d make st) = (st.world.literals ≡ ls) × ((e : Error Value) (w : World Value) → w.literals ≡ ls → (make e w).1.literals ≡ ls)
 
   abbrev StaysRun : Run → Type 0
   StaysRun run = (t : Phrase) (st : State Value) (n : ℕ) → st.world.literals ≡ ls → Stays ls (run t st n)
@@ -52,12 +54,19 @@ module _ (ls : List ℕ) where
   stays_call run h (both c d) st zero e = e
   stays_call run h (both c d) st (suc n) e = stays_then (run_callable run c st n) (run_callable run d) (stays_call run h c st n e) (λ st' m e'. stays_call run h d st' m e')
 
+  stays_caught : (run : Run) → StaysRun run → (make : Error Value → World Value → Value × World Value) → ((e : Error Value) (w : World Value) → w.literals ≡ ls → (make e w).1.literals ≡ ls) → (d : Callable) (vs : List Value) (r : Result) → Stays ls r → Stays ls (caught run make d vs r)
+  stays_caught run h make k d vs (Done st m) e = e
+  stays_caught run h make k d vs (Failed x st m) e = stays_call run h d (after_error vs (make x st.world)) m (k x st.world e)
+  stays_caught run h make k d vs (Spent st i) e = e
+  stays_caught run h make k d vs Stuck e = tt
+
   stays_go : (run : Run) → StaysRun run → (a : Act) (t : Phrase) (n : ℕ) → StaysAct a → Stays ls (go_on run a t n)
   stays_go run h wrong t n e = tt
   stays_go run h (fails x st) t n e = e
   stays_go run h (goes st) t n e = h t st n e
   stays_go run h (binds x v st) t n e = h (put_local x (held v) t) st n e
   stays_go run h (runs c st back) t n e = stays_then (run_callable run c st n) (λ st' m. run t (push_each back st') m) (stays_call run h c st n e) (λ st' m e'. h t (push_each back st') m e')
+  stays_go run h (tries c d make st) t n e = stays_then (caught run make d st.stack (run_callable run c st n)) (λ st' m. run t st' m) (stays_caught run h make e.1 d st.stack (run_callable run c st n) (stays_call run h c st n e.0)) (λ st' m e'. h t st' m e')
 
   module _ (act : Item → State Value → Act) (acts : (i : Item) (st : State Value) → st.world.literals ≡ ls → StaysAct (act i st)) where
     stays_eval : (f : ℕ) → StaysRun (eval act f)
@@ -121,6 +130,11 @@ module _ (ls : List ℕ) where
     makes_stays (Some c) st e =
         taking_stays c.1 [] st.stack st.world (λ vs st'. given 0 st'.stack (made_tuple meaning_values (names P) c.0 vs st'.world)) e (λ vs st' e'. e')
 
+    fault_stays : (x : ErrorName) (v : Option Value) (told : List ℕ) (w : World Value) → w.literals ≡ ls → (fault_of meaning_values fault_kind x v told w).1.literals ≡ ls
+    fault_stays Thrown (Some v) told w e = e
+    fault_stays Thrown None told w e = e
+    fault_stays _ v told w e = e
+
     core_stays : (c : CoreWord) → Keeps (core_act P c)
     core_stays c_cond st e = tt
     core_stays c_call st e = taking1_stays st.stack st.world (λ q st'. with_callable q (λ c. runs c st' [])) e (λ q. callable_stays q (λ c st'. runs c st' []) (λ c st' e'. e'))
@@ -129,6 +143,10 @@ module _ (ls : List ℕ) where
         taking3_stays st.stack st.world (λ t p q st'. with_callable p (λ c. with_callable q (λ d. runs (elim (seen_no (seen t)) [ true ↦ d | false ↦ c ]) st' []))) e (λ t p q. callable_stays p (λ c st'. with_callable q (λ d. runs (elim (seen_no (seen t)) [ true ↦ d | false ↦ c ]) st' [])) (λ c. callable_stays q (λ d st'. runs (elim (seen_no (seen t)) [ true ↦ d | false ↦ c ]) st' []) (λ d st' e'. e')))
     core_stays c_execute st e = taking1_stays st.stack st.world (λ v st'. with_word v (λ a. runs (of_phrase (one_item (word a))) st' [])) e (λ v. word_stays v (λ a st'. runs (of_phrase (one_item (word a))) st' []) (λ a st' e'. e'))
     core_stays c_boa st e = taking1_stays st.stack st.world (λ v st'. with_word v (λ a. makes_tuple P ((names P).tuple_class a) st')) e (λ v. word_stays v (λ a st'. makes_tuple P ((names P).tuple_class a) st') (λ a. makes_stays ((names P).tuple_class a)))
+    core_stays c_recover st e =
+        let make = fault meaning_values fault_kind (told_word P) in
+        let steady = λ (x : Error Value) (w : World Value) (e' : w.literals ≡ ls). fault_stays x.name x.value (told_word P x.word) w e' in
+        taking2_stays st.stack st.world (λ p q st'. with_callable p (λ c. with_callable q (λ d. tries c d make st'))) e (λ p q. callable_stays p (λ c st'. with_callable q (λ d. tries c d make st')) (λ c. callable_stays q (λ d st'. tries c d make st') (λ d st' e'. (e', steady))))
 
     primitive_stays : (a : ℕ) (p : Option Primitive) → Keeps (prim_act P a p)
     primitive_stays a None st e = tt

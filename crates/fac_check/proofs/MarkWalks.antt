@@ -106,17 +106,17 @@ reached_stays N M L Dead g h = refl
 reached_stays N M L (On b s) g h = ap (λ ms. on (base_seen N b) ms) (g.same_stack N s h)
 
 -- two callables, and then their join
-module _ {C : Program} {templates : List Template} {own : Option ℕ} {inner : ℕ} (O : Opened C templates own inner) (go : Walk) (M L K : MarksSeen) (s : Step) (m n : ℕ) where
+module _ {C : Program} {templates : List Template} {own : Option ℕ} {inner : ℕ} (O : Opened C templates own inner) (go : Walk) (M L K : MarksSeen) (s : Step) (m n t : ℕ) where
   -- Where the walk of the first came to this, the walk of the second is at marks that came later.
   pub forked :
-      (W V : Ended) (upper : Reached) (rest : ℕ) (X : Walked AbstractStack) → Grows M L → IsMark M n → IsStack M s.stack → W ≡ Found upper rest →
+      (W V : Ended) (upper : Reached) (rest : ℕ) (X : Walked AbstractStack) → Grows M L → IsMark M n → IsStack M t → W ≡ Found upper rest →
       walked_seen O.naming L W ≡ mark_walk M s m O go →
-      walked_seen O.naming K V ≡ walk_mark O.effect go (mark_of O.naming L n) s.place s.nested (base_seen O.naming s.base) (stack_of O.naming L s.stack) rest →
+      walked_seen O.naming K V ≡ walk_mark O.effect go (mark_of O.naming L n) s.place s.nested (base_seen O.naming s.base) (stack_of O.naming L t) rest →
       X ≡ and_then (walked_seen O.naming K V) (λ B j. join (reached_seen O.naming L upper) B s.place j) →
-      X ≡ fork_walk M s m n O go
+      X ≡ fork_walk M s m n t O go
   forked W V upper rest X grows there stack is first second joins =
       let N = O.naming in
-      let seconds : ℕ → Walked AbstractStack = λ k. walk_mark O.effect go (mark_of N M n) s.place s.nested (base_seen N s.base) (stack_of N M s.stack) k in
+      let seconds : ℕ → Walked AbstractStack = λ k. walk_mark O.effect go (mark_of N M n) s.place s.nested (base_seen N s.base) (stack_of N M t) k in
       joins
-      ∙ ap (λ w. and_then w (λ B j. join (reached_seen N L upper) B s.place j)) (second ∙ ap (λ q. walk_mark O.effect go q s.place s.nested (base_seen N s.base) (stack_of N L s.stack) rest) (grows.same_mark N n there) ∙ ap (λ ms. walk_mark O.effect go (mark_of N M n) s.place s.nested (base_seen N s.base) ms rest) (grows.same_stack N s.stack stack))
+      ∙ ap (λ w. and_then w (λ B j. join (reached_seen N L upper) B s.place j)) (second ∙ ap (λ q. walk_mark O.effect go q s.place s.nested (base_seen N s.base) (stack_of N L t) rest) (grows.same_mark N n there) ∙ ap (λ ms. walk_mark O.effect go (mark_of N M n) s.place s.nested (base_seen N s.base) ms rest) (grows.same_stack N t stack))
       ∙ ap (λ w. and_then w (λ A k. and_then (seconds k) (λ B j. join A B s.place j))) (ap (walked_seen N L) (sym is) ∙ first)

@@ -13,7 +13,7 @@ use Rattle.fac_base.specs.Effects.{inputs_count, effect_height}
 use Rattle.fac_lang.specs.Procedures.{Procedure, leaves, curries, composes, picked}
 use Rattle.fac_lang.specs.Primitives.{Primitive, prim_numbered}
 use Rattle.fac_lang.specs.declared.core_table.CoreWord.{CoreWord}
-use Rattle.fac_lang.specs.declared.core_table.CoreWord.TheVariants.{Call as c_call, Dip as c_dip, If as c_if, Execute as c_execute, Boa as c_boa, Cond as c_cond}
+use Rattle.fac_lang.specs.declared.core_table.CoreWord.TheVariants.{Call as c_call, Dip as c_dip, If as c_if, Execute as c_execute, Boa as c_boa, Recover as c_recover, Cond as c_cond}
 use Rattle.fac_lang.specs.Meaning.{sort_of, names}
 use Rattle.fac_abs.specs.RowVariables.{Row, named_row, row_eq, row_name, effect_inputs, effect_leaving, outer_in, outer_out, bindable, is_row}
 use Rattle.fac_lang.specs.Substitution.{put_local}
@@ -351,7 +351,7 @@ data RaisedDoing (below : List Mark) : Doing → Doing → Type 0 where
   d_names : {x : ℕ} {m : Mark} {b : Option Row} {ms ns : List Mark} → Raised below ms ns → RaisedDoing below (names_local x m b ms) (names_local x m b ns)
   d_expands : {w : ℕ} {u : Phrase} {b : Option Row} {ms ns : List Mark} → Raised below ms ns → RaisedDoing below (expands w u b ms) (expands w u b ns)
   d_walks : {m : Mark} {b : Option Row} {ms ns back : List Mark} → Raised below ms ns → RaisedDoing below (walks m b ms back) (walks m b ns back)
-  d_forks : {l r : Mark} {b : Option Row} {ms ns : List Mark} → Raised below ms ns → RaisedDoing below (forks l r b ms) (forks l r b ns)
+  d_forks : {l r : Mark} {b : Option Row} {ms ns ms2 ns2 : List Mark} → Raised below ms ns → Raised below ms2 ns2 → RaisedDoing below (forks l r b ms ms2) (forks l r b ns ns2)
   d_again : {w : ℕ} {b : Option Row} {ms ns : List Mark} → Raised below ms ns → RaisedDoing below (again w b ms) (again w b ns)
   d_uses : {e : Signature} {js : List Mark} {b : Option Row} {ms ns : List Mark} → Raised below ms ns → RaisedDoing below (uses e js b ms) (uses e js b ns)
 
@@ -366,8 +366,8 @@ module _ (go : Walk) (goes : Goes go) where
   walk_on_follows {below} p d at t n (d_names {x = x} {m = m} {b = b} {ms = ms} {ns = ns} s) = counted_follows _ _ p n (λ k. goes below at d (put_local x (known m) t) b ms ns k s)
   walk_on_follows p d at t n (d_expands {w = w} {u = u} {b = b} s) = unless_follows p (phrase_rule_alike d) (counted_follows _ _ p n (λ k. then_follows _ _ (walk_phrase_follows go goes b (first_of_word w) u p d k s) (λ A B j q. rest_follows at t d j q)))
   walk_on_follows p d at t n (d_walks {m = m} {b = b} {ms = ms} {ns = ns} {back = back} s) = unless_follows p (first_rule_alike b ms ns m d) (counted_follows _ _ p n (λ k. then_follows _ _ (walk_mark_follows go goes b m p d k s) (λ A B j q. rest_follows at t d j (marks_back_raised back q))))
-  walk_on_follows p d at t n (d_forks {l = l} {r = r} {b = b} {ms = ms} {ns = ns} s) =
-      unless_follows p (first_rule_alike b ms ns l d) (counted_follows _ _ p n (λ k. then_follows _ _ (walk_mark_follows go goes b l p d k s) (λ A B j q. then_follows _ _ (walk_mark_follows go goes b r p d j s) (λ C D i v. then_follows _ _ (join_follows p i q v) (λ E F h w. rest_follows at t d h w)))))
+  walk_on_follows p d at t n (d_forks {l = l} {r = r} {b = b} {ms = ms} {ns = ns} s s2) =
+      unless_follows p (first_rule_alike b ms ns l d) (counted_follows _ _ p n (λ k. then_follows _ _ (walk_mark_follows go goes b l p d k s) (λ A B j q. then_follows _ _ (walk_mark_follows go goes b r p d j s2) (λ C D i v. then_follows _ _ (join_follows p i q v) (λ E F h w. rest_follows at t d h w)))))
   walk_on_follows {below} p d at t n (d_again {w = w} {b = b} {ms = ms} {ns = ns} s) = counted_follows _ _ p n (λ k. then_follows _ _ (goes below at d (then (word w) p end) b ms ns k s) (λ A B j q. rest_follows at t d j q))
   walk_on_follows p d at t n (d_uses {e = e} {js = js} {b = b} s) = unless_follows p (use_rule_alike _ _ (effect_inputs e) js d (row_binding_raised (outer_in e) (t_on s))) (counted_follows _ _ p n (λ k. then_follows _ _ (walk_use_follows go goes b e js p d k s) (λ A B j q. rest_follows at t d j q)))
 
@@ -450,7 +450,10 @@ module _ (P : Program) {below : List Mark} (b : Option Row) where
   core_raised c_if r_below = d_breaks
   core_raised c_if (r_mark r_below) = d_breaks
   core_raised c_if (r_mark (r_mark r_below)) = d_breaks
-  core_raised c_if (r_mark {m = r} (r_mark {m = l} (r_mark h))) = callable_or_raised NotKnown (is_callable l && is_callable r) (d_forks h)
+  core_raised c_if (r_mark {m = r} (r_mark {m = l} (r_mark h))) = callable_or_raised NotKnown (is_callable l && is_callable r) (d_forks h h)
+  core_raised c_recover r_below = d_breaks
+  core_raised c_recover (r_mark r_below) = d_breaks
+  core_raised c_recover (r_mark {m = r} (r_mark {m = l} h)) = callable_or_raised NotKnown (is_callable l && is_callable r) (d_forks h (r_mark h))
   core_raised c_execute r_below = d_breaks
   core_raised c_execute (r_mark {m = m} h) = known_word_raised _ _ m (λ w. d_again h)
   core_raised c_boa r_below = d_breaks

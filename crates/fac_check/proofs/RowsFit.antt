@@ -18,9 +18,8 @@ use Rattle.fac_check.specs.Promises.{Valid}
 use Rattle.fac_check.proofs.ValuesOfMarks.{Stands, StandsOn, StandsStack, EndsSo}
 use Rattle.std.proofs.lemmas.Slice.Eq.{bytes_eq-Decides}
 use Rattle.std.proofs.lemmas.Bool.{ltb-false}
-use Rattle.fac_lang.proofs.Laws.{Sparing}
 use Rattle.fac_abs.proofs.EqualMarks.{never_true, and_first, and_second, length_same, base_same, mark_same, row_same}
-use Rattle.fac_check.proofs.WalksFit.{Context, StackState, Fits, PhrasesFit, InputsFit, mark_fits}
+use Rattle.fac_check.proofs.WalksFit.{Context, StackState, Fits, PhrasesFit, InputsFit, mark_fits, Lasting}
 use Rattle.fac_check.proofs.ItemsFit.{Over, Leaves, ends_map, over_unknowns}
 
 -- the same context, in which an absent base is this list
@@ -191,7 +190,7 @@ module _ (P : Program) (C : Context) where
     WalkEnds bs e m (found A n) = EndsAt bs e m A
     WalkEnds bs e m (refused x p) = Unit {0}
 
-    module _ (sparing : Sparing run) (phrases_fit : PhrasesFit P C go run f) (inputs_fit : InputsFit P C run f) (phrases_below : (r : List Value) → PhrasesFit P (with_base C r) go run f) (inputs_below : (r : List Value) → InputsFit P (with_base C r) run f) where
+    module _ (sparing : Lasting P run) (phrases_fit : PhrasesFit P C go run f) (inputs_fit : InputsFit P C run f) (phrases_below : (r : List Value) → PhrasesFit P (with_base C r) go run f) (inputs_below : (r : List Value) → InputsFit P (with_base C r) run f) where
       row_fits : (bs : Binding) (y : List ℕ) (i : ℕ) (B : AbstractStack) → bound_to (named_row y) bs ≡ Some B → (m : Mark) (c : Callable) → Stands C.inputs m (fun c) → (r : List Value) (st : State Value) (n : ℕ) → n ≤ f → RowOf bs (Some (named_row y)) r → Over i r st.stack → Valid P st.world → (p : Place) (d left : ℕ) → Fits P C (walk_from C.own go m p d B i left) (run_callable run c st n)
       row_fits bs y i dead e m c sc r st n le ro ov v p d left = absurd (row_at bs (named_row y) dead e r ro)
       row_fits bs y i (on b ms) e m c sc r st n le ro ov v p d left =

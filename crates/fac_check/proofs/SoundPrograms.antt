@@ -31,13 +31,12 @@ use Rattle.fac_check.specs.CallableEffects.{callable_height}
 use Rattle.fac_check.specs.Verdicts.{ordinary_verdict, row_verdict, top_verdict}
 use Rattle.fac_check.specs.Promises.{Valid}
 use Rattle.fac_check.proofs.ValuesOfMarks.{Stands, StandsOn, StandsStack, EndsSo}
-use Rattle.fac_lang.proofs.Laws.{within}
 use Rattle.fac_abs.proofs.EqualMarks.{never_true, and_first, and_second, length_same, base_same, mark_same}
 use Rattle.fac_check.proofs.StandingLaws.{Unmarked, self_phrase}
 use Rattle.fac_check.proofs.WalksFit.{Context, OnState, StackState, Fits, InputsFit, Does, does_fits}
 use Rattle.fac_check.proofs.ItemsFit.{Over, Leaves, Facts, if_callable, ends_map, left_on, HasEffect, effect_does}
 use Rattle.fac_check.proofs.PrimitivesKeep.{RegularFn}
-use Rattle.fac_check.proofs.SoundWalks.{A, Known, known_none, known_more, walk_in, on_values, marks_over, over_marks, accepted_keeps, top_runs}
+use Rattle.fac_check.proofs.SoundWalks.{A, lasts, Known, known_none, known_more, walk_in, on_values, marks_over, over_marks, accepted_keeps, top_runs}
 use Rattle.fac_check.proofs.CallablesKeep.{KeepsNumbers, more_keeps, fitting_keeps}
 use Rattle.fac_check.proofs.RowsFit.{with_base, Extends, Shows, inputs_show}
 use Rattle.fac_check.proofs.InsideRowWords.{Given, callee, callee_fits, callee_leaves}
@@ -167,7 +166,7 @@ module _ (P : Program) where
       G = walk_in P C g
 
       abbrev D : Doing → Act → Type 0
-      D = Does P C G (eval (A P) f) f (within (A P) f) (known f (le_self f) C good g) (good.inputs_fit f (le_self f))
+      D = Does P C G (eval (A P) f) f (lasts P f) (known f (le_self f) C good g) (good.inputs_fit f (le_self f))
 
       abbrev Vs : List Mark → List Value → Type 0
       Vs = Values P C C
@@ -232,7 +231,7 @@ module _ (P : Program) where
             where
               bound : (q : Bool) → q ≡ true → D (elim q [ true ↦ callable_or (inputs_known ins taken) NotKnown (uses d.effect taken b rest) | false ↦ gives dead ]) (run_phrase t st)
               bound true e =
-                  if_callable P C G (eval (A P) f) f (within (A P) f) (known f (le_self f) C good g) (good.inputs_fit f (le_self f)) (inputs_known ins taken) NotKnown (uses d.effect taken b rest) (run_phrase t st) (λ known_inputs. (of_phrase t, st, refl, λ p k left n le. use_ends (walk_inputs C.own G 1 ins taken p k (row_binding (outer_in d.effect) (on b rest)) left) (λ h le'. inputs_show P C G (eval (A P) h) h (within (A P) h) (known h le' C (good_less f h C le' good) g) (good.inputs_fit h le') (λ q. known h le' (with_base C q) (good_base h C q (good_less f h C le' good)) g) (λ q. good.bases_fit h le' q) ins taken 1 p k (row_binding (outer_in d.effect) (on b rest)) left) known_inputs n le))
+                  if_callable P C G (eval (A P) f) f (lasts P f) (known f (le_self f) C good g) (good.inputs_fit f (le_self f)) (inputs_known ins taken) NotKnown (uses d.effect taken b rest) (run_phrase t st) (λ known_inputs. (of_phrase t, st, refl, λ p k left n le. use_ends (walk_inputs C.own G 1 ins taken p k (row_binding (outer_in d.effect) (on b rest)) left) (λ h le'. inputs_show P C G (eval (A P) h) h (lasts P h) (known h le' C (good_less f h C le' good) g) (good.inputs_fit h le') (λ q. known h le' (with_base C q) (good_base h C q (good_less f h C le' good)) g) (λ q. good.bases_fit h le' q) ins taken 1 p k (row_binding (outer_in d.effect) (on b rest)) left) known_inputs n le))
               bound false e = absurd (never_true e)
 
         -- a use of a row word
@@ -292,7 +291,7 @@ module _ (P : Program) where
     method_keeps f known h m x =
         subst (λ k. KeepsNumbers P f k.ins k.outs (of_phrase (word_phrase P m))) x.2 (λ r st n le o v. accepted_keeps P m x.0 (word_phrase P m) x.1 f r (known r) (self_phrase (λ k c. ⊥) (word_phrase P m) x.3) st n le o v)
 
-    facts_at : (f : ℕ) (known : AllKnown f) → Executed f → (C : Context) (good : Good f C) (g : ℕ) → Facts P C (walk_in P C g) (eval (A P) f) f (within (A P) f) (known f (le_self f) C good g) (good.inputs_fit f (le_self f))
+    facts_at : (f : ℕ) (known : AllKnown f) → Executed f → (C : Context) (good : Good f C) (g : ℕ) → Facts P C (walk_in P C g) (eval (A P) f) f (lasts P f) (known f (le_self f) C good g) (good.inputs_fit f (le_self f))
     facts_at f known executed C good g =
         record {
           ordinary = λ w d t e q z i r st n le o v. accepted_keeps P w d t (accepted.accepted w d t e q z i) f r (all_of f known r) (self_phrase (λ k c. ⊥) t (accepted.unmarked w d t e q)) st n le o v;
@@ -319,7 +318,7 @@ module _ (P : Program) where
       C = on_values P r
 
       abbrev Dv : Doing → Act → Type 0
-      Dv = Does P C (walk_in P C 0) (eval (A P) f) f (within (A P) f) (known f (le_self f) C (good_values f r) 0) ((good_values f r).inputs_fit f (le_self f))
+      Dv = Does P C (walk_in P C 0) (eval (A P) f) f (lasts P f) (known f (le_self f) C (good_values f r) 0) ((good_values f r).inputs_fit f (le_self f))
 
       all_taken : (i : ℕ) (o : Option ℕ) (a : Act) → Dv (by_height i o None (unknowns i [])) a → Dv (gives (left_on P C o None [])) a
       all_taken i None a h = subst (λ z. Dv (elim z [ Some q ↦ gives dead | None ↦ breaks (Underflow i (length (unknowns i []))) ]) a) (popped_unknowns i []).1 h
@@ -335,7 +334,7 @@ module _ (P : Program) where
 
       sort_ends : HasEffect P w d.sort → (n : ℕ) → n ≤ f → EndsSo (Leaves P (height_of d).outs r) (go_on (eval (A P) f) (sort_act P w (Some d.sort) st) end n)
       sort_ends x n le =
-          ended (height_of d).outs (go_on (eval (A P) f) (sort_act P w (Some d.sort) st) end n) (does_fits P C (walk_in P C 0) (eval (A P) f) f (within (A P) f) (known f (le_self f) C (good_values f r) 0) ((good_values f r).inputs_fit f (le_self f)) (gives (left_on P C (height_of d).outs None [])) (sort_act P w (Some d.sort) st) nowhere 0 (first_of_word 0) 1 end end n le refl (all_taken (height_of d).ins (height_of d).outs (sort_act P w (Some d.sort) st) (effect_does P C (walk_in P C 0) (eval (A P) f) f (within (A P) f) (known f (le_self f) C (good_values f r) 0) ((good_values f r).inputs_fit f (le_self f)) (facts_at f known executed C (good_values f r) 0) w d d.sort is_word refl not_inline x None (unknowns (height_of d).ins []) st (over_marks P r (height_of d).ins st.stack over, valid))))
+          ended (height_of d).outs (go_on (eval (A P) f) (sort_act P w (Some d.sort) st) end n) (does_fits P C (walk_in P C 0) (eval (A P) f) f (lasts P f) (known f (le_self f) C (good_values f r) 0) ((good_values f r).inputs_fit f (le_self f)) (gives (left_on P C (height_of d).outs None [])) (sort_act P w (Some d.sort) st) nowhere 0 (first_of_word 0) 1 end end n le refl (all_taken (height_of d).ins (height_of d).outs (sort_act P w (Some d.sort) st) (effect_does P C (walk_in P C 0) (eval (A P) f) f (lasts P f) (known f (le_self f) C (good_values f r) 0) ((good_values f r).inputs_fit f (le_self f)) (facts_at f known executed C (good_values f r) 0) w d d.sort is_word refl not_inline x None (unknowns (height_of d).ins []) st (over_marks P r (height_of d).ins st.stack over, valid))))
 
     -- The item of a word that has an effect and is no top-level phrase, with one tick more.
     module _ (f : ℕ) (known : AllKnown f) (executed : Executed f) (h : Height) (w : ℕ) (no_phrase : not (is_top_phrase P w) ≡ true) where

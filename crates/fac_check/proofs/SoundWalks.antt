@@ -2,13 +2,13 @@
 use Rattle.std.proofs.Common.{◌≡◌, ℕ, zero, suc, ◌≤◌, List, [], ◌∷◌, length, Bool, true, false, refl, sym, ap, Option, Some, None, arith}
 use Rattle.std.specs.Prelude.{nat_eq, ◌&&◌}
 use Rattle.fac_base.specs.declared.place.Place.{Place}
-use Rattle.fac_lang.specs.Phrases.{Literal, Phrase, end, then, Item, Value, Mark}
+use Rattle.fac_lang.specs.Phrases.{Literal, Phrase, end, then, Item, Value, Mark, Callable}
 use Rattle.fac_lang.specs.World.{State}
 use Rattle.fac_base.specs.Signatures.{Signature, signature, Leaving, never, leaves}
 use Rattle.fac_base.specs.Effects.{inputs_count, leaving_outs, effect_height}
 use Rattle.fac_lang.specs.declared.program.Program.{Program}
 use Rattle.fac_lang.specs.declared.program.WordDef.{WordDef}
-use Rattle.fac_lang.specs.Eval.{Result, Done, Failed, Spent, Stuck, Act, Run, eval}
+use Rattle.fac_lang.specs.Eval.{Result, Done, Failed, Spent, Stuck, Act, Run, run_callable, eval}
 use Rattle.fac_lang.specs.Meaning.{act, run}
 use Rattle.fac_abs.specs.RowVariables.{Row, effect_inputs, effect_leaving}
 use Rattle.fac_abs.specs.Marks.{AbstractStack, dead, on, base_eq, unknowns}
@@ -24,13 +24,24 @@ use Rattle.fac_check.specs.Promises.{Valid}
 use Rattle.fac_check.proofs.ValuesOfMarks.{StandsPhrase, StandsOn, EndsSo}
 use Rattle.fac_lang.proofs.Laws.{within}
 use Rattle.fac_abs.proofs.EqualMarks.{never_true, and_second, length_same}
-use Rattle.fac_check.proofs.WalksFit.{Context, StackState, Fits, PhrasesFit, InputsFit, any_spent, does_fits}
-use Rattle.fac_check.proofs.ItemsFit.{Over, Leaves, Facts, item_does, ends_map}
+use Rattle.fac_check.proofs.WalksFit.{Context, StackState, Fits, Kept, Lasting, PhrasesFit, InputsFit, any_spent, does_fits}
+use Rattle.fac_check.proofs.ItemsFit.{Over, Leaves, Facts, item_does, ends_map, still_valid}
+use Rattle.fac_check.proofs.LiteralsStay.{Stays, literals_stay_in_call}
 
 module _ (P : Program) where
   -- what items do in a run, where callables and words are tested by the checker's effects
   abbrev pub A : Item → State Value → Act
   A = act P fits (callable_height P)
+
+  -- a run keeps a valid world where it fails
+  stays_kept : (st : State Value) → Valid P st.world → (r : Result) → Stays st.world.literals r → Kept P r
+  stays_kept st v (Done st' m) e = tt
+  stays_kept st v (Failed x st' m) e = still_valid P st.world st'.world v e
+  stays_kept st v (Spent st' i) e = tt
+  stays_kept st v Stuck e = tt
+
+  pub lasts : (f : ℕ) → Lasting P (eval A f)
+  lasts f = (within A f, λ c st n v. stays_kept st v (run_callable (eval A f) c st n) (literals_stay_in_call P fits (callable_height P) f c st n))
 
   -- a walk in a context
   abbrev pub walk_in : Context → ℕ → Literal → ℕ → Phrase → Option Row → List Mark → ℕ → Walked AbstractStack
@@ -47,12 +58,12 @@ module _ (P : Program) where
   known_none C (suc g) at d (then i p t) u b ms left st n le s o = rw s.3 (any_spent P C (walk_in C (suc g) at d (then i p t) b ms left) st (Some s.0))
 
   -- one tick more, from what the items rest on
-  pub known_more : (C : Context) (f : ℕ) (known : Known f C) (inputs_fit : InputsFit P C (eval A f) f) → ((g : ℕ) → Facts P C (walk_in C g) (eval A f) f (within A f) (known g) inputs_fit) → Known (suc f) C
+  pub known_more : (C : Context) (f : ℕ) (known : Known f C) (inputs_fit : InputsFit P C (eval A f) f) → ((g : ℕ) → Facts P C (walk_in C g) (eval A f) f (lasts f) (known g) inputs_fit) → Known (suc f) C
   known_more C f known inputs_fit facts g at d end u b ms left st n le s o = rw s o
   known_more C f known inputs_fit facts zero at d (then i p t) u b ms left st n le s o = tt
   known_more C f known inputs_fit facts (suc g) at d (then i p t) u b ms left st zero le s o = rw s.3 (any_spent P C (walk_in C (suc g) at d (then i p t) b ms left) st (Some s.0))
   known_more C f known inputs_fit facts (suc g) at d (then i p t) u b ms left st (suc n) le s o =
-      rw s.3 (does_fits P C (walk_in C g) (eval A f) f (within A f) (known g) inputs_fit (doing P C.word at i b ms) (A s.0 st) p d (behind at i) left t s.2 n (omega (arith, le)) s.5 (item_does P C (walk_in C g) (eval A f) f (within A f) (known g) inputs_fit (facts g) at i s.0 s.4 b ms st o))
+      rw s.3 (does_fits P C (walk_in C g) (eval A f) f (lasts f) (known g) inputs_fit (doing P C.word at i b ms) (A s.0 st) p d (behind at i) left t s.2 n (omega (arith, le)) s.5 (item_does P C (walk_in C g) (eval A f) f (lasts f) (known g) inputs_fit (facts g) at i s.0 s.4 b ms st o))
 
   -- A phrase on values s of which nothing is known and that it doesn't touch.
   abbrev pub on_values : List Value → Context

@@ -48,7 +48,7 @@ module _ (own : Option Signature) (go : Walk) (d : ℕ) (next : Literal) (t : Ph
   walk_on_item (names_local x m b ms) p n alone = absurd alone
   walk_on_item (expands w u b ms) p n alone = broken_first (phrase_rule d) p _ _ (counted_first p n _ _ (λ k. refl))
   walk_on_item (walks m b ms back) p n alone = broken_first (first_rule own m d b ms) p _ _ (counted_first p n _ _ (λ k. back_first (walk_mark own go m p d b ms k) back))
-  walk_on_item (forks l r b ms) p n alone = broken_first (first_rule own l d b ms) p _ _ (counted_first p n _ _ (λ k. joined_first p (walk_mark own go l p d b ms k) (λ j. walk_mark own go r p d b ms j)))
+  walk_on_item (forks l r b ms ns) p n alone = broken_first (first_rule own l d b ms) p _ _ (counted_first p n _ _ (λ k. joined_first p (walk_mark own go l p d b ms k) (λ j. walk_mark own go r p d b ns j)))
   walk_on_item (again w b ms) p n alone = absurd alone
   walk_on_item (uses e is b ms) p n alone = broken_first (use_rule own (row_binding (outer_in e) (on b ms)) (effect_inputs e) is d) p _ _ (counted_first p n _ _ (λ k. refl))
 
@@ -74,7 +74,7 @@ module _ (own : Option Signature) (go : Walk) (d : ℕ) (next : Literal) (ends :
     walk_on_rest (names_local x m b ms) p n none = absurd none
     walk_on_rest (expands w u b ms) p n none = split (expands w u b ms) p n tt
     walk_on_rest (walks m b ms back) p n none = split (walks m b ms back) p n tt
-    walk_on_rest (forks l r b ms) p n none = split (forks l r b ms) p n tt
+    walk_on_rest (forks l r b ms ns) p n none = split (forks l r b ms ns) p n tt
     walk_on_rest (again w b ms) p zero none = refl
     walk_on_rest (again w b ms) p (suc k) none = ap (λ W. and_then W (rest own go d next t)) (sym (nothing_behind (go next d (then (word w) p end) b ms k)))
     walk_on_rest (uses e is b ms) p n none = split (uses e is b ms) p n tt

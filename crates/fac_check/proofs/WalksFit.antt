@@ -4,11 +4,11 @@ use Rattle.std.specs.Prelude.{nat_eq, ◌&&◌}
 use mathlib.Core.Logic.{inl, inr}
 use Rattle.fac_base.specs.declared.place.Place.{Place}
 use Rattle.fac_lang.specs.Phrases.{Literal, Phrase, end, then, Item, word, held, known, Value, plain, fun, Callable, of_phrase, Mark, any, lit_mark, cur_mark, com_mark, wrd_mark, par_mark}
-use Rattle.fac_lang.specs.World.{State, Error, push, pile, push_each}
+use Rattle.fac_lang.specs.World.{World, State, Error, push, pile, push_each}
 use Rattle.fac_lang.specs.Substitution.{put_local}
 use Rattle.fac_base.specs.Signatures.{Signature}
 use Rattle.fac_lang.specs.declared.program.Program.{Program}
-use Rattle.fac_lang.specs.Eval.{Result, Done, Failed, Spent, Stuck, then_do, Act, wrong, fails, goes, binds, runs, Run, run_callable, go_on}
+use Rattle.fac_lang.specs.Eval.{Result, Done, Failed, Spent, Stuck, then_do, Act, wrong, fails, goes, binds, runs, tries, Run, run_callable, after_error, caught, go_on}
 use Rattle.fac_lang.specs.Meaning.{one_item, nowhere}
 use Rattle.fac_abs.specs.RowVariables.{Row, effect_inputs, outer_in}
 use Rattle.fac_abs.specs.Marks.{AbstractStack, dead, on, base_eq, mark_eq, join_marks, piled}
@@ -19,7 +19,7 @@ use Rattle.fac_locals.specs.Literals.{first_of_word, first_of_literal}
 use Rattle.fac_check.specs.Flow.{Walked, found, refused, and_then, living, Doing, breaks, gives, names_local, expands, walks, forks, again, uses, Walk, counted, inside, called, join, marks_back, walk_phrase, walk_mark, walk_use, phrase_rule, first_rule, use_rule, unless_broken, walk_on}
 use Rattle.fac_check.specs.Promises.{Valid}
 use Rattle.fac_check.proofs.ValuesOfMarks.{Stands, StandsPhrase, StandsOn, StandsStack, EndsSo}
-use Rattle.fac_lang.proofs.Laws.{Within, Sparing, within_call}
+use Rattle.fac_lang.proofs.Laws.{Within, Sparing, within_call, within_caught}
 use Rattle.fac_check.proofs.StandingLaws.{put_phrase}
 use Rattle.fac_abs.proofs.EqualMarks.{mark_same, base_same, length_same, and_first, and_second}
 
@@ -34,6 +34,18 @@ pub record Context : Type 1 where
 abbrev pub callable_in : Value → Callable
 callable_in (fun c) = c
 callable_in (plain p) = of_phrase end
+
+module _ (P : Program) where
+  -- where a run failed, the world behind it is valid
+  abbrev pub Kept : Result → Type 0
+  Kept (Done st m) = Unit {0}
+  Kept (Failed e st m) = Valid P st.world
+  Kept (Spent st i) = Unit {0}
+  Kept Stuck = Unit {0}
+
+  -- a run that gives back no more ticks than it gets, and keeps a valid world where it fails
+  abbrev pub Lasting : Run → Type 0
+  Lasting run = Sparing run × ((c : Callable) (st : State Value) (n : ℕ) → Valid P st.world → Kept (run_callable run c st n))
 
 module _ (P : Program) (C : Context) where
   -- a state whose list stands for marks on a base
@@ -146,7 +158,7 @@ module _ (P : Program) (C : Context) where
   abbrev pub InputsFit : Run → ℕ → Type 0
   InputsFit run f = (k : ℕ) (c : Callable) → C.inputs k c → (b : Option Row) (ms : List Mark) (p : Place) (left : ℕ) (st : State Value) (n : ℕ) → n ≤ f → OnState b ms st → Fits (called (calls_own k C.own b ms) p left) (run_callable run c st n)
 
-  module _ (go : Walk) (run : Run) (f : ℕ) (sparing : Sparing run) (phrases_fit : PhrasesFit go run f) (inputs_fit : InputsFit run f) where
+  module _ (go : Walk) (run : Run) (f : ℕ) (sparing : Lasting P run) (phrases_fit : PhrasesFit go run f) (inputs_fit : InputsFit run f) where
     -- entering a phrase, and running one that stands for it
     phrase_fits : (at : Literal) (t u : Phrase) → StandsPhrase C.inputs t u → (p : Place) (d : ℕ) (b : Option Row) (ms : List Mark) (left : ℕ) (st : State Value) (n : ℕ) → n ≤ f → OnState b ms st → Fits (walk_phrase C.own go at t p d b ms left) (run u st n)
     phrase_fits at t u h p zero b ms left st n le o = tt
@@ -163,7 +175,7 @@ module _ (P : Program) (C : Context) where
         rw (ap callable_in h.2) (fits_counted p left (λ k. inside c' p d (λ d'. walk_mark C.own go c' p d' b (m ∷ ms) k)) (run_callable run h.1 (push h.0 st) n) (λ k. fits_inside c' p d (λ d'. walk_mark C.own go c' p d' b (m ∷ ms) k) (run_callable run h.1 (push h.0 st) n) (λ d'. mark_fits c' h.1 h.4 p d' b (m ∷ ms) k (push h.0 st) n (omega (arith, le)) ((h.0, st.stack, refl, h.3, o.0), o.1))))
     mark_fits (com_mark c' e') c h p d b ms left st zero le o = rw (ap callable_in h.2) (any_spent (walk_mark C.own go (com_mark c' e') p d b ms left) st None)
     mark_fits (com_mark c' e') c h p d b ms left st (suc n) le o =
-        rw (ap callable_in h.2) (fits_counted p left (λ k. and_then (inside c' p d (λ d'. walk_mark C.own go c' p d' b ms k)) (later d)) (then_do (run_callable run h.0 st n) (run_callable run h.1)) (λ k. fits_then f (inside c' p d (λ d'. walk_mark C.own go c' p d' b ms k)) (run_callable run h.0 st n) (later d) (run_callable run h.1) (within_call run sparing f h.0 st n (omega (arith, le))) (fits_inside c' p d (λ d'. walk_mark C.own go c' p d' b ms k) (run_callable run h.0 st n) (λ d'. mark_fits c' h.0 h.3 p d' b ms k st n (omega (arith, le)) o)) (λ A k' st' m le' o'. fits_living A k' st' (rest d) (run_callable run h.1 st' m) o' (λ b' ms' o''. fits_inside e' p d (λ d'. walk_mark C.own go e' p d' b' ms' k') (run_callable run h.1 st' m) (λ d'. mark_fits e' h.1 h.4 p d' b' ms' k' st' m le' o'')))))
+        rw (ap callable_in h.2) (fits_counted p left (λ k. and_then (inside c' p d (λ d'. walk_mark C.own go c' p d' b ms k)) (later d)) (then_do (run_callable run h.0 st n) (run_callable run h.1)) (λ k. fits_then f (inside c' p d (λ d'. walk_mark C.own go c' p d' b ms k)) (run_callable run h.0 st n) (later d) (run_callable run h.1) (within_call run sparing.0 f h.0 st n (omega (arith, le))) (fits_inside c' p d (λ d'. walk_mark C.own go c' p d' b ms k) (run_callable run h.0 st n) (λ d'. mark_fits c' h.0 h.3 p d' b ms k st n (omega (arith, le)) o)) (λ A k' st' m le' o'. fits_living A k' st' (rest d) (run_callable run h.1 st' m) o' (λ b' ms' o''. fits_inside e' p d (λ d'. walk_mark C.own go e' p d' b' ms' k') (run_callable run h.1 st' m) (λ d'. mark_fits e' h.1 h.4 p d' b' ms' k' st' m le' o'')))))
       where
         rest : ℕ → Option Row → List Mark → ℕ → Walked AbstractStack
         rest d' b' ms' k'' = inside e' p d' (λ d''. walk_mark C.own go e' p d'' b' ms' k'')
@@ -190,7 +202,16 @@ module _ (P : Program) (C : Context) where
     Gives A (fails e st) = Unit {0}
     Gives A (goes st) = StackState A st
     Gives A (binds x v st) = ⊥
+    Gives A (tries c d make st) = ⊥
     Gives A (runs c st back) = (back ≡ []) × ((n : ℕ) → n ≤ f → EndsSo (StackState A) (run_callable run c st n))
+
+    -- One of two callables, from the marks of both; or the first, and after a run error the second from its own.
+    abbrev pub Chooses : Mark → Mark → Option Row → List Mark → List Mark → Act → Type 0
+    Chooses l r b ms ns a = (c : Callable) × (st : State Value) × (a ≡ runs c st []) × (Stands C.inputs l (fun c) ⊎ Stands C.inputs r (fun c)) × OnState b ms st × (ns ≡ ms)
+
+    abbrev pub Tries : Mark → Mark → Option Row → List Mark → List Mark → Act → Type 0
+    Tries l r b ms ns a =
+        (c d : Callable) × (make : Error Value → World Value → Value × World Value) × (st : State Value) × (a ≡ tries c d make st) × Stands C.inputs l (fun c) × Stands C.inputs r (fun d) × OnState b ms st × ((e : Error Value) (w : World Value) → Valid P w → OnState b ns (after_error st.stack (make e w)))
 
     abbrev pub Does : Doing → Act → Type 0
     Does (breaks x) a = Unit {0}
@@ -198,7 +219,7 @@ module _ (P : Program) (C : Context) where
     Does (names_local x m b ms) a = (v : Value) × (st : State Value) × (a ≡ binds x v st) × Stands C.inputs m v × OnState b ms st
     Does (expands w t b ms) a = (u : Phrase) × (st : State Value) × (a ≡ runs (of_phrase u) st []) × StandsPhrase C.inputs t u × OnState b ms st
     Does (walks m b ms back) a = (c : Callable) × (st : State Value) × (vs : List Value) × (a ≡ runs c st vs) × Stands C.inputs m (fun c) × OnState b ms st × Back back vs
-    Does (forks l r b ms) a = (c : Callable) × (st : State Value) × (a ≡ runs c st []) × (Stands C.inputs l (fun c) ⊎ Stands C.inputs r (fun c)) × OnState b ms st
+    Does (forks l r b ms ns) a = Chooses l r b ms ns a ⊎ Tries l r b ms ns a
     Does (again w b ms) a = (st : State Value) × (a ≡ runs (of_phrase (one_item (word w))) st []) × OnState b ms st
     Does (uses e is b ms) a = (c : Callable) × (st : State Value) × (a ≡ runs c st []) × ((p : Place) (d left n : ℕ) → n ≤ f → Fits (walk_use C.own go e is p d b ms left) (run_callable run c st n))
 
@@ -215,8 +236,9 @@ module _ (P : Program) (C : Context) where
     gives_fits A (fails e st) p d at left t u n le s h = any_failed (walk_on C.own go (gives A) p d at t left) e st n
     gives_fits A (goes st) p d at left t u n le s h = fits_counted p left (λ k. living A k (λ b ms k'. go at d t b ms k')) (run u st n) (λ k. plain_rest at d t u s A k st n le h)
     gives_fits A (binds x v st) p d at left t u n le s h = absurd h
+    gives_fits A (tries c e make st) p d at left t u n le s h = absurd h
     gives_fits A (runs c st back) p d at left t u n le s h =
-        rw h.0 (ends_then f (StackState A) (walk_on C.own go (gives A) p d at t left) (run_callable run c st n) (λ st' m. run u st' m) (within_call run sparing f c st n le) (h.1 n le) (λ st' m le' h'. fits_counted p left (λ k. living A k (λ b ms k'. go at d t b ms k')) (run u st' m) (λ k. plain_rest at d t u s A k st' m le' h')))
+        rw h.0 (ends_then f (StackState A) (walk_on C.own go (gives A) p d at t left) (run_callable run c st n) (λ st' m. run u st' m) (within_call run sparing.0 f c st n le) (h.1 n le) (λ st' m le' h'. fits_counted p left (λ k. living A k (λ b ms k'. go at d t b ms k')) (run u st' m) (λ k. plain_rest at d t u s A k st' m le' h')))
 
     -- so the walk of the item and of the rest fits the run of the item and of the rest
     pub does_fits : (D : Doing) (a : Act) (p : Place) (d : ℕ) (at : Literal) (left : ℕ) (t u : Phrase) (n : ℕ) → n ≤ f → StandsPhrase C.inputs t u → Does D a → Fits (walk_on C.own go D p d at t left) (go_on run a u n)
@@ -225,16 +247,16 @@ module _ (P : Program) (C : Context) where
     does_fits (names_local x m b ms) a p d at left t u n le s h =
         rw h.2 (fits_counted p left (λ k. go at d (put_local x (known m) t) b ms k) (run (put_local x (held h.0) u) h.1 n) (λ k. phrases_fit at d (put_local x (known m) t) (put_local x (held h.0) u) b ms k h.1 n le (put_phrase C.inputs x (known m) (held h.0) (h.0, refl, h.3) t u s) h.4))
     does_fits (expands w t' b ms) a p d at left t u n le s h =
-        rw h.2 (fits_unless (phrase_rule d) p (counted p left (λ k. and_then (walk_phrase C.own go (first_of_word w) t' p d b ms k) after)) (then_do (run h.0 h.1 n) (λ st' m'. run u st' m')) (fits_counted p left (λ k. and_then (walk_phrase C.own go (first_of_word w) t' p d b ms k) after) (then_do (run h.0 h.1 n) (λ st' m'. run u st' m')) (λ k. fits_then f (walk_phrase C.own go (first_of_word w) t' p d b ms k) (run h.0 h.1 n) after (λ st' m'. run u st' m') (sparing f h.0 h.1 n le) (phrase_fits (first_of_word w) t' h.0 h.3 p d b ms k h.1 n le h.4) (λ A k' st' m' le' o'. plain_rest at d t u s A k' st' m' le' o'))))
+        rw h.2 (fits_unless (phrase_rule d) p (counted p left (λ k. and_then (walk_phrase C.own go (first_of_word w) t' p d b ms k) after)) (then_do (run h.0 h.1 n) (λ st' m'. run u st' m')) (fits_counted p left (λ k. and_then (walk_phrase C.own go (first_of_word w) t' p d b ms k) after) (then_do (run h.0 h.1 n) (λ st' m'. run u st' m')) (λ k. fits_then f (walk_phrase C.own go (first_of_word w) t' p d b ms k) (run h.0 h.1 n) after (λ st' m'. run u st' m') (sparing.0 f h.0 h.1 n le) (phrase_fits (first_of_word w) t' h.0 h.3 p d b ms k h.1 n le h.4) (λ A k' st' m' le' o'. plain_rest at d t u s A k' st' m' le' o'))))
       where
         after : AbstractStack → ℕ → Walked AbstractStack
         after A k' = living A k' (λ b' ms' k''. go at d t b' ms' k'')
     does_fits (walks m b ms back) a p d at left t u n le s h =
-        rw h.3 (fits_unless (first_rule C.own m d b ms) p (counted p left (λ k. and_then (walk_mark C.own go m p d b ms k) after)) (then_do (run_callable run h.0 h.1 n) (λ st' m'. run u (push_each h.2 st') m')) (fits_counted p left (λ k. and_then (walk_mark C.own go m p d b ms k) after) (then_do (run_callable run h.0 h.1 n) (λ st' m'. run u (push_each h.2 st') m')) (λ k. fits_then f (walk_mark C.own go m p d b ms k) (run_callable run h.0 h.1 n) after (λ st' m'. run u (push_each h.2 st') m') (within_call run sparing f h.0 h.1 n le) (mark_fits m h.0 h.4 p d b ms k h.1 n le h.5) (λ A k' st' m' le' o'. rest_fits at d t u s back h.2 h.6 A k' st' m' le' o'))))
+        rw h.3 (fits_unless (first_rule C.own m d b ms) p (counted p left (λ k. and_then (walk_mark C.own go m p d b ms k) after)) (then_do (run_callable run h.0 h.1 n) (λ st' m'. run u (push_each h.2 st') m')) (fits_counted p left (λ k. and_then (walk_mark C.own go m p d b ms k) after) (then_do (run_callable run h.0 h.1 n) (λ st' m'. run u (push_each h.2 st') m')) (λ k. fits_then f (walk_mark C.own go m p d b ms k) (run_callable run h.0 h.1 n) after (λ st' m'. run u (push_each h.2 st') m') (within_call run sparing.0 f h.0 h.1 n le) (mark_fits m h.0 h.4 p d b ms k h.1 n le h.5) (λ A k' st' m' le' o'. rest_fits at d t u s back h.2 h.6 A k' st' m' le' o'))))
       where
         after : AbstractStack → ℕ → Walked AbstractStack
         after A k' = living (marks_back back A) k' (λ b' ms' k''. go at d t b' ms' k'')
-    does_fits (forks l r b ms) a p d at left t u n le s h =
+    does_fits (forks l r b ms ns) a p d at left t u n le s (inl h) =
         rw h.2 (fits_unless (first_rule C.own l d b ms) p (counted p left (λ k. and_then (walk_mark C.own go l p d b ms k) second)) (then_do (run_callable run h.0 h.1 n) (λ st' m'. run u st' m')) (fits_counted p left (λ k. and_then (walk_mark C.own go l p d b ms k) second) (then_do (run_callable run h.0 h.1 n) (λ st' m'. run u st' m')) (λ k. chosen k h.3)))
       where
         last : AbstractStack → ℕ → Walked AbstractStack
@@ -244,14 +266,39 @@ module _ (P : Program) (C : Context) where
         joined A B k'' = and_then (join A B p k'') last
 
         second : AbstractStack → ℕ → Walked AbstractStack
-        second A k' = and_then (walk_mark C.own go r p d b ms k') (joined A)
+        second A k' = and_then (walk_mark C.own go r p d b ns k') (joined A)
+
+        on_second : OnState b ns h.1
+        on_second = rw h.5 h.4
 
         chosen : (k : ℕ) → (Stands C.inputs l (fun h.0) ⊎ Stands C.inputs r (fun h.0)) → Fits (and_then (walk_mark C.own go l p d b ms k) second) (then_do (run_callable run h.0 h.1 n) (λ st' m'. run u st' m'))
         chosen k (inl x) =
-            fits_then f (walk_mark C.own go l p d b ms k) (run_callable run h.0 h.1 n) second (λ st' m'. run u st' m') (within_call run sparing f h.0 h.1 n le) (mark_fits l h.0 x p d b ms k h.1 n le h.4) (λ A k' st' m' le' o'. walk_then (walk_mark C.own go r p d b ms k') (joined A) (run u st' m') (λ B k''. join_left A B p k'' st' last (run u st' m') o' (λ D j o''. plain_rest at d t u s D j st' m' le' o'')))
+            fits_then f (walk_mark C.own go l p d b ms k) (run_callable run h.0 h.1 n) second (λ st' m'. run u st' m') (within_call run sparing.0 f h.0 h.1 n le) (mark_fits l h.0 x p d b ms k h.1 n le h.4) (λ A k' st' m' le' o'. walk_then (walk_mark C.own go r p d b ns k') (joined A) (run u st' m') (λ B k''. join_left A B p k'' st' last (run u st' m') o' (λ D j o''. plain_rest at d t u s D j st' m' le' o'')))
         chosen k (inr x) =
-            walk_then (walk_mark C.own go l p d b ms k) second (then_do (run_callable run h.0 h.1 n) (λ st' m'. run u st' m')) (λ A k'. fits_then f (walk_mark C.own go r p d b ms k') (run_callable run h.0 h.1 n) (joined A) (λ st' m'. run u st' m') (within_call run sparing f h.0 h.1 n le) (mark_fits r h.0 x p d b ms k' h.1 n le h.4) (λ B k'' st' m' le' o'. join_right A B p k'' st' last (run u st' m') o' (λ D j o''. plain_rest at d t u s D j st' m' le' o'')))
+            walk_then (walk_mark C.own go l p d b ms k) second (then_do (run_callable run h.0 h.1 n) (λ st' m'. run u st' m')) (λ A k'. fits_then f (walk_mark C.own go r p d b ns k') (run_callable run h.0 h.1 n) (joined A) (λ st' m'. run u st' m') (within_call run sparing.0 f h.0 h.1 n le) (mark_fits r h.0 x p d b ns k' h.1 n le on_second) (λ B k'' st' m' le' o'. join_right A B p k'' st' last (run u st' m') o' (λ D j o''. plain_rest at d t u s D j st' m' le' o'')))
+    does_fits (forks l r b ms ns) a p d at left t u n le s (inr h) =
+        rw h.4 (fits_unless (first_rule C.own l d b ms) p (counted p left (λ k. and_then (walk_mark C.own go l p d b ms k) second)) (then_do (caught run h.2 h.1 h.3.stack (run_callable run h.0 h.3 n)) (λ st' m'. run u st' m')) (fits_counted p left (λ k. and_then (walk_mark C.own go l p d b ms k) second) (then_do (caught run h.2 h.1 h.3.stack (run_callable run h.0 h.3 n)) (λ st' m'. run u st' m')) (λ k. both_ways (walk_mark C.own go l p d b ms k) (run_callable run h.0 h.3 n) (within_call run sparing.0 f h.0 h.3 n le) (sparing.1 h.0 h.3 n h.7.1) (mark_fits l h.0 h.5 p d b ms k h.3 n le h.7))))
+      where
+        last : AbstractStack → ℕ → Walked AbstractStack
+        last D j = living D j (λ b' ms' j'. go at d t b' ms' j')
+
+        joined : AbstractStack → AbstractStack → ℕ → Walked AbstractStack
+        joined A B k'' = and_then (join A B p k'') last
+
+        second : AbstractStack → ℕ → Walked AbstractStack
+        second A k' = and_then (walk_mark C.own go r p d b ns k') (joined A)
+
+        -- by how the first callable ended: where it failed, the list is the one from which both are walked, and nothing of its run is left but the world
+        both_ways : (W : Walked AbstractStack) (x : Result) → Within f x → Kept P x → Fits W x → Fits (and_then W second) (then_do (caught run h.2 h.1 h.3.stack x) (λ st' m'. run u st' m'))
+        both_ways (refused y q) x w v z = tt
+        both_ways (found A k') (Done st' m') w v z =
+            walk_then (walk_mark C.own go r p d b ns k') (joined A) (run u st' m') (λ B k''. join_left A B p k'' st' last (run u st' m') z (λ D j o''. plain_rest at d t u s D j st' m' w o''))
+        both_ways (found A k') (Failed e st' m') w v z =
+            let st2 = after_error h.3.stack (h.2 e st'.world) in
+            fits_then f (walk_mark C.own go r p d b ns k') (run_callable run h.1 st2 m') (joined A) (λ st3 m3. run u st3 m3) (within_call run sparing.0 f h.1 st2 m' w) (mark_fits r h.1 h.6 p d b ns k' st2 m' w (h.8 e st'.world v)) (λ B k'' st3 m3 le3 o3. join_right A B p k'' st3 last (run u st3 m3) o3 (λ D j o''. plain_rest at d t u s D j st3 m3 le3 o''))
+        both_ways (found A k') (Spent st' i) w v z = any_spent (second A k') st' i
+        both_ways (found A k') Stuck w v z = absurd z
     does_fits (again w b ms) a p d at left t u n le s h =
-        rw h.1 (fits_counted p left (λ k. and_then (go at d (then (word w) p end) b ms k) (λ A k'. living A k' (λ b' ms' k''. go at d t b' ms' k''))) (then_do (run (one_item (word w)) h.0 n) (λ st' m'. run u st' m')) (λ k. fits_then f (go at d (then (word w) p end) b ms k) (run (one_item (word w)) h.0 n) (λ A k'. living A k' (λ b' ms' k''. go at d t b' ms' k'')) (λ st' m'. run u st' m') (sparing f (one_item (word w)) h.0 n le) (phrases_fit at d (then (word w) p end) (one_item (word w)) b ms k h.0 n le (word w, nowhere, end, refl, refl, refl) h.2) (λ A k' st' m' le' o'. plain_rest at d t u s A k' st' m' le' o')))
+        rw h.1 (fits_counted p left (λ k. and_then (go at d (then (word w) p end) b ms k) (λ A k'. living A k' (λ b' ms' k''. go at d t b' ms' k''))) (then_do (run (one_item (word w)) h.0 n) (λ st' m'. run u st' m')) (λ k. fits_then f (go at d (then (word w) p end) b ms k) (run (one_item (word w)) h.0 n) (λ A k'. living A k' (λ b' ms' k''. go at d t b' ms' k'')) (λ st' m'. run u st' m') (sparing.0 f (one_item (word w)) h.0 n le) (phrases_fit at d (then (word w) p end) (one_item (word w)) b ms k h.0 n le (word w, nowhere, end, refl, refl, refl) h.2) (λ A k' st' m' le' o'. plain_rest at d t u s A k' st' m' le' o')))
     does_fits (uses e is b ms) a p d at left t u n le s h =
-        rw h.2 (fits_unless (use_rule C.own (row_binding (outer_in e) (on b ms)) (effect_inputs e) is d) p (counted p left (λ k. and_then (walk_use C.own go e is p d b ms k) (λ A k'. living A k' (λ b' ms' k''. go at d t b' ms' k'')))) (then_do (run_callable run h.0 h.1 n) (λ st' m'. run u st' m')) (fits_counted p left (λ k. and_then (walk_use C.own go e is p d b ms k) (λ A k'. living A k' (λ b' ms' k''. go at d t b' ms' k''))) (then_do (run_callable run h.0 h.1 n) (λ st' m'. run u st' m')) (λ k. fits_then f (walk_use C.own go e is p d b ms k) (run_callable run h.0 h.1 n) (λ A k'. living A k' (λ b' ms' k''. go at d t b' ms' k'')) (λ st' m'. run u st' m') (within_call run sparing f h.0 h.1 n le) (h.3 p d k n le) (λ A k' st' m' le' o'. plain_rest at d t u s A k' st' m' le' o'))))
+        rw h.2 (fits_unless (use_rule C.own (row_binding (outer_in e) (on b ms)) (effect_inputs e) is d) p (counted p left (λ k. and_then (walk_use C.own go e is p d b ms k) (λ A k'. living A k' (λ b' ms' k''. go at d t b' ms' k'')))) (then_do (run_callable run h.0 h.1 n) (λ st' m'. run u st' m')) (fits_counted p left (λ k. and_then (walk_use C.own go e is p d b ms k) (λ A k'. living A k' (λ b' ms' k''. go at d t b' ms' k''))) (then_do (run_callable run h.0 h.1 n) (λ st' m'. run u st' m')) (λ k. fits_then f (walk_use C.own go e is p d b ms k) (run_callable run h.0 h.1 n) (λ A k'. living A k' (λ b' ms' k''. go at d t b' ms' k'')) (λ st' m'. run u st' m') (within_call run sparing.0 f h.0 h.1 n le) (h.3 p d k n le) (λ A k' st' m' le' o'. plain_rest at d t u s A k' st' m' le' o'))))

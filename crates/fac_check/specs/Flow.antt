@@ -13,7 +13,7 @@ use Rattle.fac_lang.specs.declared.program.WordDef.{WordDef}
 use Rattle.fac_lang.specs.declared.program.Sort.{Sort}
 use Rattle.fac_lang.specs.declared.program.Sort.TheVariants.{Prim as prim, Core as core, Body as body, Past as past, Itself as itself, Class as class, Method as method}
 use Rattle.fac_lang.specs.declared.core_table.CoreWord.{CoreWord}
-use Rattle.fac_lang.specs.declared.core_table.CoreWord.TheVariants.{Call as c_call, Dip as c_dip, If as c_if, Execute as c_execute, Boa as c_boa, Cond as c_cond}
+use Rattle.fac_lang.specs.declared.core_table.CoreWord.TheVariants.{Call as c_call, Dip as c_dip, If as c_if, Execute as c_execute, Boa as c_boa, Recover as c_recover, Cond as c_cond}
 use Rattle.fac_lang.specs.Meaning.{sort_of, names}
 use Rattle.fac_abs.specs.RowVariables.{Row, effect_inputs, effect_leaving, outer_in, bindable, row_name, is_row}
 use Rattle.fac_abs.specs.Marks.{AbstractStack, dead, on, limited, is_callable, curried_mark, composed_mark, joined, unknowns, popped, piled}
@@ -49,8 +49,8 @@ pub data Doing : Type 0 where
   expands : ℕ → Phrase → Option Row → List Mark → Doing
   -- a callable to walk, and marks to put on the stack after it
   walks : Mark → Option Row → List Mark → List Mark → Doing
-  -- two callables to walk from one stack, and a join
-  forks : Mark → Mark → Option Row → List Mark → Doing
+  -- two callables to walk, each from marks of its own, and a join
+  forks : Mark → Mark → Option Row → List Mark → List Mark → Doing
   -- the item of a known word
   again : ℕ → Option Row → List Mark → Doing
   -- a use of a row word of this effect, on the marks of its inputs, the deepest first, and the rest
@@ -179,8 +179,8 @@ module _ (own : Option Signature) where
       unless_broken (phrase_rule d) p (counted p n (λ k. and_then (walk_phrase go (first_of_word w) u p d b ms k) (λ A k'. living A k' (λ b' ms' k''. go next d t b' ms' k''))))
   walk_on go (walks m b ms back) p d next t n =
       unless_broken (first_rule m d b ms) p (counted p n (λ k. and_then (walk_mark go m p d b ms k) (λ A k'. living (marks_back back A) k' (λ b' ms' k''. go next d t b' ms' k''))))
-  walk_on go (forks l r b ms) p d next t n =
-      unless_broken (first_rule l d b ms) p (counted p n (λ k. and_then (walk_mark go l p d b ms k) (λ A k'. and_then (walk_mark go r p d b ms k') (λ B k''. and_then (join A B p k'') (λ C j. living C j (λ b' ms' j'. go next d t b' ms' j'))))))
+  walk_on go (forks l r b ms ns) p d next t n =
+      unless_broken (first_rule l d b ms) p (counted p n (λ k. and_then (walk_mark go l p d b ms k) (λ A k'. and_then (walk_mark go r p d b ns k') (λ B k''. and_then (join A B p k'') (λ C j. living C j (λ b' ms' j'. go next d t b' ms' j'))))))
   walk_on go (again w b ms) p d next t n = counted p n (λ k. and_then (go next d (then (word w) p end) b ms k) (λ A k'. living A k' (λ b' ms' k''. go next d t b' ms' k'')))
   walk_on go (uses e is b ms) p d next t n =
       unless_broken (use_rule (row_binding (outer_in e) (on b ms)) (effect_inputs e) is d) p (counted p n (λ k. and_then (walk_use go e is p d b ms k) (λ A k'. living A k' (λ b' ms' k''. go next d t b' ms' k''))))
@@ -276,11 +276,14 @@ module _ (P : Program) where
   core_doing c_if b [] = breaks (Underflow 3 0)
   core_doing c_if b (r ∷ []) = breaks (Underflow 3 1)
   core_doing c_if b (r ∷ l ∷ []) = breaks (Underflow 3 2)
-  core_doing c_if b (r ∷ l ∷ x ∷ ms) = callable_or (is_callable l && is_callable r) NotKnown (forks l r b ms)
+  core_doing c_if b (r ∷ l ∷ x ∷ ms) = callable_or (is_callable l && is_callable r) NotKnown (forks l r b ms ms)
   core_doing c_execute b [] = breaks (Underflow 1 0)
   core_doing c_execute b (m ∷ ms) = known_word m (λ w. again w b ms)
   core_doing c_boa b [] = breaks (Underflow 1 0)
   core_doing c_boa b (m ∷ ms) = known_word m (λ w. makes_by ((names P).tuple_class w) b ms)
+  core_doing c_recover b [] = breaks (Underflow 2 0)
+  core_doing c_recover b (r ∷ []) = breaks (Underflow 2 1)
+  core_doing c_recover b (r ∷ l ∷ ms) = callable_or (is_callable l && is_callable r) NotKnown (forks l r b ms (any ∷ ms))
   core_doing c_cond b ms = breaks NotKnown
 
   -- All this is with the number of the word that is checked, where it is a row word.

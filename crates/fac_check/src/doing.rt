@@ -65,11 +65,12 @@ pub enum Transfer {
         word: u32,
         stack: u32,
     },
-    /// Two callables are to be walked from one stack, and joined.
+    /// Two callables are to be walked, each from a stack of its own, and joined.
     Forks {
         first: u32,
         second: u32,
         stack: u32,
+        from: u32,
     },
     /// The quotation inputs of a row word are to be walked, by the stack of the marks of all its inputs, the deepest on top, and the rest.
     Uses {
@@ -258,9 +259,37 @@ fn branch(marks: &Marks, stack: u32) -> Transfer
                 first,
                 second,
                 stack,
+                from: stack,
             }
         }
         None => underflow(marks, stack, 3),
+    }
+}
+
+// `recover`
+fn recover(marks: &mut Marks, stack: u32) -> Result<Transfer, Memory>
+    requires { IsStack marks.old stack }
+    ensures grows { Grows marks.old marks.new }
+    ensures there { IfOk result (λ doing. IsDoing marks.new doing) }
+    ensures does { IfOk result (λ doing. (P : ProgramSeen) → DoesAs marks.old marks.new stack doing (core_doing P CoreWord.Recover)) }
+{
+    match pop_two(marks, stack) {
+        Some((first, second, stack)) => {
+            if !marks.is_callable(first) {
+                return Ok(Transfer::Breaks(Rule::NotKnown));
+            }
+            if !marks.is_callable(second) {
+                return Ok(Transfer::Breaks(Rule::NotKnown));
+            }
+            let from = marks.unknowns(stack, 1)?;
+            Ok(Transfer::Forks {
+                first,
+                second,
+                stack,
+                from,
+            })
+        }
+        None => Ok(underflow(marks, stack, 2)),
     }
 }
 
@@ -393,6 +422,7 @@ fn core(closed: &Closed, marks: &mut Marks, stack: u32, word: CoreWord) -> Resul
         CoreWord::If => Ok(branch(marks, stack)),
         CoreWord::Execute => Ok(execute(marks, stack)),
         CoreWord::Boa => boa(closed, marks, stack),
+        CoreWord::Recover => recover(marks, stack),
         CoreWord::Cond => Ok(Transfer::Breaks(Rule::NotKnown)),
     }
 }

@@ -680,22 +680,33 @@ impl<'a> Walker<'a> {
         }
     }
 
-    // Walks both callables of an `if` from one stack, and joins what they leave.
+    // Walks two callables, the second from a stack of its own, and joins what they leave.
     #[cycle(walk)]
-    fn walk_fork(&mut self, first: u32, second: u32, step: Step) -> Result<Walked, Memory>
+    fn walk_fork(
+        &mut self,
+        first: u32,
+        second: u32,
+        from: u32,
+        step: Step,
+    ) -> Result<Walked, Memory>
         requires first { IsMark self.old.marks first }
         requires second { IsMark self.old.marks second }
+        requires from { IsStack self.old.marks from }
         requires stack { IsStack self.old.marks step.stack }
         ensures subject { self.new.subject ≡ self.old.subject }
         ensures grows { Grows self.old.marks self.new.marks }
         ensures there { IfOk result (λ walked. IsWalked self.new.marks walked) }
         ensures within { IfOk result (λ walked. IsWithin step.left walked) }
-        ensures walks { IfOk result (λ walked. IsWalkOf self.old.subject self.new.marks step walked (fork_walk self.old.marks step first second)) }
+        ensures walks { IfOk result (λ walked. IsWalkOf self.old.subject self.new.marks step walked (fork_walk self.old.marks step first second from)) }
     {
         match self.walk_mark(first, step)? {
             Walked::Refused(broken) => Ok(Walked::Refused(broken)),
             Walked::Found(upper, rest) => {
-                let next = Step { left: rest, ..step };
+                let next = Step {
+                    stack: from,
+                    left: rest,
+                    ..step
+                };
                 match self.walk_mark(second, next)? {
                     Walked::Refused(broken) => Ok(Walked::Refused(broken)),
                     Walked::Found(lower, rest) => {
@@ -903,6 +914,7 @@ impl<'a> Walker<'a> {
                 first,
                 second: _,
                 stack,
+                from: _,
             } => self.first_rule(first, Step { stack, ..step }),
             Transfer::Uses { word, inputs, rest } => self.use_rule(
                 word,
@@ -950,7 +962,8 @@ impl<'a> Walker<'a> {
                 first,
                 second,
                 stack,
-            } => self.walk_fork(first, second, Step { stack, ..step }),
+                from,
+            } => self.walk_fork(first, second, from, Step { stack, ..step }),
             Transfer::Uses { word, inputs, rest } => self.walk_use(
                 word,
                 inputs,

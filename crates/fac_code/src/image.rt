@@ -123,6 +123,15 @@ pub enum Instr {
     Put(u32),
     /// Takes a value and pushes whether its kind is in the class set with this number, at a tick.
     Isa(u32),
+    /// Takes two callables, leaves a guard with the upper one and the stacks as they are then, and enters the lower one, at a tick. At a run
+    /// error what stands above the guard among the return entries is gone, both stacks are again what the guard has, and the upper callable is
+    /// entered with what the error comes to.
+    Recover {
+        /// The kind of the tuples that errors come to.
+        kind: u32,
+        /// As that of `Callw`.
+        tail: bool,
+    },
 }
 
 /// What a word does.
@@ -130,7 +139,7 @@ pub enum Instr {
 pub enum Action {
     /// The primitive of this number.
     Prim(u32),
-    /// A core word, but not `cond`.
+    /// A core word, but neither `recover` nor `cond`.
     Core(CoreWord),
     /// The code at this place.
     Code(u32),
@@ -146,6 +155,8 @@ pub enum Action {
     Put(u32),
     /// Gives whether a value's kind is in the class set with this number.
     Isa(u32),
+    /// `recover`, where errors come to tuples of this kind.
+    Recover(u32),
 }
 
 /// A word of an image.

@@ -7,7 +7,7 @@ use crate::Instr;
 use fac_base::Height;
 
 /// How many instructions there are. Their codes are the numbers below.
-pub const INSTR_COUNT: u32 = 34;
+pub const INSTR_COUNT: u32 = 35;
 
 /// What the number of an instruction is the number of.
 #[derive(Clone, Copy, PartialEq, Eq)]
@@ -30,6 +30,8 @@ pub enum Referent {
     Primitive,
     /// A class set.
     Set,
+    /// A kind of tuples with as many slots as those have that errors come to.
+    Faults,
     /// A generic.
     Generic,
     /// A method, by its own number.
@@ -183,6 +185,7 @@ impl Instr {
             Instr::Set(slot) => row_with(31, "set", 1, Operand::Number(Referent::Text, slot), None),
             Instr::Put(slot) => row_with(32, "put", 1, Operand::Number(Referent::Text, slot), None),
             Instr::Isa(set) => row_with(33, "isa", 1, Operand::Number(Referent::Set, set), None),
+            Instr::Recover { kind, tail } => row_with(34, "recover", 1, Operand::Number(Referent::Faults, kind), Some(tail)),
         }
     }
 
@@ -244,7 +247,11 @@ impl Instr {
             30 => Instr::Get(operand.number()),
             31 => Instr::Set(operand.number()),
             32 => Instr::Put(operand.number()),
-            _ => Instr::Isa(operand.number()),
+            33 => Instr::Isa(operand.number()),
+            _ => Instr::Recover {
+                kind: operand.number(),
+                tail,
+            },
         }
     }
 }

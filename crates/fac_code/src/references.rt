@@ -1,8 +1,8 @@
 //! Whether the numbers in tables and code name something.
-ghost use Rattle.std.specs.Prelude.{◌≡◌, ◌&&◌, length, nat_le, nat_lt, slice_get};
+ghost use Rattle.std.specs.Prelude.{◌≡◌, ◌&&◌, length, nat_le, nat_lt, slice_get, Some};
 ghost use Rattle.std.specs.List.{list_all};
 ghost use Rattle.fac_code.specs.Code.{is_built_instr, has_built_code};
-ghost use Rattle.fac_code.specs.References.{is_code as does_code, names_code, names_quotation, names_constant, number_refers, instr_refers, number_places, place_refers, places_refer, elem_refers, arrays_refer, action_refers};
+ghost use Rattle.fac_code.specs.References.{is_code as does_code, names_code, names_quotation, names_constant, names_faults, is_fault_row, number_refers, instr_refers, number_places, place_refers, places_refer, elem_refers, arrays_refer, action_refers};
 ghost use Rattle.fac_code.specs.References.{word_refers, template_refers, texts_refer, slots_refer, kind_refers, is_kind, set_refers, method_refers, generic_refers, pairs_refer, tables_refer, refers as all_refer};
 ghost use Rattle.fac_code.specs.inner.MethodNumbers.{AreNumbersOf};
 
@@ -27,7 +27,8 @@ fn is_code(action: Action) -> bool
         | Action::Get(_)
         | Action::Set(_)
         | Action::Put(_)
-        | Action::Isa(_) => false,
+        | Action::Isa(_)
+        | Action::Recover(_) => false,
     }
 }
 
@@ -57,6 +58,32 @@ fn is_constant(tables: &Tables, template: u32) -> bool
 {
     match tables.templates.get(template as usize) {
         Some(row) => row.cells.len() == 0 && row.holes == 0,
+        None => false,
+    }
+}
+
+// How many slots the tuples have that errors come to.
+const FAULT_SLOTS: u32 = 3;
+
+// Whether a kind is one of tuples with as many slots.
+fn is_of_faults(row: &KindRow) -> bool
+    ensures { result ≡ is_fault_row (Some row.now) }
+{
+    match &row.slots {
+        Some(slots) => slots.len() == FAULT_SLOTS,
+        None => false,
+    }
+}
+
+// Whether this is the number of such a kind.
+fn are_faults(tables: &Tables, kind: u32) -> bool
+    ensures { result ≡ names_faults tables.now.kinds kind }
+{
+    if kind < 8 {
+        return false;
+    }
+    match tables.kinds.get(kind as usize - 8) {
+        Some(row) => is_of_faults(row),
         None => false,
     }
 }
@@ -113,6 +140,7 @@ fn refers_number(tables: &Tables, numbers: &MethodNumbers, referent: Referent, n
         Referent::Array => number < tables.arrays.len(),
         Referent::Word => number < tables.words.len(),
         Referent::Set => number < tables.sets.len(),
+        Referent::Faults => are_faults(tables, number),
         Referent::Generic => number < tables.generics.len(),
         Referent::Method => numbers.has(tables.generics.as_slice(), number),
         Referent::Count | Referent::Primitive | Referent::Place | Referent::Farther => true,
@@ -144,6 +172,7 @@ fn places_number(size: usize, at: usize, referent: Referent, number: u32) -> boo
         | Referent::Array
         | Referent::Word
         | Referent::Set
+        | Referent::Faults
         | Referent::Generic
         | Referent::Method
         | Referent::Count
@@ -167,7 +196,7 @@ fn refers_action(tables: &Tables, size: usize, action: Action) -> bool
 {
     match action {
         Action::Prim(number) => is_primitive(number),
-        Action::Core(CoreWord::Cond) => false,
+        Action::Core(CoreWord::Recover | CoreWord::Cond) => false,
         Action::Core(_) => true,
         Action::Code(place) => (place as usize) < size,
         Action::Itself => true,
@@ -176,6 +205,7 @@ fn refers_action(tables: &Tables, size: usize, action: Action) -> bool
             number < tables.texts.len()
         }
         Action::Isa(set) => set < tables.sets.len(),
+        Action::Recover(kind) => are_faults(tables, kind),
     }
 }
 

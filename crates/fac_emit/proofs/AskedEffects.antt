@@ -8,7 +8,7 @@ use Rattle.fac_lang.specs.declared.phrase.Template.{Template}
 use Rattle.fac_lang.specs.declared.program.WordDef.{WordDef}
 use Rattle.fac_lang.specs.declared.program.Sort.{Sort}
 use Rattle.fac_lang.specs.declared.core_table.CoreWord.{CoreWord}
-use Rattle.fac_lang.specs.declared.core_table.CoreWord.TheVariants.{Call as c_call, Dip as c_dip, If as c_if, Execute as c_execute, Boa as c_boa, Cond as c_cond}
+use Rattle.fac_lang.specs.declared.core_table.CoreWord.TheVariants.{Call as c_call, Dip as c_dip, If as c_if, Execute as c_execute, Boa as c_boa, Recover as c_recover, Cond as c_cond}
 use Rattle.fac_lang.specs.declared.program.Sort.TheVariants.{Core as core, Body as body, Method as method}
 use Rattle.fac_lang.specs.Phrases.{int, yes, no, str, wrd, Phrase, end, then, Item, lit, lit_arr, word, made}
 use Rattle.fac_locals.specs.declared.closing.Closed.{Closed}
@@ -35,6 +35,7 @@ core_tests c_dip = refl
 core_tests c_if = refl
 core_tests c_execute = refl
 core_tests c_boa = refl
+core_tests c_recover = refl
 core_tests c_cond = refl
 
 made_tests : (q : ℕ) (o : Option Template) → tests (made_instr q o) ≡ false

@@ -8,7 +8,7 @@ use Rattle.fac_lang.specs.declared.program.Program.{Program}
 use Rattle.fac_lang.specs.declared.program.WordDef.{WordDef}
 use Rattle.fac_lang.specs.declared.program.Sort.{Sort}
 use Rattle.fac_lang.specs.declared.core_table.CoreWord.{CoreWord}
-use Rattle.fac_lang.specs.declared.core_table.CoreWord.TheVariants.{Call as c_call, Dip as c_dip, If as c_if, Execute as c_execute, Boa as c_boa, Cond as c_cond}
+use Rattle.fac_lang.specs.declared.core_table.CoreWord.TheVariants.{Call as c_call, Dip as c_dip, If as c_if, Execute as c_execute, Boa as c_boa, Recover as c_recover, Cond as c_cond}
 use Rattle.fac_lang.specs.declared.program.Sort.TheVariants.{Prim as prim, Core as core, Body as body, Method as method}
 use Rattle.fac_lang.specs.Phrases.{int, yes, no, str, wrd, Phrase, end, then, Item, lit, lit_arr, word, made}
 use Rattle.fac_lang.proofs.SourcePrograms.{IsSessionProgram, IsSortOf, AreWordsOf, may_name}
@@ -87,6 +87,7 @@ core_plain c_dip = refl
 core_plain c_if = refl
 core_plain c_execute = refl
 core_plain c_boa = refl
+core_plain c_recover = refl
 core_plain c_cond = refl
 
 tailed_plain : (i : Instr) → is_plain (tailed i) ≡ is_plain i

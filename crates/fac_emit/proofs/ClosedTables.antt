@@ -11,7 +11,7 @@ use Rattle.fac_lang.specs.declared.program.Sort.TheVariants.{Prim as prim, Core 
 use Rattle.fac_lang.specs.declared.program.WordDef.{WordDef}
 use Rattle.fac_lang.specs.Classes.{shape_at, is_tuple}
 use Rattle.fac_lang.specs.Meaning.{sort_of}
-use Rattle.fac_lang.specs.Whole.{IsWhole, no_two, each_below, is_class, is_generic, sort_fits, shape_fits, reaches, same_method}
+use Rattle.fac_lang.specs.Whole.{IsWhole, core_fits, no_two, each_below, is_class, is_generic, sort_fits, shape_fits, reaches, same_method}
 use Rattle.fac_locals.specs.Closed.{Closes}
 use Rattle.fac_locals.specs.declared.closing.Closed.{Closed}
 use Rattle.fac_classes.specs.ClassKinds.{CanBeBuilt}
@@ -69,7 +69,7 @@ module _ (P : Program) (C : Closed) (closes : Closes P C.program C.templates) wh
 
   own_fits : (s : Sort) → sort_fits C.program s ≡ sort_fits P s
   own_fits (prim k) = refl
-  own_fits (core k) = refl
+  own_fits (core k) = ap (λ (cs : List ClassDef). core_fits cs k) closes.classes
   own_fits (body t) = refl
   own_fits (past t) = refl
   own_fits itself = refl

@@ -7,20 +7,22 @@ use Rattle.std.specs.List.{list_all}
 use Rattle.fac_lang.specs.declared.program.Program.{Program}
 use Rattle.fac_lang.specs.declared.program.WordDef.{WordDef}
 use Rattle.fac_lang.specs.declared.program.Sort.{Sort}
-use Rattle.fac_lang.specs.declared.program.Sort.TheVariants.{Prim as prim_sort, Body as body, Past as past, Isa as isa, Method as method}
+use Rattle.fac_lang.specs.declared.program.Sort.TheVariants.{Prim as prim_sort, Core as core_sort, Body as body, Past as past, Isa as isa, Method as method}
 use Rattle.fac_lang.specs.Phrases.{Phrase, end, then}
 use Rattle.fac_lang.specs.Substitution.{of_method}
 use Rattle.fac_lang.proofs.SourcePrograms.{IsSessionProgram, IsSortOf, AreWordsOf, may_name}
-use Rattle.fac_lang.specs.Whole.{sort_fits}
+use Rattle.fac_lang.specs.declared.program.ClassDef.{ClassDef}
+use Rattle.fac_lang.specs.Whole.{core_fits, has_faults, sort_fits}
 use Rattle.fac_lang.specs.declared.core_table.CoreWord.{CoreWord}
-use Rattle.fac_lang.specs.declared.core_table.CoreWord.TheVariants.{Call as c_call, Dip as c_dip, If as c_if, Execute as c_execute, Boa as c_boa, Cond as c_cond}
+use Rattle.fac_lang.specs.declared.core_table.CoreWord.TheVariants.{Call as c_call, Dip as c_dip, If as c_if, Execute as c_execute, Boa as c_boa, Recover as c_recover, Cond as c_cond}
 use Rattle.fac_lang.specs.Primitives.{is_built_primitive}
+use Rattle.fac_lang.specs.Faults.{fault_kind}
 use Rattle.fac_locals.specs.Literals.{first_of_word}
 use Rattle.fac_locals.specs.Closed.{ClosesSort}
 use Rattle.fac_locals.specs.declared.closing.Closed.{Closed}
 use Rattle.fac_code.specs.declared.image.Instr.{Instr}
 use Rattle.fac_code.specs.declared.image.Tables.{Tables}
-use Rattle.fac_code.specs.References.{instr_refers}
+use Rattle.fac_code.specs.References.{instr_refers, names_faults}
 use Rattle.fac_emit.specs.ProgramCode.{core_instr, item_instr, before, phrase_code, last_instr}
 use Rattle.fac_emit.proofs.BuiltCode.{and_true}
 use Rattle.fac_emit.proofs.Closings.{Closing, closing}
@@ -65,13 +67,15 @@ begins_within code C last t at more e =
 never_true : {A : Type 0} → false ≡ true → A
 never_true h = absurd (true≢false (sym h))
 
-pub core_refers : (T : Tables) (c : CoreWord) → instr_refers T (core_instr c) ≡ true
-core_refers T c_call = refl
-core_refers T c_dip = refl
-core_refers T c_if = refl
-core_refers T c_execute = refl
-core_refers T c_boa = refl
-core_refers T c_cond = refl
+-- `recover` refers to the kind of the errors that it catches, where their class is there
+pub core_refers : (T : Tables) (cs : List ClassDef) → (has_faults cs ≡ true → names_faults T.kinds fault_kind ≡ true) → (c : CoreWord) → core_fits cs c ≡ true → instr_refers T (core_instr c) ≡ true
+core_refers T cs faults c_call fits = refl
+core_refers T cs faults c_dip fits = refl
+core_refers T cs faults c_if fits = refl
+core_refers T cs faults c_execute fits = refl
+core_refers T cs faults c_boa fits = refl
+core_refers T cs faults c_recover fits = faults fits
+core_refers T cs faults c_cond fits = refl
 
 pub last_refers : (T : Tables) (is_top : Bool) → instr_refers T (last_instr is_top) ≡ true
 last_refers T true = refl
@@ -110,6 +114,7 @@ module _ (P : Program) where
   ClosedAs w (prim_sort k) = is_built_primitive k ≡ true
   ClosedAs w (body c) = RunsIn w c
   ClosedAs w (method n g c) = RunsIn w c
+  ClosedAs w (core_sort k) = core_fits P.classes k ≡ true
   ClosedAs w (isa n) = nat_lt n (length P.classes) ≡ true
   ClosedAs w _ = Unit {0}
 
@@ -118,5 +123,6 @@ module _ (P : Program) where
   closed_as w (body t) c h d r lt n f = rw h.1 (record { phrase = t; closes = closing P [] (first_of_word w) t h.0 h.2 r; below = lt; names = n })
   closed_as w (past t) c h d r lt n f = rw h.1 tt
   closed_as w (method k g t) c h d r lt n f = rw h.1 (record { phrase = of_method w t; closes = closing P [] (first_of_word w) (of_method w t) h.0 h.2 r; below = lt; names = n })
+  closed_as w (core_sort k) c h d r lt n f = rw h f
   closed_as w (isa k) c h d r lt n f = rw h f
   closed_as w s c h d r lt n f = rw h tt

@@ -10,7 +10,7 @@ use Rattle.fac_lang.specs.declared.program.Sort.{Sort}
 use Rattle.fac_lang.specs.declared.program.Sort.TheVariants.{Prim as prim, Core as core, Getter as getter, Setter as setter, Putter as putter}
 use Rattle.fac_lang.specs.Whole.{no_two, same_word}
 use Rattle.fac_lang.specs.declared.core_table.CoreWord.{CoreWord}
-use Rattle.fac_lang.specs.declared.core_table.CoreWord.TheVariants.{Cond}
+use Rattle.fac_lang.specs.declared.core_table.CoreWord.TheVariants.{Cond, Recover}
 use Rattle.fac_locals.specs.declared.closing.Closed.{Closed}
 use Rattle.fac_code.specs.declared.image.Action.{Action}
 use Rattle.fac_code.specs.declared.image.Action.TheVariants as action
@@ -126,6 +126,7 @@ module _ (C : Closed) where
     where
       core_other : (c : CoreWord) → same_action (action.Prim k) (core_action c) ≡ false
       core_other Cond = refl
+      core_other Recover = refl
       core_other _ = refl
   prim_other v at k _ h = refl
 
@@ -148,10 +149,13 @@ module _ (C : Closed) where
 
   core_row : (x : Accessor) (u : List ℕ) (c : CoreWord) → same_action (accessor_action x (text_number C u)) (core_action c) ≡ false
   core_row getting u Cond = refl
+  core_row getting u Recover = refl
   core_row getting u _ = refl
   core_row setting u Cond = refl
+  core_row setting u Recover = refl
   core_row setting u _ = refl
   core_row putting u Cond = refl
+  core_row putting u Recover = refl
   core_row putting u _ = refl
 
   accessor_other : (x : Accessor) (u : List ℕ) (v at : ℕ) (s : Sort) → IsAmong (program_texts C) u → Named s → same_sort s (accessor_sort x u) ≡ false → same_action (accessor_action x (text_number C u)) (sort_action C v at s) ≡ false

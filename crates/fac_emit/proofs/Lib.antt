@@ -4,6 +4,7 @@ pub mod Closings
 pub mod TextLemmas
 pub mod ClassSets
 pub mod TableNumbers
+pub mod FaultKinds
 pub mod FirstWords
 pub mod LiteralWords
 pub mod Placed

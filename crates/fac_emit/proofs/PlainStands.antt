@@ -14,9 +14,10 @@ use Rattle.fac_lang.specs.Substitution.{put_local, put_holes}
 use Rattle.fac_lang.proofs.SourcePrograms.{IsSessionProgram, IsSortOf, may_name}
 use Rattle.fac_lang.specs.Whole.{IsWhole}
 use Rattle.fac_lang.specs.declared.core_table.CoreWord.{CoreWord}
-use Rattle.fac_lang.specs.declared.core_table.CoreWord.TheVariants.{Call as c_call, Dip as c_dip, If as c_if, Execute as c_execute, Boa as c_boa, Cond as c_cond}
+use Rattle.fac_lang.specs.declared.core_table.CoreWord.TheVariants.{Call as c_call, Dip as c_dip, If as c_if, Execute as c_execute, Boa as c_boa, Recover as c_recover, Cond as c_cond}
 use Rattle.fac_lang.specs.Classes.{next}
 use Rattle.fac_lang.specs.Meaning.{sort_of, is_past, is_top_phrase, sort_phrase, word_phrase, generic_of, sort_act}
+use Rattle.fac_lang.specs.Faults.{fault_kind}
 use Rattle.fac_lang.proofs.FormsLemmas.{sort_at}
 use Rattle.fac_lang.proofs.SessionWords.{word_below, top_word, may_name_before, may_name_no_phrase, no_past}
 use Rattle.fac_locals.specs.Cells.{inner_cells}
@@ -28,7 +29,7 @@ use Rattle.fac_locals.specs.OpenedPrograms.{OpensSort, OpensProgram}
 use Rattle.fac_locals.proofs.OpeningLaws.{programs_open}
 use Rattle.fac_locals.proofs.Lookups.{word_closed, template_closed}
 use Rattle.fac_code.specs.declared.image.Instr.{Instr}
-use Rattle.fac_code.specs.declared.image.Instr.TheVariants.{Halt, Quot, Bind, Local, Callw, Call, If, Execute, CallEffect, ExecuteEffect, Ret, Boa, Generic, Next}
+use Rattle.fac_code.specs.declared.image.Instr.TheVariants.{Halt, Quot, Bind, Local, Callw, Call, If, Execute, Recover, CallEffect, ExecuteEffect, Ret, Boa, Generic, Next}
 use Rattle.fac_code.specs.declared.image.Action.TheVariants as action
 use Rattle.fac_code.specs.declared.image.GenericRow.{GenericRow}
 use Rattle.fac_code.specs.declared.image.Image.{Image}
@@ -42,7 +43,7 @@ use Rattle.fac_machine.specs.Machine.{method_after, method_place}
 use Rattle.fac_emit.specs.ProgramTexts.{own_texts, own_item_texts, program_texts, text_number}
 use Rattle.fac_emit.specs.ProgramTables.{generic_number, method_row}
 use Rattle.fac_emit.specs.ProgramCode.{core_instr, core_action, sort_instr, made_instr, item_instr, tailed, before, phrase_code, last_instr, sort_action, sort_code, word_row, code_place, program_words, program_generics, IsPlain}
-use Rattle.fac_carry.specs.Stands.{RunsPhrase, making, SameMethod, l_word, l_call, l_if, l_execute, l_call_effect, l_execute_effect, l_generic, l_next, Acting, a_itself, a_prim, a_accessor, a_isa, a_core, a_stuck, a_code, a_generic, HasAction, Translates, t_int, t_true, t_false, t_text, t_array, t_reference, t_symbol, t_held, t_quot, t_fry, t_prim, t_accessor, t_isa, t_dip, t_boa, t_stuck, t_calling, Stands, s_end, s_item, s_tail, s_bind, Coded, PlainCode}
+use Rattle.fac_carry.specs.Stands.{RunsPhrase, making, SameMethod, l_word, l_call, l_if, l_recover, l_execute, l_call_effect, l_execute_effect, l_generic, l_next, Acting, a_itself, a_prim, a_accessor, a_isa, a_recover, a_core, a_stuck, a_code, a_generic, HasAction, Translates, t_int, t_true, t_false, t_text, t_array, t_reference, t_symbol, t_held, t_quot, t_fry, t_prim, t_accessor, t_isa, t_dip, t_boa, t_stuck, t_calling, Stands, s_end, s_item, s_tail, s_bind, Coded, PlainCode}
 use Rattle.fac_emit.proofs.Closings.{alike, closing, closed_runs, IsClosedItem, AreClosedItems}
 use Rattle.fac_carry.proofs.HeldFrames.{helds, helds_put, helds_count, helds_more, held_at, captured_values, kept_list_view}
 use Rattle.fac_emit.proofs.FirstWords.{Named, named_alike, accessor_slot, word_slot, DoAsSorts, first_prim, first_accessor}
@@ -86,6 +87,7 @@ module _ (P : Program) (C : Closed) (heights : List (Option Height)) (M : Image)
   core_does F w c_if e = t_calling (l_if w e)
   core_does F w c_execute e = t_calling (l_execute w e)
   core_does F w c_boa e = t_boa w e
+  core_does F w c_recover e = t_calling (l_recover w e)
   core_does F w c_cond e = t_stuck (λ fits callable_height st. ap (λ (o : Option Sort). sort_act P w o st) e)
 
   slot_of : (x : Accessor) (w : ℕ) (s : List ℕ) (d : WordDef) → slice_get P.words w ≡ Some d → d.sort ≡ accessor_sort x s → slice_get M.texts (text_number C s) ≡ Some s
@@ -129,11 +131,12 @@ module _ (P : Program) (C : Closed) (heights : List (Option Height)) (M : Image)
   accessor_acts x w s d at is = a_accessor x (text_number C s) s (sort_at P w d at ∙ ap Some is) (slot_of x w s d at is) (first_accessor C P M.words whole.words_differ does present slots x s w d at is)
 
   core_acts : (w : ℕ) (c : CoreWord) → sort_of P w ≡ Some (core_sort c) → Acting P M w (core_action c)
-  core_acts w c_call e = a_core c_call e
-  core_acts w c_dip e = a_core c_dip e
-  core_acts w c_if e = a_core c_if e
-  core_acts w c_execute e = a_core c_execute e
-  core_acts w c_boa e = a_core c_boa e
+  core_acts w c_call e = a_core c_call refl e
+  core_acts w c_dip e = a_core c_dip refl e
+  core_acts w c_if e = a_core c_if refl e
+  core_acts w c_execute e = a_core c_execute refl e
+  core_acts w c_boa e = a_core c_boa refl e
+  core_acts w c_recover e = a_recover e
   core_acts w c_cond e = a_stuck action.Itself (λ fits callable_height st. ap (λ (o : Option Sort). sort_act P w o st) e)
 
   phrase_acts : (w : ℕ) (d : WordDef) → w < P.top → (e : slice_get P.words w ≡ Some d) → RunsPhrase (Some d.sort) → Acting P M w (action.Code (put w d e).place)
@@ -239,6 +242,7 @@ module _ (P : Program) (C : Closed) (heights : List (Option Height)) (M : Image)
   tail_does F i x p pc e (t_calling (l_word w a h)) rest = s_tail (Callw w true) refl e (l_word w a h)
   tail_does F i x p pc e (t_calling (l_call w is)) rest = s_tail (Call true) refl e (l_call w is)
   tail_does F i x p pc e (t_calling (l_if w is)) rest = s_tail (If true) refl e (l_if w is)
+  tail_does F i x p pc e (t_calling (l_recover w is)) rest = s_tail (Recover fault_kind true) refl e (l_recover w is)
   tail_does F i x p pc e (t_calling (l_execute w is)) rest = s_tail (Execute true) refl e (l_execute w is)
   tail_does F i x p pc e (t_calling (l_call_effect h)) rest = s_tail (CallEffect h true) refl e (l_call_effect h)
   tail_does F i x p pc e (t_calling (l_execute_effect h)) rest = s_tail (ExecuteEffect h true) refl e (l_execute_effect h)

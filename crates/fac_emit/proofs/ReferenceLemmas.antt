@@ -9,16 +9,18 @@ use Rattle.fac_base.specs.declared.height.Height.{Height}
 use Rattle.fac_lang.specs.declared.phrase.Template.{Template}
 use Rattle.fac_lang.specs.declared.program.Lit.{Lit}
 use Rattle.fac_lang.specs.declared.program.Lit.TheVariants.{Int as l_int, True as l_yes, False as l_no, Str as l_str, Arr as l_arr, Wref as l_word, Quot as l_quot, Made as l_made}
+use Rattle.fac_lang.specs.declared.program.ClassDef.{ClassDef}
 use Rattle.fac_lang.specs.declared.program.Program.{Program}
 use Rattle.fac_lang.specs.declared.program.WordDef.{WordDef}
 use Rattle.fac_lang.specs.declared.program.Sort.{Sort}
 use Rattle.fac_lang.specs.declared.core_table.CoreWord.{CoreWord}
-use Rattle.fac_lang.specs.declared.core_table.CoreWord.TheVariants.{Call as c_call, Dip as c_dip, If as c_if, Execute as c_execute, Boa as c_boa, Cond as c_cond}
+use Rattle.fac_lang.specs.declared.core_table.CoreWord.TheVariants.{Call as c_call, Dip as c_dip, If as c_if, Execute as c_execute, Boa as c_boa, Recover as c_recover, Cond as c_cond}
 use Rattle.fac_lang.specs.declared.program.Sort.TheVariants.{Prim as prim_sort, Core as core_sort, Body as body, Past as past, Itself as itself, Class as class, Isa as isa, Getter as getter, Setter as setter, Putter as putter, Generic as generic, Method as method}
 use Rattle.fac_lang.specs.Phrases.{Literal, Phrase, quot, fry}
 use Rattle.fac_lang.proofs.SourcePrograms.{IsSessionProgram, IsElementOf, AreElementsOf, AreArraysOf, may_name}
 use Rattle.fac_lang.specs.Meaning.{sort_of, generic_of, array_method}
-use Rattle.fac_lang.specs.Whole.{IsWhole, sort_fits, names_earlier, each_numbered, arrays_in, arrays_named}
+use Rattle.fac_lang.specs.Faults.{fault_kind}
+use Rattle.fac_lang.specs.Whole.{IsWhole, core_fits, has_faults, sort_fits, names_earlier, each_numbered, arrays_in, arrays_named}
 use Rattle.fac_locals.specs.declared.cell.Cell.{Cell}
 use Rattle.fac_locals.specs.Cells.{inner_cells, hole_count}
 use Rattle.fac_locals.specs.Literals.{Quoted, quoted_phrase, behind, first_of_word, first_of_literal, first_in_array, element_item, literal_numbered}
@@ -35,7 +37,7 @@ use Rattle.fac_code.specs.declared.image.MethodRow.{MethodRow}
 use Rattle.fac_code.specs.declared.image.Tables.{Tables}
 use Rattle.fac_code.specs.declared.image.TemplateRow.{TemplateRow}
 use Rattle.fac_code.specs.declared.image.WordRow.{WordRow}
-use Rattle.fac_code.specs.References.{is_code, names_code, has_method, names_method, names_constant, elem_refers, arrays_refer, instr_refers, places_refer, pairs_refer, action_refers, word_refers, template_refers, kind_refers, set_refers, method_refers, generic_refers, tables_refer, refers}
+use Rattle.fac_code.specs.References.{is_code, names_faults, names_code, has_method, names_method, names_constant, elem_refers, arrays_refer, instr_refers, places_refer, pairs_refer, action_refers, word_refers, template_refers, kind_refers, set_refers, method_refers, generic_refers, tables_refer, refers}
 use Rattle.fac_generic.specs.Methods.{methods_in_order}
 use Rattle.fac_emit.specs.ProgramTexts.{own_texts, own_elements_texts, sort_texts, arrays_texts, program_texts, text_number}
 use Rattle.fac_emit.specs.ProgramTables.{generic_number, method_row, generics_from}
@@ -55,6 +57,7 @@ use Rattle.fac_emit.proofs.LiteralWords.{is_listed_in_array}
 use Rattle.fac_locals.proofs.RunningPhrases.{IsMethod, word_runs, literal_runs}
 use Rattle.fac_emit.proofs.TextLemmas.{AreAmong, both_among, first_element, text_below, word_named, template_named, all_arrays_named, body_among}
 use Rattle.fac_emit.proofs.TableNumbers.{order_same}
+use Rattle.fac_emit.proofs.FaultKinds.{faults_there}
 use Rattle.fac_emit.proofs.TableReferences.{sets_many, kinds_refer, sets_refer, pairs_refer_so}
 use Rattle.fac_emit.proofs.ClosedWords.{found_within, both_pass, first_true, one_passes, begins_within, core_refers, last_refers, word_doable, ClosedAs, closed_as}
 
@@ -64,6 +67,9 @@ module _ (P : Program) (C : Closed) (heights : List (Option Height)) (built : Is
 
   abbrev T : Tables
   T = program_tables C heights
+
+  faults : has_faults P.classes ≡ true → names_faults T.kinds fault_kind ≡ true
+  faults h = faults_there C (subst (λ (cs : List ClassDef). has_faults cs ≡ true) (sym closes.classes) h)
 
   closed_many : (a : ℕ) (lss cs : List (List Lit)) → CloseArrays P a lss cs → length cs ≡ length lss
   closed_many a [] cs h = ap length h
@@ -101,7 +107,7 @@ module _ (P : Program) (C : Closed) (heights : List (Option Height)) (built : Is
 
   sort_refers : (w : ℕ) (c : WordDef) (s : Sort) → slice_get C.program.words w ≡ Some c → c.sort ≡ s → ClosedAs P w s → Named (sort_texts C s) → instr_refers T (sort_instr C w s) ≡ true
   sort_refers w c (prim_sort k) e is h n = refl
-  sort_refers w c (core_sort k) e is h n = core_refers T k
+  sort_refers w c (core_sort k) e is h n = core_refers T P.classes faults k h
   sort_refers w c (body t) e is h n = code_named w c (body t) e is (λ at. refl)
   sort_refers w c (past t) e is h n = refl
   sort_refers w c (method m g t) e is h n = code_named w c (method m g t) e is (λ at. refl)
@@ -208,17 +214,18 @@ module _ (P : Program) (C : Closed) (heights : List (Option Height)) (built : Is
       both_pass (instr_refers T) (word_code C w d) (code_from C (suc w) ds) (word_code_refers w (nat_eq w C.program.top) d.sort first.1 (word_named C w d first.0).1.1) (words_refer (suc w) ds (rest_closed w d ds h))
 
   -- rows of words
-  core_within : (c : CoreWord) → action_refers T (length code) (core_action c) ≡ true
-  core_within c_call = refl
-  core_within c_dip = refl
-  core_within c_if = refl
-  core_within c_execute = refl
-  core_within c_boa = refl
-  core_within c_cond = refl
+  core_within : (c : CoreWord) → core_fits P.classes c ≡ true → action_refers T (length code) (core_action c) ≡ true
+  core_within c_call fits = refl
+  core_within c_dip fits = refl
+  core_within c_if fits = refl
+  core_within c_execute fits = refl
+  core_within c_boa fits = refl
+  core_within c_recover fits = faults fits
+  core_within c_cond fits = refl
 
   action_within : (at w : ℕ) (is_top : Bool) (c : WordDef) (s : Sort) (more : List Instr) → slice_get C.program.words w ≡ Some c → c.sort ≡ s → ClosedAs P w s → Named (sort_texts C s) → drop at code ≡ sort_code C is_top s ++ more → action_refers T (length code) (sort_action C w at s) ≡ true
   action_within at w is_top c (prim_sort k) more e is h n there = h
-  action_within at w is_top c (core_sort k) more e is h n there = core_within k
+  action_within at w is_top c (core_sort k) more e is h n there = core_within k h
   action_within at w is_top c (body t) more e is h n there = begins_within code C (last_instr is_top) t at more there
   action_within at w is_top c (past t) more e is h n there = refl
   action_within at w is_top c (method m g t) more e is h n there = begins_within code C (last_instr is_top) t at more there

@@ -8,14 +8,15 @@ use Rattle.fac_lang.specs.declared.program.Lit.TheVariants.{Int as l_int, True a
 use Rattle.fac_lang.specs.declared.program.WordDef.{WordDef}
 use Rattle.fac_lang.specs.declared.program.Sort.{Sort}
 use Rattle.fac_lang.specs.declared.core_table.CoreWord.{CoreWord}
-use Rattle.fac_lang.specs.declared.core_table.CoreWord.TheVariants.{Call as c_call, Dip as c_dip, If as c_if, Execute as c_execute, Boa as c_boa, Cond as c_cond}
+use Rattle.fac_lang.specs.declared.core_table.CoreWord.TheVariants.{Call as c_call, Dip as c_dip, If as c_if, Execute as c_execute, Boa as c_boa, Recover as c_recover, Cond as c_cond}
 use Rattle.fac_lang.specs.declared.program.Sort.TheVariants.{Prim as prim_sort, Core as core_sort, Body as body, Past as past, Itself as itself, Class as class, Isa as isa, Getter as getter, Setter as setter, Putter as putter, Generic as generic, Method as method}
 use Rattle.fac_lang.specs.Phrases.{int, yes, no, str, wrd, Phrase, end, then, Item, lit, lit_arr, word, bind, local, call_effect, execute_effect, made, next_after}
+use Rattle.fac_lang.specs.Faults.{fault_kind}
 use Rattle.fac_locals.specs.declared.closing.Closed.{Closed}
 use Rattle.fac_code.specs.declared.image.Elem.{Elem}
 use Rattle.fac_code.specs.declared.image.Elem.TheVariants as elem
 use Rattle.fac_code.specs.declared.image.Instr.{Instr}
-use Rattle.fac_code.specs.declared.image.Instr.TheVariants.{Halt, Int, True, False, Text, Array, Word, Bind, Local, Prim, Callw, Call, Dip, If, Execute, CallEffect, ExecuteEffect, Ret, Boa, Get, Set, Put, Isa, Generic, Next}
+use Rattle.fac_code.specs.declared.image.Instr.TheVariants.{Halt, Int, True, False, Text, Array, Word, Bind, Local, Prim, Callw, Call, Dip, If, Execute, Recover, CallEffect, ExecuteEffect, Ret, Boa, Get, Set, Put, Isa, Generic, Next}
 use Rattle.fac_code.specs.declared.image.Action.{Action}
 use Rattle.fac_code.specs.declared.image.Action.TheVariants as action
 use Rattle.fac_code.specs.declared.image.Tables.{Tables}
@@ -40,11 +41,13 @@ core_instr c_dip = Dip
 core_instr c_if = If false
 core_instr c_execute = Execute false
 core_instr c_boa = Boa
+core_instr c_recover = Recover fault_kind false
 core_instr c_cond = stuck_instr
 
 -- What they do as words. No run does `cond`, and its action is any.
 abbrev pub core_action : CoreWord → Action
 core_action c_cond = action.Itself
+core_action c_recover = action.Recover fault_kind
 core_action c = action.Core c
 
 -- the instruction of a quotation or fry that is made by this template
@@ -63,6 +66,7 @@ tailed (Callw w t) = Callw w true
 tailed (Call t) = Call true
 tailed (If t) = If true
 tailed (Execute t) = Execute true
+tailed (Recover k t) = Recover k true
 tailed (CallEffect h t) = CallEffect h true
 tailed (ExecuteEffect h t) = ExecuteEffect h true
 tailed (Generic g t) = Generic g true

@@ -18,6 +18,7 @@ ghost use Rattle.fac_emit.specs.inner.Parts.{AreParts, AreTables, PlacesWord, Pl
 
 use crate::arrays::arrays_of;
 use crate::dispatch::generics_of;
+use crate::emitter::FAULT_KIND;
 use crate::emission::Emission;
 use crate::emitter::code_length;
 use crate::pieces::codes_of_words;
@@ -39,6 +40,7 @@ fn action_of_core(core: CoreWord) -> Action
 {
     match core {
         CoreWord::Cond => Action::Itself,
+        CoreWord::Recover => Action::Recover(FAULT_KIND),
         _ => Action::Core(core),
     }
 }

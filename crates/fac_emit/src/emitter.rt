@@ -12,6 +12,9 @@ use fac_code::Instr;
 use fac_lang::{CoreWord, Item, Phrase, Sort, Template, What};
 use std::alloc::Global;
 
+/// The kind of the tuples that errors come to, which is that of the first class with a kind of its own.
+pub const FAULT_KIND: u32 = 8;
+
 // The instruction of a core word. `cond` stands nowhere but in a phrase that nothing can do.
 fn instr_of_core(core: CoreWord) -> Instr
     ensures { result ≡ core_instr core }
@@ -21,6 +24,10 @@ fn instr_of_core(core: CoreWord) -> Instr
         CoreWord::Dip => Instr::Dip,
         CoreWord::If => Instr::If { tail: false },
         CoreWord::Execute => Instr::Execute { tail: false },
+        CoreWord::Recover => Instr::Recover {
+            kind: FAULT_KIND,
+            tail: false,
+        },
         CoreWord::Boa | CoreWord::Cond => Instr::Boa,
     }
 }
@@ -118,6 +125,7 @@ fn as_tail_call(instr: Instr) -> Instr
         Instr::Call { .. } => Instr::Call { tail: true },
         Instr::If { .. } => Instr::If { tail: true },
         Instr::Execute { .. } => Instr::Execute { tail: true },
+        Instr::Recover { kind, .. } => Instr::Recover { kind, tail: true },
         Instr::CallEffect { height, .. } => Instr::CallEffect { height, tail: true },
         Instr::ExecuteEffect { height, .. } => Instr::ExecuteEffect { height, tail: true },
         Instr::Generic { generic, .. } => Instr::Generic {

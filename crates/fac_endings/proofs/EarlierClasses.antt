@@ -1,11 +1,12 @@
 -- Classes of earlier texts, which stay as they are when others come behind them.
 use Rattle.std.proofs.Common.{◌≡◌, ◌<◌, ◌≤◌, ◌+◌, inl, inr, ℕ, zero, suc, nat_eq, List, [], ◌∷◌, ◌++◌, length, Option, Some, None, Bool, true, false, refl, ap, sym, ◌∙◌, subst, arith, append-nil, append_assoc, length-append}
-use Rattle.std.specs.Prelude.{◌||◌, nat_le, nat_lt, not}
+use Rattle.std.specs.Prelude.{◌-◌, ◌||◌, ◌&&◌, nat_le, nat_lt, not, slice_get}
 use Rattle.std.specs.List.{list_all, list_any}
 use Rattle.std.specs.Str.{bytes_eq}
-use Rattle.std.proofs.lemmas.Bool.Decides.{Decides-ltb}
-use Rattle.fac_lang.specs.Classes.{is_tuple, parent_in, shape_at, slots_within}
-use Rattle.fac_lang.specs.Whole.{IsWhole, each_below, no_two, parts_of, reaches, shape_fits}
+use Rattle.std.proofs.lemmas.Bool.Decides.{Decides-leb, Decides-ltb}
+use Rattle.fac_lang.specs.Classes.{class_with, has_own, is_tuple, parent_in, shape_at, slots_within}
+use Rattle.fac_lang.specs.Faults.{fault_kind}
+use Rattle.fac_lang.specs.Whole.{IsWhole, each_below, has_faults, is_fault_class, no_two, parts_of, reaches, shape_fits}
 use Rattle.fac_lang.specs.declared.program.ClassDef.{ClassDef}
 use Rattle.fac_lang.specs.declared.program.Program.{Program}
 use Rattle.fac_lang.specs.declared.program.Shape.{Shape}
@@ -29,6 +30,8 @@ pub record AreSettled (cs : List ClassDef) : Type 0 where
   pub ends : (c : ℕ) → reaches (length cs) cs c c ≡ false
   pub apart : (c : ℕ) → no_two bytes_eq (slots_within (length cs) cs c) ≡ true
   pub few : (c : ℕ) → length (slots_within (length cs) cs c) ≤ 64
+  -- the class of errors is among them
+  pub faults : has_faults cs ≡ true
   -- in each program that has them, and others behind them
   pub fit : (P : Program) → length cs ≤ length P.classes → ((c : ℕ) → is_tuple (shape_at cs c) ≡ true → is_tuple (shape_at P.classes c) ≡ true) → list_all (λ (d : ClassDef). shape_fits P d.shape) cs ≡ true
 
@@ -42,6 +45,36 @@ pub shape_front : (cs more_classes : List ClassDef) (c : ℕ) → c < length cs 
 shape_front [] more_classes c lt = absurd (omega (arith, lt))
 shape_front (d ∷ cs) more_classes zero lt = refl
 shape_front (d ∷ cs) more_classes (suc c) lt = shape_front cs more_classes c (omega (arith, lt))
+
+-- the class with a kind stays the one that has it
+kind_front : (c : ℕ) (cs more_classes : List ClassDef) (k j : ℕ) → class_with c cs k ≡ Some j → class_with c (cs ++ more_classes) k ≡ Some j
+kind_front c [] more_classes k j h = absurd (cc)
+kind_front c (d ∷ cs) more_classes k j h = one (has_own d.shape) (nat_eq k 8) h
+  where
+    one : (own here : Bool) → elim own [ true ↦ elim here [ true ↦ Some c | false ↦ class_with (suc c) cs (k - 1) ] | false ↦ class_with (suc c) cs k ] ≡ Some j →
+        elim own [ true ↦ elim here [ true ↦ Some c | false ↦ class_with (suc c) (cs ++ more_classes) (k - 1) ] | false ↦ class_with (suc c) (cs ++ more_classes) k ] ≡ Some j
+    one true true e = e
+    one true false e = kind_front (suc c) cs more_classes (k - 1) j e
+    one false here e = kind_front (suc c) cs more_classes k j e
+
+class_front : (cs more_classes : List ClassDef) (c : ℕ) (d : ClassDef) → slice_get cs c ≡ Some d → slice_get (cs ++ more_classes) c ≡ Some d
+class_front [] more_classes c d h = absurd (cc)
+class_front (x ∷ cs) more_classes zero d h = h
+class_front (x ∷ cs) more_classes (suc c) d h = class_front cs more_classes c d h
+
+-- and so does the class of errors
+pub faults_front : (cs more_classes : List ClassDef) → has_faults cs ≡ true → has_faults (cs ++ more_classes) ≡ true
+faults_front cs more_classes h = one (class_with 0 cs fault_kind) refl h
+  where
+    there : (c : ℕ) (o : Option ClassDef) → slice_get cs c ≡ o → is_fault_class o ≡ true → is_fault_class (slice_get (cs ++ more_classes) c) ≡ true
+    there c None is k = absurd (cc)
+    there c (Some d) is k = ap is_fault_class (class_front cs more_classes c d is) ∙ k
+
+    one : (o : Option ℕ) → class_with 0 cs fault_kind ≡ o → elim o [ Some c ↦ is_fault_class (slice_get cs c) | None ↦ false ] ≡ true → has_faults (cs ++ more_classes) ≡ true
+    one None is k = absurd (cc)
+    one (Some c) is k =
+        ap (λ (o : Option ℕ). elim o [ Some e ↦ is_fault_class (slice_get (cs ++ more_classes) e) | None ↦ false ]) (kind_front 0 cs more_classes fault_kind c is)
+        ∙ there c (slice_get cs c) refl k
 
 any_below : (n : ℕ) (f g : ℕ → Bool) (xs : List ℕ) → ((e : ℕ) → e < n → f e ≡ g e) → list_all (λ (e : ℕ). nat_lt e n) xs ≡ true → list_any f xs ≡ list_any g xs
 any_below n f g [] same h = refl
@@ -130,10 +163,11 @@ slots_stand cs more_classes c h lt n = elim (at_or_behind (length cs) n) [
     same : slots_within n (cs ++ more_classes) c ≡ slots_within n cs c
     same = slots_front n cs more_classes c h.parts lt
 
--- Classes that are built in.
+-- Classes that no source defines: those that are built in, and tuple classes with no parent and few slots, which differ.
 
 abbrev pub is_kind : Shape → Bool
 is_kind (built_in j) = nat_lt j 12
+is_kind (tuple_class None slots) = no_two bytes_eq slots && nat_le (length slots) 64
 is_kind _ = false
 
 abbrev is_kind_there : Option Shape → Bool
@@ -148,7 +182,8 @@ kind_there (d ∷ cs) (suc c) h = kind_there cs c (true_both (is_kind d.shape) (
 kind_parts : (o : Option Shape) → is_kind_there o ≡ true → parts_of o ≡ []
 kind_parts None h = refl
 kind_parts (Some (built_in j)) h = refl
-kind_parts (Some (tuple_class p slots)) h = absurd (cc)
+kind_parts (Some (tuple_class None slots)) h = refl
+kind_parts (Some (tuple_class (Some p) slots)) h = absurd (cc)
 kind_parts (Some (union ms)) h = absurd (cc)
 kind_parts (Some single) h = absurd (cc)
 
@@ -156,16 +191,23 @@ kind_reaches : (n : ℕ) (cs : List ClassDef) (c d : ℕ) → is_kind_there (sha
 kind_reaches zero cs c d h = refl
 kind_reaches (suc n) cs c d h = ap (list_any (λ e. nat_eq c e || reaches n cs c e)) (kind_parts (shape_at cs d) h)
 
-no_slots : (f : ℕ → List (List ℕ)) (o : Option Shape) → is_kind_there o ≡ true → slots_by f o ≡ []
-no_slots f None h = refl
-no_slots f (Some (built_in j)) h = refl
-no_slots f (Some (tuple_class p slots)) h = absurd (cc)
-no_slots f (Some (union ms)) h = absurd (cc)
-no_slots f (Some single) h = absurd (cc)
+-- whether these slots are few and differ
+abbrev StandApart : List (List ℕ) → Type 0
+StandApart slots = (no_two bytes_eq slots ≡ true) × (length slots ≤ 64)
 
-kind_slots : (n : ℕ) (cs : List ClassDef) (c : ℕ) → is_kind_there (shape_at cs c) ≡ true → slots_within n cs c ≡ []
-kind_slots zero cs c h = refl
-kind_slots (suc n) cs c h = no_slots (slots_within n cs) (shape_at cs c) h
+own_apart : (f : ℕ → List (List ℕ)) (o : Option Shape) → is_kind_there o ≡ true → StandApart (slots_by f o)
+own_apart f None h = (refl, omega arith)
+own_apart f (Some (built_in j)) h = (refl, omega arith)
+own_apart f (Some (tuple_class None slots)) h =
+    let both = true_both (no_two bytes_eq slots) (nat_le (length slots) 64) h in
+    (both.0, (Decides-leb (length slots) 64).0 both.1)
+own_apart f (Some (tuple_class (Some p) slots)) h = absurd (cc)
+own_apart f (Some (union ms)) h = absurd (cc)
+own_apart f (Some single) h = absurd (cc)
+
+kind_slots : (n : ℕ) (cs : List ClassDef) (c : ℕ) → is_kind_there (shape_at cs c) ≡ true → StandApart (slots_within n cs c)
+kind_slots zero cs c h = (refl, omega arith)
+kind_slots (suc n) cs c h = own_apart (slots_within n cs) (shape_at cs c) h
 
 kinds_fit : (P : Program) (cs : List ClassDef) → list_all (λ (d : ClassDef). is_kind d.shape) cs ≡ true → list_all (λ (d : ClassDef). shape_fits P d.shape) cs ≡ true
 kinds_fit P [] h = refl
@@ -175,17 +217,19 @@ kinds_fit P (d ∷ cs) h =
   where
     one : (s : Shape) → is_kind s ≡ true → shape_fits P s ≡ true
     one (built_in j) k = k
-    one (tuple_class p slots) k = absurd (cc)
+    one (tuple_class None slots) k = refl
+    one (tuple_class (Some p) slots) k = absurd (cc)
     one (union ms) k = absurd (cc)
     one single k = absurd (cc)
 
-pub kinds_settled : (cs : List ClassDef) → list_all (λ (d : ClassDef). is_kind d.shape) cs ≡ true → AreSettled cs
-kinds_settled cs h =
+pub kinds_settled : (cs : List ClassDef) → list_all (λ (d : ClassDef). is_kind d.shape) cs ≡ true → has_faults cs ≡ true → AreSettled cs
+kinds_settled cs h faults =
     record {
+      faults = faults;
       parts = λ d. ap (list_all (λ (e : ℕ). nat_lt e (length cs))) (kind_parts (shape_at cs d) (kind_there cs d h));
       ends = λ c. kind_reaches (length cs) cs c c (kind_there cs c h);
-      apart = λ c. ap (no_two bytes_eq) (kind_slots (length cs) cs c (kind_there cs c h));
-      few = λ c. (let none = ap length (kind_slots (length cs) cs c (kind_there cs c h)) in omega (arith, none));
+      apart = λ c. (kind_slots (length cs) cs c (kind_there cs c h)).0;
+      few = λ c. (kind_slots (length cs) cs c (kind_there cs c h)).1;
       fit = λ P longer tuples. kinds_fit P cs h;
     }
 
@@ -251,8 +295,8 @@ slots_none : (n : ℕ) (cs : List ClassDef) (c : ℕ) → shape_at cs c ≡ None
 slots_none zero cs c h = refl
 slots_none (suc n) cs c h = ap (slots_by (slots_within n cs)) h
 
-pub whole_settled : (P : Program) → IsWhole P → AreSettled P.classes
-whole_settled P whole =
+pub whole_settled : (P : Program) → IsWhole P → has_faults P.classes ≡ true → AreSettled P.classes
+whole_settled P whole faults =
     let cs = P.classes in
     record {
       parts = λ d. parts_at P cs d whole.shapes_fit;
@@ -268,5 +312,6 @@ whole_settled P whole =
         | inl lt ↦ is_within (length (slots_within (length cs) cs c)) (below_true (λ d. nat_le (length (slots_within (length cs) cs d)) 64) (length cs) c whole.few_slots lt)
         | inr le ↦ let none = ap length (slots_none (length cs) cs c (no_class cs c le)) in omega (arith, none)
       ];
+      faults = faults;
       fit = λ Q longer tuples. shapes_stay P Q cs longer tuples whole.shapes_fit;
     }

@@ -11,7 +11,7 @@ use Rattle.fac_code.specs.declared.image.Image.{Image}
 use Rattle.fac_store.specs.MachineValues.{MValue}
 use Rattle.fac_carry.specs.Accessors.{Accessor, getting, setting, putting, accessor_instr}
 use Rattle.fac_carry.specs.MachineView.{Templates, template_phrases}
-use Rattle.fac_carry.specs.Stands.{making, ends_phrase, Calling, l_word, l_call, l_if, l_execute, l_call_effect, l_execute_effect, l_generic, l_next, Translates, t_int, t_true, t_false, t_text, t_array, t_reference, t_symbol, t_held, t_quot, t_fry, t_prim, t_accessor, t_isa, t_dip, t_boa, t_stuck, t_calling, Stands, s_end, s_item, s_tail, s_bind}
+use Rattle.fac_carry.specs.Stands.{making, ends_phrase, Calling, l_word, l_call, l_if, l_recover, l_execute, l_call_effect, l_execute_effect, l_generic, l_next, Translates, t_int, t_true, t_false, t_text, t_array, t_reference, t_symbol, t_held, t_quot, t_fry, t_prim, t_accessor, t_isa, t_dip, t_boa, t_stuck, t_calling, Stands, s_end, s_item, s_tail, s_bind}
 use Rattle.fac_carry.proofs.PlainIsCode.{plain_is_code}
 use Rattle.fac_expand.specs.inner.Drafts.{Around, HasCode}
 use Rattle.fac_expand.specs.inner.PieceCode.{StandsFor}
@@ -41,6 +41,7 @@ module _ (P : Program) (N : Image) (T : Templates) where
   calling_goes_on tail _ _ (l_word w a code) = refl
   calling_goes_on tail _ _ (l_call w e) = refl
   calling_goes_on tail _ _ (l_if w e) = refl
+  calling_goes_on tail _ _ (l_recover w e) = refl
   calling_goes_on tail _ _ (l_execute w e) = refl
   calling_goes_on tail _ _ (l_call_effect height) = refl
   calling_goes_on tail _ _ (l_execute_effect height) = refl

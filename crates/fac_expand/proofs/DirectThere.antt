@@ -8,7 +8,7 @@ use Rattle.fac_lang.specs.declared.program.WordDef.{WordDef}
 use Rattle.fac_lang.specs.declared.program.Sort.{Sort}
 use Rattle.fac_lang.specs.declared.program.Sort.TheVariants.{Core as core_sort, Body as body_sort}
 use Rattle.fac_lang.specs.declared.core_table.CoreWord.{CoreWord}
-use Rattle.fac_lang.specs.declared.core_table.CoreWord.TheVariants.{Call as w_call, Dip as w_dip, If as w_if, Execute as w_execute, Boa as w_boa}
+use Rattle.fac_lang.specs.declared.core_table.CoreWord.TheVariants.{Call as w_call, Dip as w_dip, If as w_if, Execute as w_execute, Boa as w_boa, Recover as w_recover}
 use Rattle.fac_lang.specs.Phrases.{yes, Phrase, end, then, Item, lit, lit_arr, quot, word, bind, local, fry, hole, call_effect, execute_effect, next_method, made, next_after, held, known, Value, plain as plain_value, fun, Callable, of_phrase}
 use Rattle.fac_lang.specs.Substitution.{binds_local, put_local, put_local_item}
 use Rattle.fac_lang.specs.World.{World, State}
@@ -25,7 +25,7 @@ use Rattle.fac_store.specs.MachineValues.{MValue, m_plain}
 use Rattle.fac_carry.specs.Accessors.{Accessor, getting, setting, putting, accessor_instr, accessor_sort}
 use Rattle.fac_carry.specs.MachineView.{template_phrases, value_view}
 use Rattle.fac_carry.specs.WholeValues.{AllWhole}
-use Rattle.fac_carry.specs.Stands.{RunsPhrase, PushesItself, IsStuck, ends_phrase, Calling, l_word, l_call, l_if, l_execute, l_call_effect, l_execute_effect, l_generic, l_next, Translates, t_int, t_true, t_false, t_text, t_array, t_reference, t_symbol, t_held, t_quot, t_fry, t_prim, t_accessor, t_isa, t_dip, t_boa, t_stuck, t_calling, Stands, s_end, s_item, s_tail, s_bind, PlainCode}
+use Rattle.fac_carry.specs.Stands.{RunsPhrase, PushesItself, IsStuck, ends_phrase, Calling, l_word, l_call, l_if, l_recover, l_execute, l_call_effect, l_execute_effect, l_generic, l_next, Translates, t_int, t_true, t_false, t_text, t_array, t_reference, t_symbol, t_held, t_quot, t_fry, t_prim, t_accessor, t_isa, t_dip, t_boa, t_stuck, t_calling, Stands, s_end, s_item, s_tail, s_bind, PlainCode}
 use Rattle.fac_carry.specs.Direct.{Within, within_any, within_some, AppliesNothing, IsOther, IsKernelWord, IsLoop, is_loop, IsWhile, is_while, is_until, Direct, direct_end, direct_item, direct_call, direct_dip, direct_if, direct_loop, direct_while, IsDirectPhrase}
 use Rattle.fac_carry.proofs.WholeValueLemmas.{cells_whole, more_whole}
 use Rattle.fac_expand.specs.declared.plan.Use.{Use}
@@ -169,6 +169,7 @@ module _ (P : Program) where
     calling_applies tail w c x e (l_word _ a code) = absurd (subst RunsPhrase e code.runs)
     calling_applies tail w c x e (l_call _ f) = subst (λ (d : CoreWord). Applies d tail x) (same_core _ c w_call e f) refl
     calling_applies tail w c x e (l_if _ f) = subst (λ (d : CoreWord). Applies d tail x) (same_core _ c w_if e f) refl
+    calling_applies tail w c x e (l_recover _ f) = subst (λ (d : CoreWord). Applies d tail x) (same_core _ c w_recover e f) tt
     calling_applies tail w c x e (l_execute _ f) = subst (λ (d : CoreWord). Applies d tail x) (same_core _ c w_execute e f) tt
     calling_applies tail w c x e (l_generic _ n r f er ew same) = absurd (let no = sym e ∙ f in cc)
 
@@ -187,6 +188,7 @@ module _ (P : Program) where
     calling_body tail w t x e (l_word _ a code) = refl
     calling_body tail w t x e (l_call _ f) = absurd (let no = sym e ∙ f in cc)
     calling_body tail w t x e (l_if _ f) = absurd (let no = sym e ∙ f in cc)
+    calling_body tail w t x e (l_recover _ f) = absurd (let no = sym e ∙ f in cc)
     calling_body tail w t x e (l_execute _ f) = absurd (let no = sym e ∙ f in cc)
     calling_body tail w t x e (l_generic _ n r f er ew same) = absurd (let no = sym e ∙ f in cc)
 
@@ -210,6 +212,7 @@ module _ (P : Program) (N : Image) (uses : List Use) (plain : PlainCode P N) (ar
   calling_other tail _ _ o (l_word w a code) = let d = has_definition (slice_get P.words w) code.runs in (ap is_called (are.called w d.0 d.1 (o.1 d.0 d.1)), refl)
   calling_other tail _ _ o (l_call w e) = absurd (subst (AppliesNothing P) e o.0)
   calling_other tail _ _ o (l_if w e) = absurd (subst (AppliesNothing P) e o.0)
+  calling_other tail _ _ o (l_recover w e) = absurd (subst (AppliesNothing P) e o.0)
   calling_other tail _ _ o (l_execute w e) = (refl, refl)
   calling_other tail _ _ o (l_call_effect h) = (refl, refl)
   calling_other tail _ _ o (l_execute_effect h) = (refl, refl)

@@ -17,7 +17,7 @@ use Rattle.fac_store.specs.MachineValues.{MValue}
 use Rattle.fac_machine.specs.Machine.{word_with, same_action, set_has, method_for, method_after, first_of, place_in as method_in, place_from, method_place}
 use Rattle.fac_carry.specs.Accessors.{Accessor, getting, setting, putting, accessor_action}
 use Rattle.fac_carry.specs.MachineView.{template_phrases}
-use Rattle.fac_carry.specs.Stands.{HasCode, SameMethod, Calling, l_word, l_call, l_if, l_execute, l_call_effect, l_execute_effect, l_generic, l_next, Acting, a_itself, a_prim, a_accessor, a_isa, a_core, a_stuck, a_code, a_generic, HasAction, Translates, t_int, t_true, t_false, t_text, t_array, t_reference, t_symbol, t_held, t_quot, t_fry, t_prim, t_accessor, t_isa, t_dip, t_boa, t_stuck, t_calling}
+use Rattle.fac_carry.specs.Stands.{HasCode, SameMethod, Calling, l_word, l_call, l_if, l_recover, l_execute, l_call_effect, l_execute_effect, l_generic, l_next, Acting, a_itself, a_prim, a_accessor, a_isa, a_recover, a_core, a_stuck, a_code, a_generic, HasAction, Translates, t_int, t_true, t_false, t_text, t_array, t_reference, t_symbol, t_held, t_quot, t_fry, t_prim, t_accessor, t_isa, t_dip, t_boa, t_stuck, t_calling}
 use Rattle.fac_carry.proofs.ElementLemmas.{element_at}
 use Rattle.fac_expand.specs.inner.Pieces.{place_in, moved_action, moved_word, moved_method, moved_generic, moved_template, HasTemplate, IsMade}
 use Rattle.fac_expand.proofs.MappedLists.{map_some, get_mapped, get_unmapped, drop_map}
@@ -171,6 +171,7 @@ module _ (top : ℕ) (P : Program) (N M : Image) (h : IsMade top N M) where
   calls_moved tail _ _ (l_word w a code) = l_word w (place_in M.start h.places a) (code_moved w a code)
   calls_moved tail _ _ (l_call w e) = l_call w e
   calls_moved tail _ _ (l_if w e) = l_if w e
+  calls_moved tail _ _ (l_recover w e) = l_recover w e
   calls_moved tail _ _ (l_execute w e) = l_execute w e
   calls_moved tail _ _ (l_call_effect height) = l_call_effect height
   calls_moved tail _ _ (l_execute_effect height) = l_execute_effect height
@@ -218,7 +219,8 @@ module _ (top : ℕ) (P : Program) (N M : Image) (h : IsMade top N M) where
   acts_moved w _ (a_prim k es built e) = a_prim k es built (first_prim k w e)
   acts_moved w _ (a_accessor x k s es et e) = subst (Acting P M w) (accessor_stays x k) (a_accessor x k s es (text_moved k s et) (first_accessor x k w e))
   acts_moved w _ (a_isa c k es same) = a_isa c k es (set_moved k _ same)
-  acts_moved w _ (a_core c es) = a_core c es
+  acts_moved w _ (a_recover es) = a_recover es
+  acts_moved w _ (a_core c h es) = a_core c h es
   acts_moved w _ (a_stuck x stuck) = a_stuck (moved_action M.start h.places x) stuck
   acts_moved w _ (a_code a code) = a_code (place_in M.start h.places a) (code_moved w a code)
   acts_moved w _ (a_generic n r es er ew same) = a_generic n (moved_generic M.start h.places r) es (generic_moved n r er) ew (picked_moved r.methods (pick P w) same)

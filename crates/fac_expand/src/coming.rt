@@ -37,6 +37,7 @@ pub fn is_tailed(instr: Instr) -> bool
         Instr::Call { tail } => tail,
         Instr::If { tail } => tail,
         Instr::Execute { tail } => tail,
+        Instr::Recover { tail, .. } => tail,
         Instr::CallEffect { tail, .. } => tail,
         Instr::ExecuteEffect { tail, .. } => tail,
         Instr::Generic { tail, .. } => tail,
@@ -54,6 +55,7 @@ fn untailed_of(instr: Instr) -> Option<Instr>
         Instr::Call { .. } => Some(Instr::Call { tail: false }),
         Instr::If { .. } => Some(Instr::If { tail: false }),
         Instr::Execute { .. } => Some(Instr::Execute { tail: false }),
+        Instr::Recover { kind, .. } => Some(Instr::Recover { kind, tail: false }),
         Instr::CallEffect { height, .. } => Some(Instr::CallEffect {
             height,
             tail: false,

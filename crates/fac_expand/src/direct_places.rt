@@ -233,6 +233,7 @@ fn is_item(uses: &[Use], instr: Instr) -> bool
         Instr::Call { .. } => false,
         Instr::Dip => false,
         Instr::If { .. } => false,
+        Instr::Recover { .. } => false,
         Instr::Callw { word, .. } => is_call(uses, word),
         _ => true,
     }

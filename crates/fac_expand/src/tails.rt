@@ -140,6 +140,7 @@ fn is_leaving(instr: Instr) -> bool
         Instr::Call { tail } => !tail,
         Instr::If { tail } => !tail,
         Instr::Execute { tail } => !tail,
+        Instr::Recover { tail, .. } => !tail,
         Instr::CallEffect { tail, .. } => !tail,
         Instr::ExecuteEffect { tail, .. } => !tail,
         Instr::Generic { tail, .. } => !tail,

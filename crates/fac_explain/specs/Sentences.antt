@@ -76,7 +76,7 @@ own_rows_sentence token found = around (codes "Where ") token (codes " runs itse
 
 -- the words that run a callable that they are handed, and so an input of the word in which they stand
 abbrev pub runs_callable : List ℕ → Bool
-runs_callable token = bytes_eq token (codes "call") || bytes_eq token (codes "dip") || bytes_eq token (codes "if")
+runs_callable token = bytes_eq token (codes "call") || bytes_eq token (codes "dip") || bytes_eq token (codes "if") || bytes_eq token (codes "recover")
 
 -- what an input takes on the row, and finds
 abbrev pub input_row_ends : ℕ → ℕ → List ℕ

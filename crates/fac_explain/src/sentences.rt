@@ -173,7 +173,10 @@ fn push_own_rows(out: &mut Bytes, token: &[u8], found: u32) -> Result<(), Memory
 fn runs_callable(token: &[u8]) -> bool
     ensures { result ≡ may_run_callable token.now }
 {
-    token == b"call".as_slice() || token == b"dip".as_slice() || token == b"if".as_slice()
+    token == b"call".as_slice()
+        || token == b"dip".as_slice()
+        || token == b"if".as_slice()
+        || token == b"recover".as_slice()
 }
 
 // Adds a number in digits between two texts.

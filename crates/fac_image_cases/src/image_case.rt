@@ -95,9 +95,13 @@ fn run_told(
     machine: &mut Machine,
     said: &Said,
     budget: u64,
-) -> Result<Text, Memory> {
+) -> Result<Text, Memory>
+    requires { machine.old.below ≡ [] }
+    ensures { OnOk result (machine.new.below ≡ []) }
+{
     let mut channels = channels(alloc, said)?;
     let stop = machine.run(alloc, &mut channels, budget);
+    machine.gather()?;
     let mut end = told(alloc, stop, machine, channels.output().taken())?;
     if said.is_deepest_told {
         end.push_str(told_deepest(alloc, machine)?.as_str())?;
@@ -113,7 +117,9 @@ fn runs_told(
     said: &Said,
     budget: u64,
     again: bool,
-) -> Result<Text, Memory> {
+) -> Result<Text, Memory>
+    requires { machine.old.below ≡ [] }
+{
     let mut ends = run_told(alloc, machine, said, budget)?;
     if again {
         ends.push_str(run_told(alloc, machine, said, budget)?.as_str())?;

@@ -155,6 +155,7 @@ fn does(told: &str, behind: &str) -> Option<Action> {
         "put" => Some(Action::Put(behind.parse::<u32>().ok()?)),
         "isa" => Some(Action::Isa(behind.parse::<u32>().ok()?)),
         "generic" => Some(Action::Generic(behind.parse::<u32>().ok()?)),
+        "recover" => Some(Action::Recover(behind.parse::<u32>().ok()?)),
         _ => None,
     }
 }

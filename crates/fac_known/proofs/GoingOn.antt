@@ -575,7 +575,7 @@ begins_built k h =
       top = λ may covers. tt;
       main = λ may covers. tt;
       distinct = numbers_differ P b h.whole.words_differ;
-      old = whole_settled P h.whole;
+      old = whole_settled P h.whole h.faults;
       own = refl;
       count = class_count k;
       named = are_named (drafts_of P) k.scope.table (λ i e at. (let entry = h.entries i e at in name_before P e.word entry.def entry.at ∙ ap (λ (x : FullName). Some x) entry.name_is));

@@ -22,7 +22,9 @@ use Rattle.fac_endings.specs.Words.{top_word}
 use Rattle.fac_endings.specs.declared.draft.Draft.{Draft}
 use Rattle.fac_endings.specs.declared.draft.Late.{Late}
 use Rattle.fac_endings.specs.declared.draft.Late.TheVariants.{Settled as settled, Deferred as deferred, Maker as maker, Method as method_of}
+use Rattle.fac_endings.specs.ClassTable.{class_of}
 use Rattle.fac_endings.proofs.Apart.{and_true, true_both}
+use Rattle.fac_endings.proofs.EarlierClasses.{faults_front}
 use Rattle.fac_endings.proofs.EndedWords.{FinishOf, stays, makes, methods, FinishesOf, finished_at}
 use Rattle.fac_names.specs.Forms.{accessor_text, Reading, take_file}
 use Rattle.fac_names.specs.FromFlat.{form_of}
@@ -201,6 +203,7 @@ known_then keep r b c none =
     let P = program_of keep r in
     record {
       whole = sound keep r b c none;
+      faults = faults_front r.old_classes (map (class_of r.words) r.classes) b.old.faults;
       first = named_found P 0 (counted_words keep r) (first_found (classes_in r) (classes_in r) r b (may_name P) (found_named keep r b h));
       entries = entry_of keep r b h;
       all_defined = all_defined r.scope.table (λ i e at. entry_defined e (spared_at e.word r.scope.table i e (ap (λ (n : ℕ). all_spare n r.scope.table) (let same : e.word ≡ e.word + 0 = omega arith in same) ∙ word_spared r.words (all_classes r) 0 r.words r.scope.table e.word (entry_low r b i e at) h.finishes b.counted.spared) at));
@@ -231,6 +234,7 @@ pub sessions_begin_known : SessionsBeginKnown
 sessions_begin_known k h =
     record {
       whole = h.whole;
+      faults = h.faults;
       first = h.first;
       entries = h.entries;
       all_defined = h.all_defined;

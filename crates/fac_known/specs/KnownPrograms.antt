@@ -1,7 +1,7 @@
 -- What holds of what is known between two texts of a session.
 use Rattle.std.specs.Prelude.{ℕ, ◌≡◌, ◌<◌, List, slice_get, Some, Bool, true, ◌&&◌, codes}
 use Rattle.std.specs.List.{list_all}
-use Rattle.fac_lang.specs.Whole.{IsWhole, is_nameable, is_word}
+use Rattle.fac_lang.specs.Whole.{IsWhole, has_faults, is_nameable, is_word}
 use Rattle.fac_lang.specs.declared.program.ClassDef.{ClassDef}
 use Rattle.fac_lang.specs.declared.program.Program.{Program}
 use Rattle.fac_lang.specs.declared.program.Sort.TheVariants.{Class as class}
@@ -36,6 +36,8 @@ pub record HasItsWord (k : Known) (c : ℕ) (d : ClassDef) : Type 0 where
 -- A scope and a program that belong together.
 pub record IsKnown (k : Known) : Type 0 where
   pub whole : IsWhole k.program
+  -- The class of errors is among the classes.
+  pub faults : has_faults k.program.classes ≡ true
   -- Where a name is refused, the first word stands for it.
   pub first : may_be_found k.program 0 ≡ true
   -- Each entry is of the program, and defined; they stand in the order of their words.

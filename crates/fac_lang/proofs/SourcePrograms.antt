@@ -7,7 +7,7 @@ use Rattle.std.specs.Option.{option_map}
 use Rattle.std.specs.Prelude.{nat_eq, nat_lt, slice_get, is_some, codes}
 use Rattle.fac_lang.specs.CoreWords.{core_word}
 use Rattle.fac_lang.specs.declared.core_table.CoreWord.{CoreWord}
-use Rattle.fac_lang.specs.declared.core_table.CoreWord.TheVariants.{Call, Dip, If, Execute, Boa, Cond}
+use Rattle.fac_lang.specs.declared.core_table.CoreWord.TheVariants.{Call, Dip, If, Execute, Boa, Recover, Cond}
 use Rattle.fac_lang.specs.Meaning.{sort_of, is_past}
 use Rattle.fac_lang.specs.Phrases.{int, yes, no, str, wrd, Phrase, end, then, Item, lit, lit_arr, quot, word, bind, local, fry, hole, call_effect, execute_effect, next_method}
 use Rattle.fac_lang.specs.PrimitiveWords.{PrimitiveWord, written_effect}
@@ -219,6 +219,7 @@ core_there Dip = refl
 core_there If = refl
 core_there Execute = refl
 core_there Boa = refl
+core_there Recover = refl
 core_there Cond = refl
 
 row_written : (o : Option PrimitiveWord) (e : Signature) → is_some o ≡ true → is_effect (effect_written o) e ≡ true → (row : PrimitiveWord) × (o ≡ Some row) × (e ≡ written_effect row)

@@ -2,8 +2,8 @@
 
 use crate::word_row::WordRow;
 
-/// A core word. What `call`, `if`, `execute`, `boa` and `cond` take and leave besides what their rows say hangs on the callable, the word,
-/// the class or the literal.
+/// A core word. What `call`, `if`, `execute`, `boa`, `recover` and `cond` take and leave besides what their rows say hangs on the callable, the
+/// word, the class or the literal.
 #[derive(Clone, Copy, Debug, PartialEq, Eq)]
 pub enum CoreWord {
     /// `call`
@@ -16,6 +16,8 @@ pub enum CoreWord {
     Execute,
     /// `boa`
     Boa,
+    /// `recover`
+    Recover,
     /// `cond`, which is read with the literal before it, and does nothing without it.
     Cond,
 }
@@ -37,5 +39,6 @@ pub static CORE_WORDS: &[CoreRow] = &[
     CoreRow { core: CoreWord::If, word: WordRow { vocab: "kernel", name: "if", ins: &["?", "true", "false"], outs: Some(&[]) } },
     CoreRow { core: CoreWord::Execute, word: WordRow { vocab: "kernel", name: "execute", ins: &["word"], outs: Some(&[]) } },
     CoreRow { core: CoreWord::Boa, word: WordRow { vocab: "kernel", name: "boa", ins: &["class"], outs: Some(&["tuple"]) } },
+    CoreRow { core: CoreWord::Recover, word: WordRow { vocab: "kernel", name: "recover", ins: &["try", "recovery"], outs: Some(&[]) } },
     CoreRow { core: CoreWord::Cond, word: WordRow { vocab: "combinators", name: "cond", ins: &["pairs"], outs: Some(&[]) } },
 ];

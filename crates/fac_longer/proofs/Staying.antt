@@ -7,7 +7,7 @@ use Rattle.fac_lang.specs.declared.program.Sort.{Sort}
 use Rattle.fac_lang.specs.declared.program.Sort.TheVariants.{Prim as prim, Core as core, Body as body, Past as past, Itself as itself, Class as class, Isa as isa, Getter as getter, Setter as setter, Putter as putter, Generic as generic, Method as method}
 use Rattle.fac_lang.specs.Phrases.{Literal, Plain, int, yes, no, str, iota, wrd, arr, tup, Phrase, end, then, Item, lit, lit_arr, quot, word, bind, local, fry, hole, call_effect, execute_effect, next_method, made, next_after, held, known, Mark, any, lit_mark, cur_mark, com_mark, wrd_mark, par_mark}
 use Rattle.fac_lang.specs.declared.core_table.CoreWord.{CoreWord}
-use Rattle.fac_lang.specs.declared.core_table.CoreWord.TheVariants.{Call as c_call, Dip as c_dip, If as c_if, Execute as c_execute, Boa as c_boa, Cond as c_cond}
+use Rattle.fac_lang.specs.declared.core_table.CoreWord.TheVariants.{Call as c_call, Dip as c_dip, If as c_if, Execute as c_execute, Boa as c_boa, Cond as c_cond, Recover as c_recover}
 use Rattle.fac_lang.specs.Meaning.{sort_of, names}
 use Rattle.fac_base.specs.Signatures.{Signature, Inputs, no_inputs, value, quoted}
 use Rattle.fac_base.specs.Effects.{inputs_count}
@@ -30,7 +30,7 @@ same (gives A) = refl
 same (names_local x m b ms) = refl
 same (expands w t b ms) = refl
 same (walks m b ms back) = refl
-same (forks l r b ms) = refl
+same (forks l r b ms ns) = refl
 same (again w b ms) = refl
 same (uses e is b ms) = refl
 
@@ -63,6 +63,9 @@ module _ (P Q : Program) (F : GoesOn P Q) where
   core_below c_boa b (cur_mark m c ∷ ms) = tt
   core_below c_boa b (com_mark c d ∷ ms) = tt
   core_below c_boa b (par_mark k ∷ ms) = tt
+  core_below c_recover b [] = tt
+  core_below c_recover b (q ∷ []) = tt
+  core_below c_recover b (r ∷ l ∷ ms) = same (core_doing P c_recover b (r ∷ l ∷ ms))
   core_below c_cond b ms = tt
   core_below c_boa b (wrd_mark w ∷ ms) = makes_below w ((names P).tuple_class w) refl b ms
 
@@ -255,8 +258,8 @@ module _ (own : Option Signature) (go gone : Walk) (stays : (at : Literal) (d : 
   on_keeps (names_local x m b ms) p d next t n = counted_keeps p n _ _ (λ k. stays next d _ b ms k)
   on_keeps (expands w u b ms) p d next t n = unless_keeps (phrase_rule d) p _ _ (counted_keeps p n _ _ (λ k. and_then_keeps _ _ _ _ (phrase_keeps (first_of_word w) u p d b ms k) (λ A k'. rest_keeps A k' d next t)))
   on_keeps (walks m b ms back) p d next t n = unless_keeps (first_rule own m d b ms) p _ _ (counted_keeps p n _ _ (λ k. and_then_keeps _ _ _ _ (mark_keeps m p d b ms k) (λ A k'. rest_keeps (marks_back back A) k' d next t)))
-  on_keeps (forks l r b ms) p d next t n =
-      unless_keeps (first_rule own l d b ms) p _ _ (counted_keeps p n _ _ (λ k. and_then_keeps _ _ _ _ (mark_keeps l p d b ms k) (λ A k'. and_then_keeps _ _ _ _ (mark_keeps r p d b ms k') (λ B k''. and_then_keeps _ _ _ _ (keeps_itself (join A B p k'')) (λ C j. rest_keeps C j d next t)))))
+  on_keeps (forks l r b ms ns) p d next t n =
+      unless_keeps (first_rule own l d b ms) p _ _ (counted_keeps p n _ _ (λ k. and_then_keeps _ _ _ _ (mark_keeps l p d b ms k) (λ A k'. and_then_keeps _ _ _ _ (mark_keeps r p d b ns k') (λ B k''. and_then_keeps _ _ _ _ (keeps_itself (join A B p k'')) (λ C j. rest_keeps C j d next t)))))
   on_keeps (again w b ms) p d next t n = counted_keeps p n _ _ (λ k. and_then_keeps _ _ _ _ (stays next d (then (word w) p end) b ms k) (λ A k'. rest_keeps A k' d next t))
   on_keeps (uses e is b ms) p d next t n =
       unless_keeps (use_rule own (row_binding (outer_in e) (on b ms)) (effect_inputs e) is d) p _ _ (counted_keeps p n _ _ (λ k. and_then_keeps _ _ _ _ (use_keeps e is p d b ms k) (λ A k'. rest_keeps A k' d next t)))
@@ -267,7 +270,7 @@ module _ (own : Option Signature) (go gone : Walk) (stays : (at : Literal) (d : 
   below_keeps (names_local x m b ms) y h p d next t n = rw (sym h) (on_keeps (names_local x m b ms) p d next t n)
   below_keeps (expands w u b ms) y h p d next t n = rw (sym h) (on_keeps (expands w u b ms) p d next t n)
   below_keeps (walks m b ms back) y h p d next t n = rw (sym h) (on_keeps (walks m b ms back) p d next t n)
-  below_keeps (forks l r b ms) y h p d next t n = rw (sym h) (on_keeps (forks l r b ms) p d next t n)
+  below_keeps (forks l r b ms ns) y h p d next t n = rw (sym h) (on_keeps (forks l r b ms ns) p d next t n)
   below_keeps (again w b ms) y h p d next t n = rw (sym h) (on_keeps (again w b ms) p d next t n)
   below_keeps (uses e is b ms) y h p d next t n = rw (sym h) (on_keeps (uses e is b ms) p d next t n)
 

@@ -1,6 +1,7 @@
 pub mod BelowSteps
 pub mod CollectedLemmas
 pub mod EachInstruction
+pub mod JoinedSteps
 mod ExamplesOfFrames
 mod ExamplesOfJumps
 mod ExamplesOfRenaming

@@ -30,6 +30,7 @@ use Rattle.fac_endings.specs.LastRefusals.{class_faults, last_faults, words_faul
 use Rattle.fac_endings.specs.Words.{top_word}
 use Rattle.fac_endings.specs.declared.draft.Draft.{Draft}
 use Rattle.fac_endings.proofs.Apart.{and_true, true_both}
+use Rattle.fac_endings.proofs.EarlierClasses.{faults_front}
 use Rattle.fac_endings.proofs.EndedClasses.{AreFew, ClassesTested, DraftsFit, classes_tested, draft_fits, no_faults, shapes_fit}
 use Rattle.fac_endings.proofs.EndedWords.{FinishesOf, finishes_of, generic_stays}
 use Rattle.fac_endings.proofs.SlotChains.{slots_apart, slots_few}
@@ -277,6 +278,7 @@ is_together keep r b c h =
       method_effects = split_pass ds cs (has_generic_effect P) last front b.fronted (fronts_effects P front front front_is b.fronted.methods) (effects_pass P ds (stay keep r h)) refl h.ok h.finishes;
       slots_differ = each_below_is (λ c. no_two bytes_eq (slots_within (length cs) cs c)) (length cs) (λ c less. slots_apart (length cs) cs c h.tested.ends h.tested.slots (omega arith));
       few_slots = each_below_is (λ c. nat_le (length (slots_within (length cs) cs c)) 64) (length cs) (λ c less. is_small (length (slots_within (length cs) cs c)) (slots_few (length cs) cs c h.tested.ends h.tested.slots (omega arith)));
+      faults = faults_front r.old_classes (map (class_of ds) r.classes) b.old.faults;
       class_names_differ = classes_differ ds r.scope.table r.old_classes r.classes held.0 held.1;
       classes_end = each_below_is (λ c. not (reaches (length cs) cs c c)) (length cs) (λ c less. ap not (h.tested.ends c));
       words_differ = words_differ r.scope.table P.words (ap has_no_repeats (numbers_alone (words_in r) last (top_phrase keep r) refl ∙ numbers_same ds cs ds h.finishes) ∙ b.distinct) (accessor_words ds cs r.scope.table 0 ds last refl h.finishes b.accessors);

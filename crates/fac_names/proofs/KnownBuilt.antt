@@ -1,18 +1,20 @@
 -- What there is before the first file is made of what sources have.
 use Rattle.std.proofs.Common.{◌≡◌, ◌+◌, ◌<◌, ◌≤◌, ℕ, suc, List, [], ◌∷◌, ◌++◌, map, length, Option, Some, None, Bool, true, false, refl, ap, sym, ◌∙◌, subst, arith, length-append, append_assoc, append-nil}
-use Rattle.std.specs.Prelude.{is_some, nat_lt, not, slice_get}
+use Rattle.std.specs.Prelude.{codes, is_some, nat_lt, not, slice_get}
 use Rattle.std.specs.List.{list_all}
 use Rattle.std.specs.Option.{option_map}
 use Rattle.std.proofs.lemmas.Bool.Decides.{Decides-ltb}
-use Rattle.std.proofs.lemmas.List.{length_push, length-map}
+use Rattle.std.proofs.lemmas.List.{length_push, length-map, map-append}
 use Rattle.fac_lang.specs.BuiltInClasses.{BuiltInClass, built_in_classes}
 use Rattle.fac_lang.specs.CoreWords.{WrittenCore, core_word, built_core_words}
 use Rattle.fac_lang.proofs.SourcePrograms.{AreWordsOf}
 use Rattle.fac_names.proofs.PrimitiveNumbers.{has_no_repeats, primitive_numbers, words_in}
 use Rattle.fac_lang.specs.Primitives.{Primitive, built_primitives, built_primitive_words, prim_numbered, primitive_word, built_count, is_built_primitive}
-use Rattle.fac_lang.specs.Whole.{times_in}
+use Rattle.fac_lang.specs.Whole.{has_faults, times_in}
 use Rattle.fac_lang.specs.declared.program.ClassDef.{ClassDef}
 use Rattle.fac_lang.specs.declared.program.WordDef.{WordDef}
+use Rattle.fac_lang.specs.declared.program.Sort.{Sort}
+use Rattle.fac_lang.specs.Faults.{fault_slots}
 use Rattle.fac_source.specs.Toks.{number}
 use Rattle.fac_vocab.specs.declared.entry.Entry.{Entry}
 use Rattle.fac_vocab.specs.Scopes.{entries_from, word_held}
@@ -20,7 +22,7 @@ use Rattle.fac_endings.specs.declared.draft.Draft.{Draft}
 use Rattle.fac_endings.proofs.Apart.{true_both}
 use Rattle.fac_endings.proofs.EarlierClasses.{is_kind, kinds_settled}
 use Rattle.fac_endings.proofs.EndedClasses.{is_new_sort}
-use Rattle.fac_names.specs.KnownWords.{class_word, class_words_from, classes_from, core_words_of, known_classes, known_words, predicates_if, primitives_from}
+use Rattle.fac_names.specs.KnownWords.{class_word, class_words_from, classes_from, core_words_of, fault_class, fault_number, fault_row, fault_words, known_classes, known_words, predicates_if, primitives_from, slot_words, slots_words}
 use Rattle.fac_names.specs.Resolution.{first_reading, settled_draft}
 use Rattle.fac_names.proofs.ArrayReadings.{known_spared, named_in}
 use Rattle.fac_names.proofs.EntryLemmas.{known_ascending}
@@ -30,7 +32,7 @@ use Rattle.fac_names.proofs.BuiltReadings.{DraftsBuilt, draft_ok}
 use Rattle.fac_names.proofs.BuiltScopes.{EntriesIn}
 use Rattle.fac_names.proofs.Fronts.{Fronted, found_by, is_found, new_apart, new_spares, new_stand}
 use Rattle.fac_names.specs.Forms.{accessor_text}
-use Rattle.fac_names.proofs.HeldNames.{AccessorsHeld, AreNamed, ClassHeld, OldHeld, name_at, no_accessor}
+use Rattle.fac_names.proofs.HeldNames.{AccessorAt, AccessorsHeld, AreNamed, ClassHeld, OldHeld, name_at, no_accessor}
 
 -- Words.
 
@@ -80,12 +82,23 @@ classes_built may k [] = tt
 classes_built may k (row ∷ rows) =
     (record { effect_is = refl; not_inline = refl; not_recursive = refl }, built_with may (predicates_if row.has_predicate row k) (class_words_from (k + 1) rows) (predicate_built may k row row.has_predicate) (classes_built may (k + 1) rows))
 
+-- the accessors of slots
+slots_built : (may : ℕ → Bool) (ss : List (List ℕ)) → AreWordsOf may (slots_words ss)
+slots_built may [] = tt
+slots_built may (s ∷ ss) =
+    (record { effect_is = refl; not_inline = refl; not_recursive = refl }, (record { effect_is = refl; not_inline = refl; not_recursive = refl }, (record { effect_is = refl; not_inline = refl; not_recursive = refl }, slots_built may ss)))
+
+faults_built : (may : ℕ → Bool) → AreWordsOf may fault_words
+faults_built may = built_with may (class_words_from fault_number (fault_row ∷ [])) (slots_words fault_slots) (classes_built may fault_number (fault_row ∷ [])) (slots_built may fault_slots)
+
 known_built : (may : ℕ → Bool) → AreWordsOf may known_words
 unfolding known_words built_primitive_words
 known_built may =
-    built_with may (primitives_from 0 built_primitive_words ++ core_words_of built_core_words) (class_words_from 0 built_in_classes)
-    (built_with may (primitives_from 0 built_primitive_words) (core_words_of built_core_words) (primitives_built may 0 [] built_primitives refl refl) (cores_built may built_core_words (refl, (refl, (refl, (refl, (refl, (refl, tt))))))))
-    (classes_built may 0 built_in_classes)
+    built_with may (primitives_from 0 built_primitive_words ++ core_words_of built_core_words ++ class_words_from 0 built_in_classes) fault_words
+    (built_with may (primitives_from 0 built_primitive_words ++ core_words_of built_core_words) (class_words_from 0 built_in_classes)
+    (built_with may (primitives_from 0 built_primitive_words) (core_words_of built_core_words) (primitives_built may 0 [] built_primitives refl refl) (cores_built may built_core_words (refl, (refl, (refl, (refl, (refl, (refl, (refl, tt)))))))))
+    (classes_built may 0 built_in_classes))
+    (faults_built may)
 
 known_distinct : has_no_repeats (primitive_numbers known_words) ≡ true
 unfolding known_words built_primitive_words
@@ -95,8 +108,8 @@ known_some : nat_lt 0 (length known_words) ≡ true
 unfolding known_words built_primitive_words
 known_some = refl
 
--- the classes in them are the 12 that there are, and no effect has many names
-known_ok : list_all (draft_ok 12) (map settled_draft known_words) ≡ true
+-- the classes in them are the 13 that there are, and no effect has many names
+known_ok : list_all (draft_ok 13) (map settled_draft known_words) ≡ true
 unfolding known_words built_primitive_words
 known_ok = refl
 
@@ -140,9 +153,42 @@ no_accessors table k (d ∷ ds) h =
     is_none None e = refl
     is_none (Some x) e = absurd (cc)
 
-known_plain : list_all (λ (d : Draft). not (is_some (accessor_text d.word.sort))) (map settled_draft known_words) ≡ true
-unfolding known_words built_primitive_words
+-- of two lists of words, each of which holds its accessors, the second behind the first
+accessors_both : (table : List Entry) (k n : ℕ) (ds es : List Draft) → n ≡ k + length ds → AccessorsHeld table k ds → AccessorsHeld table n es → AccessorsHeld table k (ds ++ es)
+accessors_both table k n [] es is h j = subst (λ (m : ℕ). AccessorsHeld table m es) (let e : n ≡ k = omega (arith, is) in e) j
+accessors_both table k n (d ∷ ds) es is h j = (h.0, accessors_both table (suc k) n ds es (omega (arith, is)) h.1 j)
+
+-- the words before those of the class of errors, and its first two
+abbrev plain_words : List WordDef
+plain_words = primitives_from 0 built_primitive_words ++ core_words_of built_core_words ++ class_words_from 0 built_in_classes ++ class_words_from fault_number (fault_row ∷ [])
+
+known_plain : list_all (λ (d : Draft). not (is_some (accessor_text d.word.sort))) (map settled_draft plain_words) ≡ true
+unfolding built_primitive_words
 known_plain = refl
+
+words_apart : known_words ≡ plain_words ++ slots_words fault_slots
+unfolding known_words built_primitive_words
+words_apart = refl
+
+-- an accessor is held under the one name that it has
+one_name : (table : List Entry) (w : ℕ) (s : Sort) (text : List ℕ) → accessor_text s ≡ Some text → word_held table (codes "accessors") text ≡ Some w → AccessorAt table w s
+one_name table w s text is held name h = subst (λ (n : List ℕ). word_held table (codes "accessors") n ≡ Some w) (some_same text name (sym is ∙ h)) held
+  where
+    some_same : (x y : List ℕ) → Some x ≡ Some y → x ≡ y
+    some_same x y e = cc
+
+slots_held : AccessorsHeld (entries_from 0 known_words) (length plain_words) (map settled_draft (slots_words fault_slots))
+unfolding known_words built_primitive_words
+slots_held =
+    let table = entries_from 0 known_words in
+    (one_name table _ _ (codes "name>>") refl refl, (one_name table _ _ (codes ">>name") refl refl, (one_name table _ _ (codes "name<<") refl refl,
+    (one_name table _ _ (codes "value>>") refl refl, (one_name table _ _ (codes ">>value") refl refl, (one_name table _ _ (codes "value<<") refl refl,
+    (one_name table _ _ (codes "word>>") refl refl, (one_name table _ _ (codes ">>word") refl refl, (one_name table _ _ (codes "word<<") refl refl, tt)))))))))
+
+known_accessors : AccessorsHeld (entries_from 0 known_words) 0 (map settled_draft known_words)
+known_accessors =
+    subst (AccessorsHeld (entries_from 0 known_words) 0) (sym (ap (map settled_draft) words_apart ∙ map-append settled_draft plain_words (slots_words fault_slots)))
+    (accessors_both (entries_from 0 known_words) 0 (length plain_words) (map settled_draft plain_words) (map settled_draft (slots_words fault_slots)) (sym (length-map plain_words settled_draft)) (no_accessors (entries_from 0 known_words) 0 (map settled_draft plain_words) known_plain) slots_held)
 
 -- The word of a built-in class is held under its name.
 
@@ -161,13 +207,20 @@ kinds_held k [] h = tt
 kinds_held k (row ∷ rows) h =
     (kind_held k row (number (word_held (entries_from 0 known_words) row.vocab row.name)) h.0.0 h.0.1, subst (λ (n : ℕ). OldHeld (map settled_draft known_words) (entries_from 0 known_words) n (classes_from (k + 1) rows)) (let e : k + 1 ≡ suc k = omega arith in e) (kinds_held (k + 1) rows h.1))
 
+-- behind some classes that are held, others
+held_both : (k : ℕ) (cs ds : List ClassDef) → OldHeld (map settled_draft known_words) (entries_from 0 known_words) k cs → OldHeld (map settled_draft known_words) (entries_from 0 known_words) (k + length cs) ds → OldHeld (map settled_draft known_words) (entries_from 0 known_words) k (cs ++ ds)
+held_both k [] ds h j = subst (λ (n : ℕ). OldHeld (map settled_draft known_words) (entries_from 0 known_words) n ds) (let e : k + 0 ≡ k = omega arith in e) j
+held_both k (c ∷ cs) ds h j = (h.0, held_both (suc k) cs ds h.1 (subst (λ (n : ℕ). OldHeld (map settled_draft known_words) (entries_from 0 known_words) n ds) (let e : k + suc (length cs) ≡ suc k + length cs = omega arith in e) j))
+
 known_held : OldHeld (map settled_draft known_words) (entries_from 0 known_words) 0 known_classes
 unfolding known_words built_primitive_words known_classes
 known_held =
-    kinds_held 0 built_in_classes
-    ((refl, refl), ((refl, refl), ((refl, refl), ((refl, refl), ((refl, refl), ((refl, refl), ((refl, refl), ((refl, refl), ((refl, refl), ((refl, refl), ((refl, refl), ((refl, refl), tt))))))))))))
+    held_both 0 (classes_from 0 built_in_classes) (fault_class ∷ [])
+    (kinds_held 0 built_in_classes
+    ((refl, refl), ((refl, refl), ((refl, refl), ((refl, refl), ((refl, refl), ((refl, refl), ((refl, refl), ((refl, refl), ((refl, refl), ((refl, refl), ((refl, refl), ((refl, refl), tt)))))))))))))
+    (kind_held fault_number fault_row (number (word_held (entries_from 0 known_words) fault_row.vocab fault_row.name)) refl refl, tt)
 
-known_count : length known_classes ≡ 12
+known_count : length known_classes ≡ 13
 unfolding known_classes
 known_count = refl
 
@@ -178,6 +231,10 @@ known_new = refl
 known_kinds : list_all (λ (d : ClassDef). is_kind d.shape) known_classes ≡ true
 unfolding known_classes
 known_kinds = refl
+
+known_faults : has_faults known_classes ≡ true
+unfolding known_classes
+known_faults = refl
 
 known_front : Fronted known_words (map settled_draft known_words)
 known_front =
@@ -194,9 +251,9 @@ pub first_built : BuiltUp first_reading
 first_built =
     let count = length-map known_words settled_draft in
     let some = (Decides-ltb 0 (length known_words)).0 known_some in
-    let twelve = known_count in
+    let thirteen = known_count in
     let n = length (map settled_draft known_words) in
-    up 12 first_reading (record {
+    up 13 first_reading (record {
       some = omega (arith, count, some);
       front = known_words;
       fronted = known_front;
@@ -206,11 +263,11 @@ first_built =
       top = λ may covers. tt;
       main = λ may covers. tt;
       distinct = ap (λ (ds : List WordDef). has_no_repeats (primitive_numbers ds)) (settled_words known_words) ∙ known_distinct;
-      old = kinds_settled known_classes known_kinds;
+      old = kinds_settled known_classes known_kinds known_faults;
       own = refl;
-      count = omega (arith, twelve);
+      count = omega (arith, thirteen);
       named = entries_named 0 [] known_words known_words refl refl;
-      accessors = no_accessors (entries_from 0 known_words) 0 (map settled_draft known_words) known_plain;
+      accessors = known_accessors;
       held = λ none. (known_held, tt);
       arrays = λ may covers. tt;
       counted = record {

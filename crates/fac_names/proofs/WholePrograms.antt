@@ -13,7 +13,9 @@ use Rattle.fac_lang.specs.Meaning.{sort_of}
 use Rattle.fac_lang.specs.PrimitiveWords.{PrimitiveWord, plain_inputs, plain_leaving, written_effect}
 use Rattle.fac_lang.specs.Phrases.{Phrase, end, then, Item, lit, int, yes, no, str, wrd, lit_arr, quot, word, bind, local, fry, hole, call_effect, execute_effect, next_method}
 use Rattle.fac_base.specs.Signatures.{Signature}
-use Rattle.fac_lang.specs.Whole.{IsWhole, is_nameable, all_arrays_named, all_phrases, arrays_in, arrays_named, joined, literal_fits, literal_spares, names_earlier, quotations, times_in, each_item, each_numbered, locals_bound, holes_within, item_fits, item_spares, is_body, tests_small, word_phrases, sort_fits, has_written_effect, has_generic_effect, marks_fit, effect_eq, inputs_eq, leaving_eq, names_eq, name_count, no_two, same_word, same_method, is_class, is_effect, is_generic, effect_of, has_its_holes, shape_fits, slots_of, reaches, same_class_name, each_below, plain_effect}
+use Rattle.fac_lang.specs.declared.core_table.CoreWord.{CoreWord}
+use Rattle.fac_lang.specs.declared.core_table.CoreWord.TheVariants.{Recover as c_recover}
+use Rattle.fac_lang.specs.Whole.{IsWhole, core_fits, has_faults, is_nameable, all_arrays_named, all_phrases, arrays_in, arrays_named, joined, literal_fits, literal_spares, names_earlier, quotations, times_in, each_item, each_numbered, locals_bound, holes_within, item_fits, item_spares, is_body, tests_small, word_phrases, sort_fits, has_written_effect, has_generic_effect, marks_fit, effect_eq, inputs_eq, leaving_eq, names_eq, name_count, no_two, same_word, same_method, is_class, is_effect, is_generic, effect_of, has_its_holes, shape_fits, slots_of, reaches, same_class_name, each_below, plain_effect}
 use Rattle.fac_base.specs.declared.height.Height.{Height}
 use Rattle.fac_lang.specs.declared.program.ClassDef.{ClassDef}
 use Rattle.fac_lang.specs.declared.program.Lit.{Lit}
@@ -204,18 +206,23 @@ sort_named P (isa c) = is_class P c
 sort_named P (method c g t) = is_class P c && is_generic (sort_of P g)
 sort_named P _ = true
 
-sort_passes : (P : Program) (may : ℕ → Bool) (d : WordDef) (s : Sort) → IsSortOf may d s → sort_named P s ≡ true → sort_fits P s ≡ true
-sort_passes P may d (prim k) h fits = rw h.row_is refl
-sort_passes P may d (class c) h fits = fits
-sort_passes P may d (isa c) h fits = fits
-sort_passes P may d (method c g t) h fits = fits
-sort_passes P may d s h fits = refl
+core_passes : (cs : List ClassDef) (c : CoreWord) → has_faults cs ≡ true → core_fits cs c ≡ true
+core_passes cs c_recover faults = faults
+core_passes cs c faults = refl
 
-sorts_pass : (P : Program) (may : ℕ → Bool) (ds : List WordDef) → AreWordsOf may ds → list_all (λ (d : WordDef). sort_named P d.sort) ds ≡ true → list_all (λ (d : WordDef). sort_fits P d.sort) ds ≡ true
-sorts_pass P may [] h fits = refl
-sorts_pass P may (d ∷ ds) h fits =
+sort_passes : (P : Program) (may : ℕ → Bool) (d : WordDef) (s : Sort) → has_faults P.classes ≡ true → IsSortOf may d s → sort_named P s ≡ true → sort_fits P s ≡ true
+sort_passes P may d (prim k) faults h fits = rw h.row_is refl
+sort_passes P may d (core k) faults h fits = core_passes P.classes k faults
+sort_passes P may d (class c) faults h fits = fits
+sort_passes P may d (isa c) faults h fits = fits
+sort_passes P may d (method c g t) faults h fits = fits
+sort_passes P may d s faults h fits = refl
+
+sorts_pass : (P : Program) (may : ℕ → Bool) (ds : List WordDef) → has_faults P.classes ≡ true → AreWordsOf may ds → list_all (λ (d : WordDef). sort_named P d.sort) ds ≡ true → list_all (λ (d : WordDef). sort_fits P d.sort) ds ≡ true
+sorts_pass P may [] faults h fits = refl
+sorts_pass P may (d ∷ ds) faults h fits =
     let both = both_true (sort_named P d.sort) (list_all (λ (e : WordDef). sort_named P e.sort) ds) fits in
-    both_are (sort_fits P d.sort) (list_all (λ (e : WordDef). sort_fits P e.sort) ds) (sort_passes P may d d.sort h.0 both.0) (sorts_pass P may ds h.1 both.1)
+    both_are (sort_fits P d.sort) (list_all (λ (e : WordDef). sort_fits P e.sort) ds) (sort_passes P may d d.sort faults h.0 both.0) (sorts_pass P may ds faults h.1 both.1)
 
 names_same : (xs : List (List ℕ)) → names_eq xs xs ≡ true
 names_same [] = refl
@@ -318,6 +325,7 @@ pub record IsTogether (P : Program) : Type 0 where
   pub method_effects : list_all (has_generic_effect P) P.words ≡ true
   pub slots_differ : each_below (λ c. no_two bytes_eq (slots_of P c)) (length P.classes) ≡ true
   pub few_slots : each_below (λ c. nat_le (length (slots_of P c)) 64) (length P.classes) ≡ true
+  pub faults : has_faults P.classes ≡ true
   pub class_names_differ : no_two same_class_name P.classes ≡ true
   pub classes_end : each_below (λ c. not (reaches (length P.classes) P.classes c c)) (length P.classes) ≡ true
   pub words_differ : no_two same_word P.words ≡ true
@@ -333,7 +341,7 @@ whole P b h =
     record {
       items_fit = all_items_pass may n (item_fits P) (record { ints = λ z. refl; truth = refl; falsity = refl; strings = λ cs. refl; references = word_fits P b; arrays = λ a k. k; quotations = λ t. refl; words = word_fits P b; calls = λ h. refl; executes = λ h. refl; next = refl; binds = λ x. refl; locals = λ x. refl; fries = λ t n. refl; holes = λ k. refl }) (all_phrases P) good;
       literals_fit = arrays_pass may n (literal_fits P) (record { ints = λ z. refl; truth = refl; falsity = refl; strings = λ cs. refl; arrays = λ a k. k; words = word_fits P b; quotations = λ t. refl }) P.arrays b.arrays_from_source named.1;
-      sorts_fit = sorts_pass P may P.words all h.names_fit;
+      sorts_fit = sorts_pass P may P.words h.faults all h.names_fit;
       shapes_fit = h.shapes_fit;
       arrays_earlier = h.earlier;
       arrays_once = all_once n (all_arrays_named P) h.once;

@@ -17,8 +17,8 @@ use fac_source::Token;
 use fac_vocab::NameState;
 use std::alloc::Global;
 
-// The full name of an accessor, of the two parts of its name.
-fn accessor_name(alloc: Global, front: &str, back: &str) -> Result<Name, Memory>
+/// The full name of an accessor, of the two parts of its name.
+pub fn accessor_name(alloc: Global, front: &str, back: &str) -> Result<Name, Memory>
     ensures { IfOk result (λ full. full ≡ record { vocab = codes "accessors"; name = front.now ++ back.now }) }
 {
     let mut name = Text::from_str(alloc, front)?;

@@ -1,5 +1,5 @@
 -- How words are named in notes.
-use Rattle.std.specs.Prelude.{◌==◌, ℕ, List, [], ◌∷◌, ◌++◌, None, Some, codes, slice_get, if◌then◌else◌}
+use Rattle.std.specs.Prelude.{ℕ, List, [], ◌∷◌, ◌++◌, None, Some, codes, slice_get}
 use Rattle.std.specs.declared.option.Option.{Option}
 use Rattle.fac_base.specs.declared.name.Name.{Name}
 use Rattle.fac_lang.specs.declared.program.Program.{Program}
@@ -7,16 +7,12 @@ use Rattle.fac_lang.specs.declared.program.WordDef.{WordDef}
 use Rattle.fac_lang.specs.declared.program.ClassDef.{ClassDef}
 use Rattle.fac_lang.specs.declared.program.Sort.{Sort}
 use Rattle.fac_lang.specs.declared.program.Sort.TheVariants.{Method as method}
-use Rattle.fac_lang.specs.Meaning.{word_call, word_execute}
+use Rattle.fac_lang.specs.Faults.{name_without_word, text_by}
 use Rattle.fac_code.specs.declared.image.Image.{Image}
 use Rattle.fac_code.specs.declared.image.WordRow.{WordRow}
 use Rattle.fac_code.specs.Images.{tables_of}
 use Rattle.fac_code.specs.ImageNames.{text_of}
 use Rattle.fac_notes.specs.Visible.{visible}
-
--- the name of a number that no word has: the tests of `call( )` and `execute( )` have the two greatest numbers
-abbrev pub name_without_word : ℕ → List ℕ
-name_without_word w = (if w == word_call then codes "call(" else if w == word_execute then codes "execute(" else codes "unnamed")
 
 -- the names of a class and of a word without their vocabularies
 abbrev pub bare_class : Option ClassDef → List ℕ
@@ -60,11 +56,6 @@ name_in M w None = record { vocab = []; name = name_without_word w }
 -- the name of a word of an image by its number, where its program isn't at hand
 abbrev pub image_word_name : Image → ℕ → Name
 image_word_name M w = name_in M w (slice_get M.words w)
-
--- how a name is told: vocabulary, colon and name, and without a colon where the vocabulary is empty
-abbrev pub text_by : List ℕ → List ℕ → List ℕ
-text_by [] name = name
-text_by (c ∷ cs) name = c ∷ cs ++ 58 ∷ name
 
 abbrev pub name_text : Name → List ℕ
 name_text n = text_by (visible n.vocab) (visible n.name)

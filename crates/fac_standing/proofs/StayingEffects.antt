@@ -16,7 +16,7 @@ use Rattle.fac_lang.specs.Procedures.{Procedure, leaves, answers, answers_array,
 use Rattle.fac_lang.specs.Substitution.{put_local, put_local_item, put_holes, put_holes_item, item_or_hole, binds_local}
 use Rattle.fac_lang.specs.Whole.{IsWhole, sort_fits, is_generic}
 use Rattle.fac_lang.specs.declared.core_table.CoreWord.{CoreWord}
-use Rattle.fac_lang.specs.declared.core_table.CoreWord.TheVariants.{Call as c_call, Dip as c_dip, If as c_if, Execute as c_execute, Boa as c_boa, Cond as c_cond}
+use Rattle.fac_lang.specs.declared.core_table.CoreWord.TheVariants.{Call as c_call, Dip as c_dip, If as c_if, Execute as c_execute, Boa as c_boa, Recover as c_recover, Cond as c_cond}
 use Rattle.fac_lang.specs.declared.program.ClassDef.{ClassDef}
 use Rattle.fac_lang.specs.declared.program.Program.{Program}
 use Rattle.fac_lang.specs.declared.program.Shape.{Shape}
@@ -126,7 +126,7 @@ module _ (P : Program) where
   GoodDoing (names_local x m b ms) = GoodMark m × GoodMarks ms
   GoodDoing (expands w t b ms) = Good t × GoodMarks ms
   GoodDoing (walks m b ms back) = GoodMark m × GoodMarks ms × GoodMarks back
-  GoodDoing (forks l r b ms) = GoodMark l × GoodMark r × GoodMarks ms
+  GoodDoing (forks l r b ms ns) = GoodMark l × GoodMark r × GoodMarks ms × GoodMarks ns
   GoodDoing (again w b ms) = (may_name P w ≡ true) × GoodMarks ms
   GoodDoing (uses e is b ms) = GoodMarks is × GoodMarks ms
 
@@ -410,11 +410,11 @@ module _ (P : Program) where
     on_same (walks m b ms back) p d next t n h g =
         unless_same GoodStack (first_rule None m d b ms) p _ _
         (counted_same GoodStack p n _ _ (λ k. and_then_same GoodStack GoodStack _ _ _ _ (mark_same m p d b ms k h.0 h.1) (λ A k' g'. rest_same (marks_back back A) k' d next t (back_good back A h.2 g') g)))
-    on_same (forks l r b ms) p d next t n h g =
+    on_same (forks l r b ms ns) p d next t n h g =
         unless_same GoodStack (first_rule None l d b ms) p _ _
         (counted_same GoodStack p n _ _
         (λ k. and_then_same GoodStack GoodStack _ _ _ _ (mark_same l p d b ms k h.0 h.2)
-        (λ A k' g1. and_then_same GoodStack GoodStack _ _ _ _ (mark_same r p d b ms k' h.1 h.2)
+        (λ A k' g1. and_then_same GoodStack GoodStack _ _ _ _ (mark_same r p d b ns k' h.1 h.3)
         (λ B k'' g2. and_then_same GoodStack GoodStack _ _ _ _ (same_itself GoodStack (join A B p k'') (join_good A B p k'' g1 g2)) (λ C j g3. rest_same C j d next t g3 g)))))
     on_same (again w b ms) p d next t n h g =
         counted_same GoodStack p n _ _ (λ k. and_then_same GoodStack GoodStack _ _ _ _ (stays next d (then (word w) p end) b ms k (h.0, tt) h.1) (λ A k' g'. rest_same A k' d next t g' g))
@@ -467,7 +467,10 @@ module _ (P : Program) where
   core_good c_if b [] h = tt
   core_good c_if b (q ∷ []) h = tt
   core_good c_if b (q ∷ x ∷ []) h = tt
-  core_good c_if b (r ∷ l ∷ x ∷ ms) h = callable_or_good (is_callable l && is_callable r) NotKnown (forks l r b ms) (h.1.0, h.0, h.1.1.1)
+  core_good c_if b (r ∷ l ∷ x ∷ ms) h = callable_or_good (is_callable l && is_callable r) NotKnown (forks l r b ms ms) (h.1.0, h.0, h.1.1.1, h.1.1.1)
+  core_good c_recover b [] h = tt
+  core_good c_recover b (q ∷ []) h = tt
+  core_good c_recover b (r ∷ l ∷ ms) h = callable_or_good (is_callable l && is_callable r) NotKnown (forks l r b ms (any ∷ ms)) (h.1.0, h.0, h.1.1, (tt, h.1.1))
   core_good c_execute b [] h = tt
   core_good c_execute b (any ∷ ms) h = tt
   core_good c_execute b (lit_mark q t ∷ ms) h = tt

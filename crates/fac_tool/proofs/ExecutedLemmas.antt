@@ -33,7 +33,7 @@ use Rattle.fac_tool.specs.inner.ImageSteps.{IsImageReportOf, RunsFirst, RunsImag
 
 -- a fresh machine holds what is held before the first run
 fresh_is : (machine : MachineSeen) → IsFresh machine → held_in machine ≡ fresh_held machine.image
-fresh_is machine fresh = λ i. record { stack = ap (values_in (trees_of machine.store)) fresh.values i; objects = fresh.objects i; literals = fresh.literals i }
+fresh_is machine fresh = λ i. record { stack = values_in (trees_of machine.store) (fresh.values i ++ fresh.below i); objects = fresh.objects i; literals = fresh.literals i }
 
 -- so its run is the first one of its image
 pub runs_first :

@@ -79,11 +79,11 @@ begins M input h stack objects literals =
 -- the machine that is made of an image is fresh
 pub made_fresh :
     (closed : Closed) (image : Image) (r : Result MachineSeen Memory) → ((P : Program) → StandsForSafe closed P → Carried P image) →
-    IfOk r (λ machine. (machine.image ≡ image) × (machine.values ≡ []) × (objects_of machine.store ≡ (first_world image []).objects) × (machine.literals ≡ (first_world image []).literals)) →
+    IfOk r (λ machine. (machine.image ≡ image) × (machine.values ≡ []) × (objects_of machine.store ≡ (first_world image []).objects) × (machine.literals ≡ (first_world image []).literals) × (machine.deepest ≡ 0) × (machine.below ≡ [])) →
     IfOk r (λ machine. IsFresh machine × ((P : Program) → StandsForSafe closed P → Carried P machine.image))
 made_fresh closed image (Ok machine) carries made =
     let same = sym made.0 in (
-      record { values = made.1; objects = subst (λ (M : Image). objects_of machine.store ≡ (first_world M []).objects) same made.2; literals = subst (λ (M : Image). machine.literals ≡ (first_world M []).literals) same made.3 },
+      record { values = made.1; below = made.5; objects = subst (λ (M : Image). objects_of machine.store ≡ (first_world M []).objects) same made.2; literals = subst (λ (M : Image). machine.literals ≡ (first_world M []).literals) same made.3 },
       λ P stands. subst (λ (M : Image). Carried P M) same (carries P stands),
     )
 made_fresh closed image (Err fault) carries made = tt

@@ -55,6 +55,7 @@ fn run_first<S: Reader, K: Sink>(
     ensures runs { OnInput (input_seen channels.old channels.new) (λ bytes left.
         RunsFirst machine.old.image budget (callables_in machine.new) (held_in machine.new) result.ticks (output_seen channels.old channels.new) result.what bytes left) }
     ensures image { machine.new.image ≡ machine.old.image }
+    ensures gathered { result.what ≡ StopKind.Done → machine.new.below ≡ [] }
     ensures faults { CountsFaults channels.old channels.new (result.what ≡ StopKind.InputFault) (result.what ≡ StopKind.WriteFault) }
 {
     let stop = machine.run(alloc, channels, budget);

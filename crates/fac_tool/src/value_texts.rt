@@ -41,6 +41,7 @@ fn texts(
 
 /// The texts of a machine's stack, from the bottom to the top.
 pub fn stack_texts(alloc: Global, machine: &Machine) -> Result<List<Text>, Memory>
+    requires { machine.now.below ≡ [] }
     ensures { IfOk result (AreStackTexts machine.now) }
 {
     texts(alloc, machine.image(), machine.store(), machine.stack())

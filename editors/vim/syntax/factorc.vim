@@ -23,6 +23,7 @@ syntax match factorcWord /\S\@<!execute\S\@!/
 syntax match factorcWord /\S\@<!integer\S\@!/
 syntax match factorcWord /\S\@<!object?\S\@!/
 syntax match factorcWord /\S\@<!prepose\S\@!/
+syntax match factorcWord /\S\@<!recover\S\@!/
 syntax match factorcWord /\S\@<!reverse\S\@!/
 syntax match factorcWord /\S\@<!set-nth\S\@!/
 syntax match factorcWord /\S\@<!string?\S\@!/

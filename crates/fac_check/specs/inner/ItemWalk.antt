@@ -17,7 +17,7 @@ IsAlone (gives A) = Unit {0}
 IsAlone (names_local x m b ms) = ⊥
 IsAlone (expands w u b ms) = Unit {0}
 IsAlone (walks m b ms back) = Unit {0}
-IsAlone (forks l r b ms) = Unit {0}
+IsAlone (forks l r b ms ns) = Unit {0}
 IsAlone (again w b ms) = ⊥
 IsAlone (uses e is b ms) = Unit {0}
 
@@ -34,7 +34,7 @@ module _ (own : Option Signature) where
   item_rule (names_local x m b ms) d = None
   item_rule (expands w u b ms) d = phrase_rule d
   item_rule (walks m b ms back) d = first_rule own m d b ms
-  item_rule (forks l r b ms) d = first_rule own l d b ms
+  item_rule (forks l r b ms ns) d = first_rule own l d b ms
   item_rule (again w b ms) d = None
   item_rule (uses e is b ms) d = use_rule own (row_binding (outer_in e) (on b ms)) (effect_inputs e) is d
 
@@ -45,7 +45,7 @@ module _ (own : Option Signature) where
   counted_item go (names_local x m b ms) p d n = found (on b ms) n
   counted_item go (expands w u b ms) p d n = walk_phrase own go (first_of_word w) u p d b ms n
   counted_item go (walks m b ms back) p d n = and_then (walk_mark own go m p d b ms n) (λ A k. found (marks_back back A) k)
-  counted_item go (forks l r b ms) p d n = and_then (walk_mark own go l p d b ms n) (λ A k. and_then (walk_mark own go r p d b ms k) (λ B j. join A B p j))
+  counted_item go (forks l r b ms ns) p d n = and_then (walk_mark own go l p d b ms n) (λ A k. and_then (walk_mark own go r p d b ns k) (λ B j. join A B p j))
   counted_item go (again w b ms) p d n = refused TooLarge p
   counted_item go (uses e is b ms) p d n = walk_use own go e is p d b ms n
 

@@ -97,7 +97,7 @@ module _ (N : Naming) (M : MarksSeen) where
   doing_seen words b (Expands w s) = expands w (phrase_of (words w)) b (stack_of N M s)
   doing_seen words b (Again w s) = again w b (stack_of N M s)
   doing_seen words b (Walks m s back) = walks (mark_of N M m) b (stack_of N M s) (marks_of_option (mark_of N M) back)
-  doing_seen words b (Forks m n s) = forks (mark_of N M m) (mark_of N M n) b (stack_of N M s)
+  doing_seen words b (Forks m n s t) = forks (mark_of N M m) (mark_of N M n) b (stack_of N M s) (stack_of N M t)
   doing_seen words b (Uses w i r) = uses (effect_of (words w)) (stack_of N M i) b (stack_of N M r)
 
 -- The numbers of an answer are those of marks and stacks that are there.
@@ -118,7 +118,7 @@ IsDoingOf words M (Leaves b s) = IsStack M s
 IsDoingOf words M (Expands w s) = (is_defined (words w) ≡ true) × IsStack M s
 IsDoingOf words M (Again w s) = IsStack M s
 IsDoingOf words M (Walks m s back) = IsMark M m × IsStack M s × AreMarks M back
-IsDoingOf words M (Forks m n s) = IsMark M m × IsMark M n × IsStack M s
+IsDoingOf words M (Forks m n s t) = IsMark M m × IsMark M n × IsStack M s × IsStack M t
 IsDoingOf words M (Uses w i r) = (is_defined (words w) ≡ true) × IsStack M i × IsStack M r
 
 -- likewise, and no word is found by `execute`
@@ -266,10 +266,10 @@ module _ {C : Program} {templates : List Template} {own : Option ℕ} {inner : �
   abbrev pub callable_walk : ℕ → Option ℕ → Opened C templates own inner → Walk → WalkedPhrase AbstractStack
   callable_walk m back O go = and_then (mark_walk m O go) (λ A k. found (marks_back (marks_of_option (mark_of O.naming M) back) A) k)
 
-  -- of two callables from one stack, and then a join
-  abbrev pub fork_walk : ℕ → ℕ → Opened C templates own inner → Walk → WalkedPhrase AbstractStack
-  fork_walk m n O go =
-      and_then (mark_walk m O go) (λ A k. and_then (walk_mark O.effect go (mark_of O.naming M n) s.place s.nested (base_seen O.naming s.base) (stack_of O.naming M s.stack) k) (λ B j. join A B s.place j))
+  -- of two callables, the second from this stack, and then a join
+  abbrev pub fork_walk : ℕ → ℕ → ℕ → Opened C templates own inner → Walk → WalkedPhrase AbstractStack
+  fork_walk m n t O go =
+      and_then (mark_walk m O go) (λ A k. and_then (walk_mark O.effect go (mark_of O.naming M n) s.place s.nested (base_seen O.naming s.base) (stack_of O.naming M t) k) (λ B j. join A B s.place j))
 
   -- of a use of a word, on the marks of its inputs
   abbrev pub use_walk : ℕ → ℕ → Opened C templates own inner → Walk → WalkedPhrase AbstractStack

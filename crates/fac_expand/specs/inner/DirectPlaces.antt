@@ -1,7 +1,7 @@
 -- Places of plain code where direct phrases begin: each quotation stands directly before what applies it.
 use Rattle.std.specs.Prelude.{◌≡◌, ◌⊎◌, ◌+◌, ◌-◌, ◌∷◌, [], ℕ, List, Bool, true, false, nat_eq, Option, Some, None, slice_get}
 use Rattle.fac_code.specs.declared.image.Instr.{Instr}
-use Rattle.fac_code.specs.declared.image.Instr.TheVariants.{Halt, Quot, Fry, Callw, Call, Dip, If, Ret}
+use Rattle.fac_code.specs.declared.image.Instr.TheVariants.{Halt, Quot, Fry, Callw, Call, Dip, If, Ret, Recover}
 use Rattle.fac_code.specs.declared.image.TemplateRow.{TemplateRow}
 use Rattle.fac_code.specs.declared.image.Image.{Image}
 use Rattle.fac_carry.specs.Stands.{ends_phrase}
@@ -31,6 +31,7 @@ module _ (uses : List Use) where
   is_other (Call t) = false
   is_other Dip = false
   is_other (If t) = false
+  is_other (Recover k t) = false
   is_other (Callw w t) = is_called (slice_get uses w)
   is_other i = true
 

@@ -45,6 +45,7 @@ pub record Carried (P : Program) (M : Image) : Type 0 where
 -- a machine that holds no value, and no objects but the literal arrays of its image as they were made
 pub record IsFresh (machine : MachineSeen) : Type 0 where
   pub values : machine.values ≡ []
+  pub below : machine.below ≡ []
   pub objects : objects_of machine.store ≡ (first_world machine.image []).objects
   pub literals : machine.literals ≡ (first_world machine.image []).literals
 

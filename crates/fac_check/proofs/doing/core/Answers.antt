@@ -17,5 +17,8 @@ returns-in-Execute-clause-does c = λ P closes N words b. rw c.in-Execute.is (c.
 pub returns-in-Boa-clause-does : goal.returns-in-Boa-clause-does
 returns-in-Boa-clause-does c = ok_maps c.boa.result (λ r does P closes N words b. rw c.in-Boa.is (does P closes N words b)) c.boa.ensures.does
 
+pub returns-in-Recover-clause-does : goal.returns-in-Recover-clause-does
+returns-in-Recover-clause-does c = ok_maps c.recover.result (λ r does P closes N words b. rw c.in-Recover.is (does P N words b)) c.recover.ensures.does
+
 pub returns-in-Cond-clause-does : goal.returns-in-Cond-clause-does
 returns-in-Cond-clause-does c = λ P closes N words b. rw c.in-Cond.is refl

@@ -254,7 +254,7 @@ walk_fork-returns-in-Refused-2-clause-walks t c = λ O f l.
     let within = subst (IsWithin s.left) c.in-Found.is c.in_ok-broken.ensures.within in
     let same = c.in_ok-broken.ensures.subject in
     let K = c.walk_mark-in-Found.new.self.marks in
-    forked O (go_at O f) c.args.self.now.marks c.walk_mark.new.self.marks K s c.args.first c.args.second _ _ c.in-Found.upper c.in-Found.rest _ c.in_ok-broken.ensures.grows c.requires.second c.requires.stack c.in-Found.is (c.in_ok-broken.ensures.walks O f l) (c.in_ok-broken-in-Found.ensures.walks (carried same O) f (omega (arith, within, l)))
+    forked O (go_at O f) c.args.self.now.marks c.walk_mark.new.self.marks K s c.args.first c.args.second c.args.from _ _ c.in-Found.upper c.in-Found.rest _ c.in_ok-broken.ensures.grows c.requires.second c.requires.from c.in-Found.is (c.in_ok-broken.ensures.walks O f l) (c.in_ok-broken-in-Found.ensures.walks (carried same O) f (omega (arith, within, l)))
     (ap (λ w. and_then (walked_seen O.naming K w) (λ B j. join (reached_seen O.naming c.walk_mark.new.self.marks c.in-Found.upper) B s.place j)) (sym c.in-Refused-2.is))
 
 pub walk_fork-returns-in-Found-2-clause-walks : goal.walk_fork-returns-in-Found-2-clause-walks
@@ -267,7 +267,7 @@ walk_fork-returns-in-Found-2-clause-walks t c =
     let same = c.in_ok-broken.ensures.subject in
     ok_maps c.joined.result
     (λ r joins O f l.
-    forked O (go_at O f) c.args.self.now.marks L K s c.args.first c.args.second _ _ c.in-Found.upper c.in-Found.rest _ c.in_ok-broken.ensures.grows c.requires.second c.requires.stack c.in-Found.is (c.in_ok-broken.ensures.walks O f l) (c.in_ok-broken-in-Found.ensures.walks (carried same O) f (omega (arith, within, l)))
+    forked O (go_at O f) c.args.self.now.marks L K s c.args.first c.args.second c.args.from _ _ c.in-Found.upper c.in-Found.rest _ c.in_ok-broken.ensures.grows c.requires.second c.requires.from c.in-Found.is (c.in_ok-broken.ensures.walks O f l) (c.in_ok-broken-in-Found.ensures.walks (carried same O) f (omega (arith, within, l)))
     (joins O.naming ∙ ap (λ A. join A (reached_seen O.naming K c.in-Found-2.lower) s.place c.in-Found-2.rest) (reached_stays O.naming L K c.in-Found.upper c.in_ok-broken-in-Found.ensures.grows there) ∙ ap (λ w. and_then (walked_seen O.naming K w) (λ B j. join (reached_seen O.naming L c.in-Found.upper) B s.place j)) (sym c.in-Found-2.is)))
     c.joined.ensures.joins
 
