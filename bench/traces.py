@@ -179,19 +179,21 @@ class Walk:
         below, before = stack.below(word.inputs), stack
         self.test_entry(callables[0], place, below, depth)
         self.count(place)
+        error = [Value(model.UNKNOWN, ("left", 1, 1, place))] if word is model.RECOVER else []
         behind = []
-        for mark in callables:
+        for number, mark in enumerate(callables):
             self.before = before
-            behind.append(self.enter(mark, place, below, model.depth_inside(mark, depth)))
+            start = Stack(below.base, below.values + (error if number else []))
+            behind.append(self.enter(mark, place, start, model.depth_inside(mark, depth)))
         self.before = before
-        if word is not model.IF:
+        if word not in (model.IF, model.RECOVER):
             return behind[0] and Stack(behind[0].base, behind[0].values + (kept if word is model.DIP else []))
-        true, false = behind
-        if true is None or false is None:
-            return true or false
-        if true.base != false.base or len(true.values) != len(false.values):
-            self.refuse("branches", place, f", {len(true.values)} and {len(false.values)}")
-        return Stack(true.base, [self.joined(one, other, place) for one, other in zip(true.values, false.values)])
+        first, second = behind
+        if first is None or second is None:
+            return first or second
+        if first.base != second.base or len(first.values) != len(second.values):
+            self.refuse("branches", place, f", {len(first.values)} and {len(second.values)}")
+        return Stack(first.base, [self.joined(one, other, place) for one, other in zip(first.values, second.values)])
 
     def joined(self, one, other, place):
         mark = one.mark if one.mark is other.mark else model.UNKNOWN

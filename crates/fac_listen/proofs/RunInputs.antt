@@ -4,24 +4,25 @@ use Rattle.std.specs.Prelude.{nat_eq, slice_get}
 use Rattle.fac_base.specs.declared.height.Height.{Height}
 use Rattle.fac_base.specs.declared.limits.TheConstants.{MOST_PAIRS, MOST_LINE_BYTES}
 use Rattle.fac_lang.specs.declared.core_table.CoreWord.{CoreWord}
-use Rattle.fac_lang.specs.declared.core_table.CoreWord.TheVariants.{Call, Dip, If, Execute, Boa, Cond}
+use Rattle.fac_lang.specs.declared.core_table.CoreWord.TheVariants.{Call, Dip, If, Execute, Boa, Recover, Cond}
 use Rattle.fac_lang.specs.declared.error_name.ErrorName.{ErrorName}
-use Rattle.fac_lang.specs.declared.error_name.ErrorName.TheVariants.{NotTuple, NoSlot, NoMethod, NoNextMethod, WrongValues}
+use Rattle.fac_lang.specs.declared.error_name.ErrorName.TheVariants.{NotTuple, Thrown, NoSlot, NoMethod, NoNextMethod, WrongValues}
 use Rattle.fac_lang.specs.declared.program.Program.{Program}
 use Rattle.fac_lang.specs.declared.program.Sort.{Sort}
 use Rattle.fac_lang.specs.declared.program.Sort.TheVariants.{Prim as prim, Core as core, Body as body, Past as past, Itself as itself, Class as class, Isa as isa, Getter as getter, Setter as setter, Putter as putter, Generic as generic, Method as method}
 use Rattle.fac_lang.specs.Equality.{equal_pairs}
 use Rattle.fac_lang.specs.Printed.{Names, printed}
 use Rattle.fac_lang.specs.Phrases.{Plain, int, yes, no, str, iota, wrd, arr, tup, Phrase, end, then, Item, lit, lit_arr, quot, word, bind, local, fry, hole, call_effect, execute_effect, next_method, made, next_after, held, known, Value, plain, fun, Callable, of_phrase, cur, both}
-use Rattle.fac_lang.specs.World.{World, State, push, push_each}
+use Rattle.fac_lang.specs.World.{World, State, Error, push, push_each}
 use Rattle.fac_lang.specs.Substitution.{put_local, put_holes}
 use Rattle.fac_lang.specs.Procedures.{Procedure, leaves, answers, answers_array, answers_tuple, curries, composes, fails, looks, adds, opens, puts, compares, prints, asks, writes, reads, Gives, gives, bad, Fn, fn0, fn1, fn2, fn3, followed, by_inputs, places_from, value_at, array_in, opened, opened_places, with_element, made_or, line_from, line_in, behind_line}
 use Rattle.fac_lang.specs.Primitives.{Primitive, prim_numbered, prim_fn}
 use Rattle.fac_lang.specs.Objects.{Slot, or_bad, name_at, seen_tuple, slot_place, want_slot, get_slot, set_slot, put_slot, tuple_of, kind_of, made_tuple}
 use Rattle.fac_lang.specs.Classes.{has_kind, pick, next}
 use Rattle.fac_lang.specs.Operations.{seen_no}
-use Rattle.fac_lang.specs.Eval.{Result, Done, Failed, Spent, Stuck, then_do, Act, wrong, fails as act_fails, goes, binds, runs, Run, run_callable, go_on, eval}
-use Rattle.fac_lang.specs.Meaning.{meaning_values, seen, curry_of, compose_of, names, sort_of, taking1, taking2, taking3, taking, with_callable, with_word, given, does, either, error, one_item, run_phrase, truth_value, word_call, word_execute, makes_tuple, core_act, prim_act, enters, sort_act, generic_of, tested_call, tested_execute, callable_fits, word_fits, pushes_array, act, run}
+use Rattle.fac_lang.specs.Faults.{fault_kind, fault, fault_of}
+use Rattle.fac_lang.specs.Eval.{Result, Done, Failed, Spent, Stuck, then_do, Act, wrong, fails as act_fails, goes, binds, runs, tries, Run, run_callable, Maker, after_error, caught, go_on, eval}
+use Rattle.fac_lang.specs.Meaning.{meaning_values, seen, curry_of, compose_of, names, sort_of, taking1, taking2, taking3, taking, with_callable, with_word, given, does, either, error, one_item, run_phrase, truth_value, word_call, word_execute, told_word, makes_tuple, core_act, prim_act, enters, sort_act, generic_of, tested_call, tested_execute, callable_fits, word_fits, pushes_array, act, run}
 
 -- Lines.
 
@@ -107,6 +108,15 @@ module _ (N : Names) where
   put_falls : (cs : List ℕ) → FnAtMost (put_slot meaning_values N cs)
   put_falls cs v x w k le = want_falls cs x w _ k le (λ p. le)
 
+-- What an error comes to, whatever it is, reads nothing.
+abbrev MakesAtMost : Maker → Type 0
+MakesAtMost make = (e : Error Value) (w : World Value) (k : ℕ) → length w.input ≤ k → length (make e w).1.input ≤ k
+
+error_falls : (i : ℕ) (e : ErrorName) (v : Option Value) (name : List ℕ) (w : World Value) (k : ℕ) → length w.input ≤ k → length (fault_of meaning_values i e v name w).1.input ≤ k
+error_falls i Thrown (Some v) name w k le = le
+error_falls i Thrown None name w k le = le
+error_falls i e v name w k le = le
+
 -- What an item does.
 
 abbrev ActAtMost : ℕ → Act → Type 0
@@ -115,6 +125,7 @@ ActAtMost k (act_fails e st) = length st.world.input ≤ k
 ActAtMost k (goes st) = length st.world.input ≤ k
 ActAtMost k (binds x v st) = length st.world.input ≤ k
 ActAtMost k (runs c st back) = length st.world.input ≤ k
+ActAtMost k (tries c d make st) = (length st.world.input ≤ k) × MakesAtMost make
 
 given_falls : (k a : ℕ) (s : List Value) (g : Gives Value) → GivesAtMost k g → ActAtMost k (given a s g)
 given_falls k a s (gives vs w) h = h
@@ -182,6 +193,11 @@ module _ (P : Program) where
   core_falls k Boa st le =
       taking1_falls k st.stack st.world (λ v st'. with_word v (λ a. makes_tuple P ((names P).tuple_class a) st'))
       (λ v r. word_falls k v (λ a. makes_tuple P ((names P).tuple_class a) (record { stack = r; world = st.world })) (λ a. makes_falls k ((names P).tuple_class a) (record { stack = r; world = st.world }) le))
+  core_falls k Recover st le =
+      taking2_falls k st.stack st.world (λ p q st'. with_callable p (λ c. with_callable q (λ d. tries c d (fault meaning_values fault_kind (told_word P)) st')))
+      (λ p q r.
+      callable_falls k p (λ c. with_callable q (λ d. tries c d (fault meaning_values fault_kind (told_word P)) (record { stack = r; world = st.world })))
+      (λ c. callable_falls k q (λ d. tries c d (fault meaning_values fault_kind (told_word P)) (record { stack = r; world = st.world })) (λ d. (le, λ e w j h. error_falls fault_kind e.name e.value (told_word P e.word) w j h))))
   core_falls k Cond st le = tt
 
   prim_act_falls : (k a : ℕ) (o : Option Primitive) (st : State Value) → length st.world.input ≤ k → ActAtMost k (prim_act P a o st)
@@ -273,12 +289,21 @@ callable_run_falls go h k (cur v c) st (suc n) le = callable_run_falls go h k c 
 callable_run_falls go h k (both c d) st zero le = le
 callable_run_falls go h k (both c d) st (suc n) le = then_falls k (run_callable go c st n) (run_callable go d) (callable_run_falls go h k c st n le) (λ st' m le'. callable_run_falls go h k d st' m le')
 
+caught_falls :
+    (go : Run) → Falls go → (k : ℕ) (make : Maker) → MakesAtMost make → (d : Callable) (vs : List Value) (r : Result) → LeavesAtMost k r → LeavesAtMost k (caught go make d vs r)
+caught_falls go h k make m d vs (Done st n) le = le
+caught_falls go h k make m d vs (Failed e st n) le = callable_run_falls go h k d (after_error vs (make e st.world)) n (m e st.world k le)
+caught_falls go h k make m d vs (Spent st i) le = le
+caught_falls go h k make m d vs Stuck le = tt
+
 go_falls : (go : Run) → Falls go → (k : ℕ) (a : Act) (t : Phrase) (n : ℕ) → ActAtMost k a → LeavesAtMost k (go_on go a t n)
 go_falls go h k wrong t n le = tt
 go_falls go h k (act_fails e st) t n le = le
 go_falls go h k (goes st) t n le = h k t st n le
 go_falls go h k (binds x v st) t n le = h k (put_local x (held v) t) st n le
 go_falls go h k (runs c st back) t n le = then_falls k (run_callable go c st n) (λ st' m. go t (push_each back st') m) (callable_run_falls go h k c st n le) (λ st' m le'. h k t (push_each back st') m le')
+go_falls go h k (tries c d make st) t n le =
+    then_falls k (caught go make d st.stack (run_callable go c st n)) (λ st' m. go t st' m) (caught_falls go h k make le.1 d st.stack (run_callable go c st n) (callable_run_falls go h k c st n le.0)) (λ st' m le'. h k t st' m le')
 
 module _ (does_at_once : Item → State Value → Act) (acts : (k : ℕ) (i : Item) (st : State Value) → length st.world.input ≤ k → ActAtMost k (does_at_once i st)) where
   eval_falls : (f : ℕ) → Falls (eval does_at_once f)

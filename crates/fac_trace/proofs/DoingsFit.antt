@@ -1,5 +1,5 @@
 -- What an item does at once to a stack leaves as many origins as marks.
-use Rattle.std.proofs.Common.{◌≡◌, ℕ, zero, suc, ◌+◌, ◌-◌, List, [], ◌∷◌, length, drop, take, reverse, Bool, true, false, Option, Some, None, refl, ap, arith, length-drop}
+use Rattle.std.proofs.Common.{◌≡◌, ◌≤◌, ℕ, zero, suc, ◌+◌, ◌-◌, List, [], ◌∷◌, length, drop, take, reverse, Bool, true, false, Option, Some, None, refl, ap, arith, length-drop}
 use Rattle.std.specs.Prelude.{nat_eq, nat_lt, not, ◌&&◌, slice_get}
 use Rattle.fac_base.specs.declared.place.Place.{Place}
 use Rattle.fac_base.specs.Signatures.{Signature, signature, never, leaves as leaving}
@@ -9,7 +9,7 @@ use Rattle.fac_lang.specs.declared.program.WordDef.{WordDef}
 use Rattle.fac_lang.specs.declared.program.Sort.{Sort}
 use Rattle.fac_lang.specs.declared.program.Sort.TheVariants.{Prim as prim, Core as core, Body as body, Past as past, Itself as itself, Class as class, Method as method}
 use Rattle.fac_lang.specs.declared.core_table.CoreWord.{CoreWord}
-use Rattle.fac_lang.specs.declared.core_table.CoreWord.TheVariants.{Call as c_call, Dip as c_dip, If as c_if, Execute as c_execute, Boa as c_boa, Cond as c_cond}
+use Rattle.fac_lang.specs.declared.core_table.CoreWord.TheVariants.{Call as c_call, Dip as c_dip, If as c_if, Execute as c_execute, Boa as c_boa, Recover as c_recover, Cond as c_cond}
 use Rattle.fac_lang.specs.Meaning.{sort_of, names}
 use Rattle.fac_lang.specs.Phrases.{Plain, wrd, Literal, Phrase, Item, lit, lit_arr, quot, word, bind, local, fry, hole, call_effect, execute_effect, next_method, made, next_after, held, known, Mark, any, wrd_mark}
 use Rattle.fac_lang.specs.Procedures.{Procedure, leaves, curries, composes, picked}
@@ -24,7 +24,7 @@ use Rattle.fac_check.specs.Flow.{Doing, breaks, gives, names_local, expands, wal
 use Rattle.fac_trace.specs.declared.origin.Origin.{Origin}
 use Rattle.fac_trace.specs.declared.origin.Origin.TheVariants as origin
 use Rattle.fac_trace.specs.Origins.{left_upto, left_on, left_by, one_left, moved}
-use Rattle.fac_trace.specs.Traced.{of_procedure, of_primitive, of_sort, of_word, of_generic, of_next, of_item}
+use Rattle.fac_trace.specs.Traced.{of_procedure, of_primitive, of_sort, of_word, of_generic, of_next, of_item, below_taken, with_more}
 use Rattle.fac_trace.specs.TraceLaws.{AreNamed}
 
 -- How many there are.
@@ -49,6 +49,13 @@ picked_length d xs (k ∷ ks) = ap suc (picked_length d xs ks)
 pub dropped : {A B : Type 0} (n : ℕ) (os : List A) (ms ns : List B) → length os ≡ length ms → length ms ≡ n + length ns → length (drop n os) ≡ length ns
 dropped n os ms ns e f = (let left = length-drop n os in omega (arith, left, e, f))
 
+-- what stands below what an item takes, and what its second callable begins with
+pub below_length : (os : List Origin) (ms ns : List Mark) → length os ≡ length ms → length ns ≤ length ms → length (below_taken os ns) ≡ length ns
+below_length os ms ns e le = (let left = length-drop (length os - length ns) os in omega (arith, left, e, le))
+
+pub more_length : (p : Place) (os : List Origin) (ns us : List Mark) → length os ≡ length ns → length ns ≤ length us → length (with_more p os us) ≡ length us
+more_length p os ns us e le = (let all = left_length (length us - length os) (length us - length os) p os in omega (arith, all, e, le))
+
 -- as many values as a rule says, where it says so
 abbrev pub TellsHeight : Rule → ℕ → Type 0
 TellsHeight (Underflow needs has) k = has ≡ k
@@ -62,7 +69,7 @@ pub data FitsDoing (of : Place → ℕ → List Origin → List Origin) (ms : Li
   f_names : {x : ℕ} {m : Mark} {b : Option Row} {ns : List Mark} → length ms ≡ suc (length ns) → FitsDoing of ms (names_local x m b ns)
   f_expands : {w : ℕ} {u : Phrase} {b : Option Row} {ns : List Mark} → length ms ≡ length ns → FitsDoing of ms (expands w u b ns)
   f_walks : {m : Mark} {b : Option Row} {ns back : List Mark} → length ms ≡ suc (length back) + length ns → FitsDoing of ms (walks m b ns back)
-  f_forks : {l r : Mark} {b : Option Row} {ns : List Mark} → length ms ≡ 3 + length ns → FitsDoing of ms (forks l r b ns)
+  f_forks : {l r : Mark} {b : Option Row} {ns us : List Mark} → length ns ≤ length ms → length ns ≤ length us → FitsDoing of ms (forks l r b ns us)
   f_again : {w : ℕ} {b : Option Row} {ns : List Mark} → length ms ≡ suc (length ns) → FitsDoing of ms (again w b ns)
   f_uses : {e : Signature} {is : List Mark} {b : Option Row} {ns : List Mark} → length ms ≡ length is + length ns → FitsDoing of ms (uses e is b ns)
 
@@ -200,9 +207,12 @@ core_fits P b (q ∷ x ∷ ms) c_dip = callable_fits (λ p h os. one_left p ∷ 
 core_fits P b [] c_if = f_breaks refl
 core_fits P b (r ∷ []) c_if = f_breaks refl
 core_fits P b (r ∷ l ∷ []) c_if = f_breaks refl
-core_fits P b (r ∷ l ∷ x ∷ ms) c_if = callable_fits (λ p h os. one_left p ∷ drop (suc (length os) - h) os) (r ∷ l ∷ x ∷ ms) (is_callable l && is_callable r) (f_forks (omega arith))
+core_fits P b (r ∷ l ∷ x ∷ ms) c_if = callable_fits (λ p h os. one_left p ∷ drop (suc (length os) - h) os) (r ∷ l ∷ x ∷ ms) (is_callable l && is_callable r) (f_forks (omega arith) (omega arith))
 core_fits P b [] c_execute = f_breaks refl
 core_fits P b (m ∷ ms) c_execute = known_fits (λ p h os. one_left p ∷ drop (suc (length os) - h) os) (m ∷ ms) m (λ w. again w b ms) (λ w. f_again refl)
+core_fits P b [] c_recover = f_breaks refl
+core_fits P b (r ∷ []) c_recover = f_breaks refl
+core_fits P b (r ∷ l ∷ ms) c_recover = callable_fits (λ p h os. one_left p ∷ drop (suc (length os) - h) os) (r ∷ l ∷ ms) (is_callable l && is_callable r) (f_forks (omega arith) (omega arith))
 core_fits P b [] c_boa = f_breaks refl
 core_fits P b (m ∷ ms) c_boa = known_fits (λ p h os. one_left p ∷ drop (suc (length os) - h) os) (m ∷ ms) m (λ w. makes_by P ((names P).tuple_class w) b ms) (λ w. tuple_fits P b m ms ((names P).tuple_class w))
 

@@ -18,7 +18,7 @@ use Rattle.fac_trace.specs.declared.origin.Origin.{Origin}
 use Rattle.fac_trace.specs.declared.origin.Entry.{Entry}
 use Rattle.fac_trace.specs.declared.origin.Entry.TheVariants as entry
 use Rattle.fac_trace.specs.Origins.{given_upto, one_left, left_on, left_by, of_ways, Rests, rest_of, more_rests, Listed, listed_on}
-use Rattle.fac_trace.specs.Traced.{Fault, Traced, found, refused, Stack, Bound, and_then, entered, living, Walk, breaks_here, counted, inside, called, join, tied_on, started, unless_broken, of_item, height_of, literal_place, input_height, walk_phrase, walk_mark, walk_from, walk_inputs, walk_use, put_back, walk_on, walk}
+use Rattle.fac_trace.specs.Traced.{Fault, Traced, found, refused, Stack, Bound, and_then, entered, living, Walk, breaks_here, counted, inside, called, join, tied_on, started, unless_broken, of_item, height_of, literal_place, input_height, walk_phrase, walk_mark, walk_from, walk_inputs, walk_use, put_back, below_taken, with_more, walk_on, walk}
 use Rattle.fac_trace.specs.TraceLaws.{without_origins}
 
 -- a stack with its origins beside it, and rows with what lies on them
@@ -156,8 +156,8 @@ module _ (P : Program) (own : Option Signature) (go : Walk) (go' : checked.Walk)
   on_alike i (expands w u b ms) p s d at t n = unless_alike p s (phrase_rule d) (counted_alike p s n _ _ (λ k. then_alike _ _ (phrase_alike p s (entry.Text w p) (first_of_word w) u d b ms s.values k) (λ A B j q. rest_alike at t d j q)))
   on_alike i (walks m b ms back) p s d at t n =
       unless_alike p s (first_rule own m d b ms) (counted_alike p s n _ _ (λ k. then_alike _ _ (mark_alike p s m d b ms (drop (suc (length back)) s.values) k) (λ A B j q. rest_alike at t d j (back_same back (take (length back) (drop 1 s.values)) q))))
-  on_alike i (forks l r b ms) p s d at t n =
-      unless_alike p s (first_rule own l d b ms) (counted_alike p s n _ _ (λ k. then_alike _ _ (mark_alike p s l d b ms (drop 3 s.values) k) (λ A B j q. then_alike _ _ (mark_alike p s r d b ms (drop 3 s.values) j) (λ C D i v. then_alike _ _ (join_alike p s i q v) (λ E F h w. rest_alike at t d h w)))))
+  on_alike i (forks l r b ms ns) p s d at t n =
+      unless_alike p s (first_rule own l d b ms) (counted_alike p s n _ _ (λ k. then_alike _ _ (mark_alike p s l d b ms (below_taken s.values ms) k) (λ A B j q. then_alike _ _ (mark_alike p s r d b ns (with_more p (below_taken s.values ms) ns) j) (λ C D i v. then_alike _ _ (join_alike p s i q v) (λ E F h w. rest_alike at t d h w)))))
   on_alike i (again w b ms) p s d at t n = counted_alike p s n _ _ (λ k. then_alike _ _ (goes at d (then (word w) p end) b ms (drop 1 s.values) k) (λ A B j q. rest_alike at t d j q))
   on_alike i (uses e is b ms) p s d at t n =
       unless_alike p s (use_rule own (row_binding (outer_in e) (on b ms)) (effect_inputs e) is d) (counted_alike p s n _ _ (λ k. then_alike _ _ (use_alike p s e is d b ms (drop (length is) s.values) k) (λ A B j q. rest_alike at t d j q)))

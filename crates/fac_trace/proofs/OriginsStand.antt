@@ -19,9 +19,9 @@ use Rattle.fac_trace.specs.declared.origin.Origin.{Origin}
 use Rattle.fac_trace.specs.declared.origin.Entry.{Entry}
 use Rattle.fac_trace.specs.declared.origin.Entry.TheVariants as entry
 use Rattle.fac_trace.specs.Origins.{given_upto, one_left, left_on, left_by, joined_origins, Rests, rest_or_none, rest_of, more_rests, Listed, listed_on}
-use Rattle.fac_trace.specs.Traced.{Fault, Traced, found, refused, Stack, Bound, and_then, entered, living_on, Walk, breaks_here, counted, inside, called, join, tied_on, started, unless_broken, of_item, literal_place, height_or_none, input_height, walk_phrase, walk_mark, walk_from, walk_inputs, walk_use, put_back, walk_on, walk}
+use Rattle.fac_trace.specs.Traced.{Fault, Traced, found, refused, Stack, Bound, and_then, entered, living_on, Walk, breaks_here, counted, inside, called, join, tied_on, started, unless_broken, of_item, literal_place, height_or_none, input_height, walk_phrase, walk_mark, walk_from, walk_inputs, walk_use, put_back, below_taken, with_more, walk_on, walk}
 use Rattle.fac_trace.specs.TraceLaws.{AreNamed, TellsAll, HasOrigins, OriginsStandBesideMarks}
-use Rattle.fac_trace.proofs.DoingsFit.{left_length, unknowns_length, piled_length, dropped, TellsHeight, FitsDoing, f_breaks, f_dead, f_gives, f_names, f_expands, f_walks, f_forks, f_again, f_uses, doing_fits}
+use Rattle.fac_trace.proofs.DoingsFit.{left_length, unknowns_length, piled_length, dropped, below_length, more_length, TellsHeight, FitsDoing, f_breaks, f_dead, f_gives, f_names, f_expands, f_walks, f_forks, f_again, f_uses, doing_fits}
 
 abbrev Named : Stack → Type 0
 Named A = AreNamed A.0 A.1
@@ -355,8 +355,14 @@ module _ (P : Program) (own : Option Signature) (go : Walk) (goes : Goes go) whe
     where
       kept : length (take (length back) (drop 1 s.values)) ≡ length back
       kept = (let upper = length-take (length back) (drop 1 s.values) in let lower = length-drop 1 s.values in omega (arith, upper, lower, g, h))
-  on_holds i (forks l r b ns) p s d at t n ms g (f_forks h) =
-      unless_holds p s (first_silent own l d b ns) (counted_holds p s n _ (λ k. then_holds _ (mark_holds p s l d b ns (drop 3 s.values) k (dropped 3 s.values ms ns g h)) (λ A j q. then_holds _ (mark_holds p s r d b ns (drop 3 s.values) j (dropped 3 s.values ms ns g h)) (λ B i v. then_holds _ (ways_holds p s A.0 A.1 B.0 B.1 i q v) (λ C x w. rest_holds at t d x C.0 C.1 w)))))
+  on_holds i (forks l r b ns us) p s d at t n ms g (f_forks h more) =
+      unless_holds p s (first_silent own l d b ns) (counted_holds p s n _ (λ k. then_holds _ (mark_holds p s l d b ns (below_taken s.values ns) k lower) (λ A j q. then_holds _ (mark_holds p s r d b us (with_more p (below_taken s.values ns) us) j upper) (λ B i v. then_holds _ (ways_holds p s A.0 A.1 B.0 B.1 i q v) (λ C x w. rest_holds at t d x C.0 C.1 w)))))
+    where
+      lower : length (below_taken s.values ns) ≡ length ns
+      lower = below_length s.values ms ns g h
+
+      upper : length (with_more p (below_taken s.values ns) us) ≡ length us
+      upper = more_length p (below_taken s.values ns) ns us (below_length s.values ms ns g h) more
   on_holds i (again w b ns) p s d at t n ms g (f_again h) = counted_holds p s n _ (λ k. then_holds _ (goes at d (then (word w) p end) b ns (drop 1 s.values) k (dropped 1 s.values ms ns g (omega (arith, h)))) (λ A j q. rest_holds at t d j A.0 A.1 q))
   on_holds i (uses e is b ns) p s d at t n ms g (f_uses h) =
       unless_holds p s (use_silent own (row_binding (outer_in e) (on b ns)) (effect_inputs e) is d) (counted_holds p s n _ (λ k. then_holds _ (use_holds p s e is d b ns (drop (length is) s.values) k (dropped (length is) s.values ms ns g h)) (λ A j q. rest_holds at t d j A.0 A.1 q)))

@@ -25,7 +25,7 @@ use Rattle.fac_trace.specs.declared.origin.Origin.{Origin}
 use Rattle.fac_trace.specs.declared.origin.Origin.TheVariants as origin
 use Rattle.fac_trace.specs.declared.origin.Entry.{Entry}
 use Rattle.fac_trace.specs.declared.origin.Entry.TheVariants as entry
-use Rattle.fac_trace.specs.Origins.{given_upto, one_left, left_on, left_by, moved, of_ways, Rests, rest_of, more_rests, Listed, listed_on, listed}
+use Rattle.fac_trace.specs.Origins.{given_upto, one_left, left_upto, left_on, left_by, moved, of_ways, Rests, rest_of, more_rests, Listed, listed_on, listed}
 
 -- A broken rule, and where; the stack before the item, where something is walked; the stack that a callable left, where that breaks the rule; and the way to the item, innermost first.
 pub record Fault : Type 0 where
@@ -201,6 +201,14 @@ abbrev pub put_back : List Origin → AbstractStack → List Origin → List Ori
 put_back back dead os = os
 put_back back (on b ms) os = back ++ os
 
+-- the origins of the marks that stand below what an item takes
+abbrev pub below_taken : List Origin → List Mark → List Origin
+below_taken os ms = drop (length os - length ms) os
+
+-- likewise those with which its second callable begins, where there are more: the item leaves them, as `recover` does what an error comes to
+abbrev pub with_more : Place → List Origin → List Mark → List Origin
+with_more p os ns = left_upto (length ns - length os) (length ns - length os) p os
+
 -- All this is with the effect of the row word that is checked, where one is.
 module _ (P : Program) (own : Option Signature) where
   module _ (go : Walk) (p : Place) (before : Listed) where
@@ -246,8 +254,8 @@ module _ (P : Program) (own : Option Signature) where
       unless_broken p s (phrase_rule d) (counted p s n (λ k. and_then (walk_phrase go p s (entry.Text w p) (first_of_word w) u d b ms s.values k) (λ A k'. living A k' (λ b' ms' os k''. go next d t b' ms' os k''))))
   walk_on go i (walks m b ms back) p s d next t n =
       unless_broken p s (first_rule own m d b ms) (counted p s n (λ k. and_then (walk_mark go p s m d b ms (drop (suc (length back)) s.values) k) (λ A k'. living (marks_back back A.0, put_back (take (length back) (drop 1 s.values)) A.0 A.1) k' (λ b' ms' os k''. go next d t b' ms' os k''))))
-  walk_on go i (forks l r b ms) p s d next t n =
-      unless_broken p s (first_rule own l d b ms) (counted p s n (λ k. and_then (walk_mark go p s l d b ms (drop 3 s.values) k) (λ A k'. and_then (walk_mark go p s r d b ms (drop 3 s.values) k') (λ B k''. and_then (join p s A B k'') (λ C j. living C j (λ b' ms' os j'. go next d t b' ms' os j'))))))
+  walk_on go i (forks l r b ms ns) p s d next t n =
+      unless_broken p s (first_rule own l d b ms) (counted p s n (λ k. and_then (walk_mark go p s l d b ms (below_taken s.values ms) k) (λ A k'. and_then (walk_mark go p s r d b ns (with_more p (below_taken s.values ms) ns) k') (λ B k''. and_then (join p s A B k'') (λ C j. living C j (λ b' ms' os j'. go next d t b' ms' os j'))))))
   walk_on go i (again w b ms) p s d next t n = counted p s n (λ k. and_then (go next d (then (word w) p end) b ms (drop 1 s.values) k) (λ A k'. living A k' (λ b' ms' os k''. go next d t b' ms' os k'')))
   walk_on go i (uses e is b ms) p s d next t n =
       unless_broken p s (use_rule own (row_binding (outer_in e) (on b ms)) (effect_inputs e) is d) (counted p s n (λ k. and_then (walk_use go p s e is d b ms (drop (length is) s.values) k) (λ A k'. living A k' (λ b' ms' os k''. go next d t b' ms' os k''))))
