@@ -182,6 +182,7 @@ def meant(name, texts):
     """What is told of a name that no vocabulary of the language holds, by the names of the language and of these texts."""
     names = {word.name for words in model.PRIMITIVES.values() for word in words if word.name in model.BUILT}
     names |= {class_name for _, class_name, _ in model.BUILT_IN_CLASSES} if "built-in-classes" in model.BUILT else set()
+    names |= {"fault"} & model.BUILT
     for text in texts:
         names |= set(defined(text))
     if name in names:

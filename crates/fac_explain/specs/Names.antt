@@ -5,6 +5,7 @@ use Rattle.std.specs.Str.{bytes_eq}
 use Rattle.fac_lang.specs.Primitives.{RowSeen, rows_seen}
 use Rattle.fac_lang.specs.CoreWords.{WrittenCore, built_core_words}
 use Rattle.fac_lang.specs.BuiltInClasses.{BuiltInClass, built_in_classes}
+use Rattle.fac_lang.specs.Faults.{fault_name}
 use Rattle.fac_token.specs.declared.spotting.Spot.{Spot}
 use Rattle.fac_explain.specs.declared.names.TheConstants.{DEFINING}
 use Rattle.fac_explain.specs.Places.{AreSpots}
@@ -20,9 +21,9 @@ core_names rows = map (λ row. row.word.name) rows
 abbrev pub class_names : List BuiltInClass → List (List ℕ)
 class_names rows = map (λ row. row.name) rows
 
--- of the words and classes that no source defines
+-- of the words and classes that no source defines, of which one is the class of errors
 unfoldable pub language_names : List (List ℕ)
-language_names = primitive_names rows_seen ++ (core_names built_core_words ++ class_names built_in_classes)
+language_names = primitive_names rows_seen ++ (core_names built_core_words ++ (class_names built_in_classes ++ fault_name ∷ []))
 
 -- whether a token is one of these
 abbrev pub is_token : List ℕ → List (List ℕ) → Bool

@@ -128,5 +128,6 @@ pub fn language_names(alloc: Global) -> Result<List<Bytes>, Memory>
     push_primitives(alloc, &mut names, primitives())?;
     push_core_words(alloc, &mut names, core_words())?;
     push_classes(alloc, &mut names, built_in_classes())?;
+    push_name(alloc, &mut names, "fault".as_bytes())?;
     Ok(names)
 }

@@ -1,5 +1,5 @@
 -- A machine that goes on over the image of a longer program holds the session with that program.
-use Rattle.std.proofs.Common.{◌≡◌, ◌≤◌, ◌+◌, ◌-◌, ℕ, List, [], ◌∷◌, length, drop, Result, Ok, Err, IfOk, refl, sym, ap, subst, ◌∙◌, arith}
+use Rattle.std.proofs.Common.{◌≡◌, ◌≤◌, ◌+◌, ◌-◌, ℕ, List, [], ◌∷◌, ◌++◌, length, drop, Result, Ok, Err, IfOk, refl, sym, ap, subst, ◌∙◌, arith}
 use Rattle.std.proofs.lemmas.List.{length-append, length-drop, length-map}
 use Rattle.fac_lang.specs.LongerPrograms.{IsLonger}
 use Rattle.fac_lang.specs.Phrases.{Value}
@@ -97,8 +97,8 @@ longer_image law s q m closed N holds longer made accepted =
 
 pub goes_on_with :
     ValuesStayTheSame → ValuesStandLonger → NewArraysAreTheSame → NewArraysStand → ValidStays → StandingValuesAreWhole → StandingObjectsAreWhole → ImagesGoOn →
-    (closed : Closed) (N : Image) (old next : MachineSeen) → IsMadeOf closed N → next.image ≡ N → GoesOnFrom old.image N (held_in old) (held_in next) → MachineGoesOn old closed next
-goes_on_with same_values values_longer same_arrays arrays_stand valid_stays values_whole objects_whole stay closed N old next made same goes = λ s q holds longer accepted.
+    (closed : Closed) (N : Image) (old next : MachineSeen) → IsMadeOf closed N → next.image ≡ N → next.below ≡ [] → GoesOnFrom old.image N (held_in old) (held_in next) → MachineGoesOn old closed next
+goes_on_with same_values values_longer same_arrays arrays_stand valid_stays values_whole objects_whole stay closed N old next made same none goes = λ s q holds longer accepted.
     let M = old.image in
     let image = image_is q (length s.stack) closed N made accepted in
     let is = is_longer_held same_values values_longer same_arrays arrays_stand valid_stays values_whole objects_whole s q M N holds.held holds.is longer image in
@@ -113,6 +113,7 @@ goes_on_with same_values values_longer same_arrays arrays_stand valid_stays valu
         is = subst (λ (I : Image). IsHeld (line_session s q) I (longer_held M N holds.held)) (sym same) is;
         as_held = held_as_longer M N holds.held (held_in old) (held_in next) holds.counted holds.as_held goes;
         counted = all ∙ ap (λ (I : Image). length I.arrays) (sym same);
+        gathered = none;
       };
       ready = ready_is (line_session s q) closed N next.image same made accepted;
     }
@@ -122,8 +123,8 @@ nothing_before n = omega arith
 
 -- before the first line
 pub begins_with :
-    FirstArraysStand → (closed : Closed) (N : Image) (next : MachineSeen) → IsMadeOf closed N → next.image ≡ N → next.values ≡ [] → objects_of next.store ≡ (first_world N []).objects → next.literals ≡ (first_world N []).literals → MachineBegins closed next
-begins_with law closed N next made same values objects literals = λ q accepted.
+    FirstArraysStand → (closed : Closed) (N : Image) (next : MachineSeen) → IsMadeOf closed N → next.image ≡ N → next.values ≡ [] → next.below ≡ [] → objects_of next.store ≡ (first_world N []).objects → next.literals ≡ (first_world N []).literals → MachineBegins closed next
+begins_with law closed N next made same values below objects literals = λ q accepted.
     let held : Held = record { stack = []; objects = (first_world N []).objects; literals = (first_world N []).literals } in
     let image = image_is q 0 closed N made accepted in
     let first = (made.carries q.program 0 accepted.stands).same_first [] in
@@ -136,22 +137,23 @@ begins_with law closed N next made same values objects literals = λ q accepted.
       valid = accepted.stands.safe.begins [];
     } in
     let itself : IsHeldAs held held = record { renaming = same_addresses; stack = refl; world = world_itself (held_world [] held) } in
-    let fresh : held_in next ≡ held = λ i. record { stack = ap (values_in (trees_of next.store)) values i; objects = objects i; literals = literals i } in
+    let fresh : held_in next ≡ held = λ i. record { stack = values_in (trees_of next.store) (values i ++ below i); objects = objects i; literals = literals i } in
     record {
       held = held;
       is = subst (λ (I : Image). IsHeld (first_session q) I held) (sym same) is;
       as_held = subst (λ (h : Held). IsHeldAs held h) (sym fresh) itself;
       counted = ap length literals ∙ counted_made N N.arrays (record { objects = []; literals = []; input = []; asked = 0; output = [] }) ∙ nothing_before (length N.arrays) ∙ ap (λ (I : Image). length I.arrays) (sym same);
+      gathered = below;
     }
 
 -- where there was memory for it
 pub made_on :
-    MachinesGoOn → (closed : Closed) (N : Image) (old : MachineSeen) (r : Result MachineSeen Memory) → IsMadeOf closed N → IfOk r (λ next. (next.image ≡ N) × GoesOnFrom old.image N (held_in old) (held_in next)) → IfOk r (MachineGoesOn old closed)
-made_on law closed N old (Ok next) made h = law closed N old next made h.0 h.1
+    MachinesGoOn → (closed : Closed) (N : Image) (old : MachineSeen) (r : Result MachineSeen Memory) → IsMadeOf closed N → IfOk r (λ next. (next.image ≡ N) × (next.below ≡ []) × GoesOnFrom old.image N (held_in old) (held_in next)) → IfOk r (MachineGoesOn old closed)
+made_on law closed N old (Ok next) made h = law closed N old next made h.0 h.1 h.2
 made_on law closed N old (Err fault) made h = tt
 
 pub made_first :
     MachinesBegin → (closed : Closed) (N : Image) (r : Result MachineSeen Memory) → IsMadeOf closed N →
-    IfOk r (λ next. (next.image ≡ N) × (next.values ≡ []) × (objects_of next.store ≡ (first_world N []).objects) × (next.literals ≡ (first_world N []).literals) × (next.deepest ≡ 0)) → IfOk r (MachineBegins closed)
-made_first law closed N (Ok next) made h = law closed N next made h.0 h.1 h.2 h.3
+    IfOk r (λ next. (next.image ≡ N) × (next.values ≡ []) × (objects_of next.store ≡ (first_world N []).objects) × (next.literals ≡ (first_world N []).literals) × (next.deepest ≡ 0) × (next.below ≡ [])) → IfOk r (MachineBegins closed)
+made_first law closed N (Ok next) made h = law closed N next made h.0 h.1 h.5 h.2 h.3
 made_first law closed N (Err fault) made h = tt

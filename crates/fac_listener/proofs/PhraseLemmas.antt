@@ -41,8 +41,8 @@ use Rattle.fac_listener.specs.StackTexts.{WroteFront, WroteLines, lines_with_hea
 use Rattle.fac_listener.specs.StandingSessions.{IsHeld, IsHeldAs, HoldsSession, IsReady, session_world, held_world}
 use Rattle.fac_listener.specs.declared.reply.Reply.{Reply}
 use Rattle.fac_listener.specs.declared.reply.Reply.TheVariants as reply
-use Rattle.fac_listener.specs.inner.PhraseRuns.{session_run, phrase_behind, IsPhraseAnswer, IsPhraseCutShort, AnswersPhrase, doubled, without_lowest, lowest_alone, AnswersDone, AnswersFailed, AnswersStop, CanCut}
-use Rattle.fac_listener.proofs.RunLemmas.{kept, machine_comes, machine_ends, IsDoneAt, done_at, IsFailedAt, failed_at, IsSpentAt, spent_at, no_trap, IsBehind, behind, top_part, low_part, count_within}
+use Rattle.fac_listener.specs.inner.PhraseRuns.{session_run, phrase_behind, IsPhraseAnswer, IsPhraseCutShort, AnswersPhrase, all_values, doubled, without_lowest, lowest_alone, AnswersDone, AnswersFailed, FailsBack, SpendsBack, AnswersStop, CanCut}
+use Rattle.fac_listener.proofs.RunLemmas.{kept, all_alone, twice, machine_comes, machine_ends, IsDoneAt, done_at, IsFailedAt, failed_at, IsSpentAt, spent_at, no_trap, IsBehind, behind, top_part, low_part, count_within}
 use Rattle.fac_listener.proofs.RunTicks.{TellsAlike, asked_in_tick, fault_left, front_pieces, run_mark, run_pieces, told_at, wanted_at}
 use Rattle.fac_listener.proofs.StepTicks.{Mark, mark_in}
 use Rattle.fac_listener.proofs.ToldLemmas.{lines_are, report_is, texts_are}
@@ -101,10 +101,10 @@ module _
   ρ = holds.as_held.renaming
 
   begins : held_in (doubled m) ≡ kept (held_in m)
-  begins = λ i. record { stack = map-append (value_in (trees_of m.store)) m.values m.values i; objects = objects_of m.store; literals = m.literals }
+  begins = λ i. record { stack = twice (trees_of m.store) m.values m.below holds.gathered i; objects = objects_of m.store; literals = m.literals }
 
   count_is : length m.values ≡ length ys
-  count_is = sym (length-map m.values _) ∙ sym (length-map (stack_in m) _) ∙ sym (ap length holds.as_held.stack)
+  count_is = ap length (sym (all_alone m.values m.below holds.gathered)) ∙ sym (length-map (all_values m) _) ∙ sym (length-map (stack_in m) _) ∙ sym (ap length holds.as_held.stack)
 
   ends_of : (n : ℕ) (f : End) → Ends M (begun M input (held_in (doubled m))) n f → (e : End) × Ends M (begun M input holds.held) n e × SameEnd T (session_run s input n) e × RenamesEnd ρ (under_end ys e) f
   ends_of n f there =
@@ -161,8 +161,9 @@ module _
       record {
         held = h;
         is = subst (λ (N : Image). IsHeld (session_with s.known (values_view T d.stack) (world_view T d.world)) N h) (sym image) is;
-        as_held = record { renaming = b.renaming; stack = top_part b.renaming (callables_in next) d.stack ys next.values count b.stack (many ∙ count_is); world = b.held };
+        as_held = record { renaming = b.renaming; stack = top_part b.renaming (callables_in next) d.stack ys (all_values next) count b.stack (many ∙ count_is); world = b.held };
         counted = ap length literals ∙ holds.counted ∙ ap (λ (N : Image). length N.arrays) (sym image);
+        gathered = refl;
       }
 
   kept_session :
@@ -181,8 +182,9 @@ module _
       record {
         held = h;
         is = subst (λ (N : Image). IsHeld (session_with s.known s.stack w) N h) (sym image) is;
-        as_held = record { renaming = b.renaming; stack = low_part b.renaming (callables_in next) d.stack ys next.values count b.stack (many ∙ count_is); world = b.held };
+        as_held = record { renaming = b.renaming; stack = low_part b.renaming (callables_in next) d.stack ys (all_values next) count b.stack (many ∙ count_is); world = b.held };
         counted = ap length literals ∙ holds.counted ∙ ap (λ (N : Image). length N.arrays) (sym image);
+        gathered = refl;
       }
 
   -- What is answered.
@@ -246,7 +248,7 @@ module _
         session = done_session next count at.d image literals many b stand.values stand.objects valid.1;
         texts = λ texts are.
             lines_are P (world_view T at.d.world) (values_view T at.d.stack) texts
-            (texts_are forms P M ready.carries.same_names (without_lowest count next) texts b.renaming at.d.world b.there at.d.stack image b.world are b.there_has (top_part b.renaming (callables_in next) at.d.stack ys next.values count b.stack (many ∙ count_is)));
+            (texts_are forms P M ready.carries.same_names (without_lowest count next) texts b.renaming at.d.world b.there at.d.stack image b.world are b.there_has (top_part b.renaming (callables_in next) at.d.stack ys (all_values next) count b.stack (many ∙ count_is)));
         stops = stopped_in ticks before mid next rest stop.Done most runs;
         pieces = pieces_of ticks before mid stop.Done runs.pieces runs.pieces.only_at_fault;
         wanted = wanted_behind (done x left) ticks before mid rest h.4.1 (sym (ap run_ticks at.r_is ∙ used_is ticks left TICKS ticks h.2 refl)) h.3 h.4.2;
@@ -375,6 +377,33 @@ module _
         left_is = sym (sym (ap (λ (w : World Value). w.input) at.world_is) ∙ at.renames.world.input ∙ h.4.3);
       })
 
+  -- memory was wanted to bring the stack of before back
+  spent_wanted : (next : MachineSeen) (ticks : ℕ) (before mid : SinkTold) (rest : List ℕ) → ticks ≤ TICKS → Stopped next ticks before mid rest stop.Spent → IsPhraseCutShort by_memory s input rest ticks before mid
+  spent_wanted next ticks before mid rest most runs =
+      let h = runs.runs in
+      let x = h.0 in
+      let e = ends_of TICKS (spent x) h.4.1 in
+      let at = spent_at T ρ ys r e.0 x e.2 e.3 in
+      let all : TICKS ≡ ticks = omega (arith, h.2, h.4.2) in
+      with_run ticks ticks before mid rest (stopped_in ticks before mid next rest stop.Spent most runs) (pieces_of ticks before mid stop.Spent runs.pieces runs.pieces.only_at_fault)
+      (inr (wanted_behind (spent x) ticks before mid rest h.4.1 (sym (ap run_ticks at.r_is ∙ all)) h.3 h.4.3)) refl
+
+  fails_back :
+      (next after : MachineSeen) (count ticks : ℕ) (err : RunError) (before mid : SinkTold) (rest : List ℕ) (a : Reply) → next.image ≡ M → next.literals ≡ m.literals → count ≡ length m.values → ticks ≤ TICKS → Stopped next ticks before mid rest (stop.Failed err) → FailsBack count err ticks next after a →
+      AnswersPhrase s before mid after a input rest
+  fails_back next after count ticks err before mid rest a image literals many most runs (inl h) =
+      subst (λ (x : MachineSeen). AnswersPhrase s before mid x a input rest) (sym h.0) (failed_answers next count ticks err before mid rest a image literals many most runs (subst (λ (x : MachineSeen). AnswersFailed x err ticks a) h.0 h.1))
+  fails_back next after count ticks err before mid rest a image literals many most runs (inr h) =
+      subst (λ (b : Reply). AnswersPhrase s before mid after b input rest) (sym h) (failed_answers next count ticks err before mid rest (reply.Memory ticks) image literals many most runs refl)
+
+  spends_back :
+      (next after : MachineSeen) (count ticks : ℕ) (before mid : SinkTold) (rest : List ℕ) (a : Reply) → next.image ≡ M → next.literals ≡ m.literals → count ≡ length m.values → ticks ≤ TICKS → Stopped next ticks before mid rest stop.Spent → SpendsBack count ticks next after a →
+      AnswersPhrase s before mid after a input rest
+  spends_back next after count ticks before mid rest a image literals many most runs (inl h) =
+      subst (λ (x : MachineSeen). AnswersPhrase s before mid x a input rest) (sym h.0)
+      (subst (λ (b : Reply). AnswersPhrase s before mid (lowest_alone count next) b input rest) (sym h.1) (spent_answer next count ticks before mid rest image literals many runs, pieces_of ticks before mid stop.Spent runs.pieces runs.pieces.only_at_fault))
+  spends_back next after count ticks before mid rest a image literals many most runs (inr h) = subst (λ (b : Reply). AnswersPhrase s before mid after b input rest) (sym h) (spent_wanted next ticks before mid rest most runs)
+
   trapped : (next : MachineSeen) (ticks pc : ℕ) (y : TrapWhy) (before mid : SinkTold) (rest : List ℕ) → Stopped next ticks before mid rest (stop.Trap pc y) → ⊥
   trapped next ticks pc y before mid rest runs =
       let h = runs.runs in
@@ -408,13 +437,9 @@ module _
       subst (λ (x : MachineSeen). AnswersPhrase s before now.output x a input rest) (sym h.0)
       (done_answers next count ticks before mid now rest a (done_so next count ticks before mid.output rest image literals many most runs) (subst (λ (x : MachineSeen). AnswersDone x ticks mid now a) h.0 h.1))
   phrase_answers (stop.Failed err) next after count ticks before mid now rest a image literals many most runs h =
-      subst (λ (c : ChannelsTold). AnswersPhrase s before c.output after a input rest) (sym h.2)
-      (subst (λ (x : MachineSeen). AnswersPhrase s before mid.output x a input rest) (sym h.0)
-      (failed_answers next count ticks err before mid.output rest a image literals many most runs (subst (λ (x : MachineSeen). AnswersFailed x err ticks a) h.0 h.1)))
+      subst (λ (c : ChannelsTold). AnswersPhrase s before c.output after a input rest) (sym h.1) (fails_back next after count ticks err before mid.output rest a image literals many most runs h.0)
   phrase_answers stop.Spent next after count ticks before mid now rest a image literals many most runs h =
-      subst (λ (c : ChannelsTold). AnswersPhrase s before c.output after a input rest) (sym h.2)
-      (subst (λ (x : MachineSeen). AnswersPhrase s before mid.output x a input rest) (sym h.0)
-      (subst (λ (b : Reply). AnswersPhrase s before mid.output (lowest_alone count next) b input rest) (sym h.1) (spent_answer next count ticks before mid.output rest image literals many runs, pieces_of ticks before mid.output stop.Spent runs.pieces runs.pieces.only_at_fault)))
+      subst (λ (c : ChannelsTold). AnswersPhrase s before c.output after a input rest) (sym h.1) (spends_back next after count ticks before mid.output rest a image literals many most runs h.0)
   phrase_answers (stop.Trap pc y) next after count ticks before mid now rest a image literals many most runs h = absurd (trapped next ticks pc y before mid.output rest runs)
   phrase_answers stop.InputFault next after count ticks before mid now rest a image literals many most runs h =
       subst (λ (c : ChannelsTold). AnswersPhrase s before c.output after a input rest) (sym h.1)
@@ -433,20 +458,20 @@ module _
       let e = ends_of TICKS (done h.0 h.1) h.4.1 in
       let at = done_at T ρ ys r e.0 h.0 h.1 e.2 e.3 in
       let b = behind M ρ h.4.0 ys at.d h.0 (held_in next) at.renames h.4.3 in
-      count_within b.renaming (callables_in next) at.d.stack ys next.values count b.stack (many ∙ count_is)
+      count_within b.renaming (callables_in next) at.d.stack ys (all_values next) count b.stack (many ∙ count_is)
   can_cut (stop.Failed err) next count ticks before mid rest many runs =
       let h = runs.runs in
       let y = renamed_error h.4.0 (error_of (callables_in next) err) in
       let e = ends_of TICKS (failed y h.0 h.1) h.4.1 in
       let at = failed_at T ρ ys r e.0 y h.0 h.1 e.2 e.3 in
       let b = behind M ρ h.4.0 ys at.d h.0 (held_in next) at.renames h.4.3 in
-      count_within b.renaming (callables_in next) at.d.stack ys next.values count b.stack (many ∙ count_is)
+      count_within b.renaming (callables_in next) at.d.stack ys (all_values next) count b.stack (many ∙ count_is)
   can_cut stop.Spent next count ticks before mid rest many runs =
       let h = runs.runs in
       let e = ends_of TICKS (spent h.0) h.4.1 in
       let at = spent_at T ρ ys r e.0 h.0 e.2 e.3 in
       let b = behind M ρ h.4.0 ys at.d h.0 (held_in next) at.renames h.4.4 in
-      count_within b.renaming (callables_in next) at.d.stack ys next.values count b.stack (many ∙ count_is)
+      count_within b.renaming (callables_in next) at.d.stack ys (all_values next) count b.stack (many ∙ count_is)
   can_cut (stop.Trap pc y) next count ticks before mid rest many runs = tt
   can_cut stop.InputFault next count ticks before mid rest many runs = tt
   can_cut stop.WriteFault next count ticks before mid rest many runs = tt

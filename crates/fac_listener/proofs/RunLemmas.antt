@@ -1,6 +1,6 @@
 -- The run of a line's phrase on a copy of the stack that stands: the machine ends as the meaning does.
 use Rattle.std.proofs.Common.{◌≡◌, ◌+◌, ◌-◌, ◌++◌, ◌≤◌, ℕ, List, [], length, map, take, drop, refl, sym, ap, subst, ◌∙◌, arith}
-use Rattle.std.proofs.lemmas.List.{length-map, length-append, map-append, take-map, drop-map}
+use Rattle.std.proofs.lemmas.List.{length-map, length-append, append-nil, map-append, take-map, drop-map}
 use Rattle.std.proofs.Math.Seq.{take-append_seam, drop-append_seam}
 use Rattle.std.specs.declared.option.Option.{Option}
 use Rattle.fac_lang.specs.Phrases.{Item, Value}
@@ -245,6 +245,20 @@ behind M ρ σ ys d s new r stands =
       held = record { objects = both.world.objects; distinct = both.world.distinct; next = both.world.next; literals = both.world.literals; input = refl; asked = refl; output = refl };
     }
 
+-- Values that all stand in one list.
+
+pub all_alone : (vs below : List StoredValue) → below ≡ [] → vs ++ below ≡ vs
+all_alone vs below none = ap (λ (bs : List StoredValue). vs ++ bs) none ∙ append-nil vs
+
+-- a copy of them above them
+pub twice : (U : Trees) (vs below : List StoredValue) → below ≡ [] → values_in U ((vs ++ vs) ++ below) ≡ values_in U (vs ++ below) ++ values_in U (vs ++ below)
+twice U vs below none =
+    subst (λ (bs : List StoredValue). values_in U ((vs ++ vs) ++ bs) ≡ values_in U (vs ++ bs) ++ values_in U (vs ++ bs)) (sym none)
+    (ap (values_in U) (append-nil (vs ++ vs)) ∙ map-append (value_in U) vs vs ∙ ap (λ (us : List StoredValue). values_in U us ++ values_in U us) (sym (append-nil vs)))
+
+none_below : (τ : Renaming) (U : Trees) (vs : List StoredValue) → renamed_values τ (values_in U vs) ≡ renamed_values τ (values_in U (vs ++ []))
+none_below τ U vs = ap (λ (us : List StoredValue). renamed_values τ (values_in U us)) (sym (append-nil vs))
+
 -- The parts of a stack.
 
 module _ (τ : Renaming) (U : Trees) (xs ys : List MValue) (vs : List StoredValue) (count : ℕ) (e : xs ++ ys ≡ renamed_values τ (values_in U vs)) (many : count ≡ length ys) where
@@ -258,19 +272,21 @@ module _ (τ : Renaming) (U : Trees) (xs ys : List MValue) (vs : List StoredValu
   count_within = omega (arith, stack_length, many)
 
   -- that above so many values
-  pub top_part : xs ≡ renamed_values τ (values_in U (take (length vs - count) vs))
+  pub top_part : xs ≡ renamed_values τ (values_in U (take (length vs - count) vs ++ []))
   top_part =
       sym (take-append_seam xs ys)
       ∙ ap (take (length xs)) e
       ∙ take-map (renamed τ) (length xs) (values_in U vs)
       ∙ ap (map (renamed τ)) (take-map (value_in U) (length xs) vs)
       ∙ ap (λ (n : ℕ). renamed_values τ (values_in U (take n vs))) (sym top_length)
+      ∙ none_below τ U (take (length vs - count) vs)
 
   -- and these alone
-  pub low_part : ys ≡ renamed_values τ (values_in U (drop (length vs - count) vs))
+  pub low_part : ys ≡ renamed_values τ (values_in U (drop (length vs - count) vs ++ []))
   low_part =
       sym (drop-append_seam xs ys)
       ∙ ap (drop (length xs)) e
       ∙ drop-map (renamed τ) (length xs) (values_in U vs)
       ∙ ap (map (renamed τ)) (drop-map (value_in U) (length xs) vs)
       ∙ ap (λ (n : ℕ). renamed_values τ (values_in U (drop n vs))) (sym top_length)
+      ∙ none_below τ U (drop (length vs - count) vs)

@@ -30,9 +30,11 @@ use Rattle.fac_judge.specs.declared.meaning.Accepted.{Accepted}
 use Rattle.fac_judge.specs.declared.meaning.Meaning.{Meaning}
 use Rattle.fac_listener.specs.declared.reply.Reply.{Reply}
 use Rattle.fac_listener.specs.declared.session.Session.{Session as SessionSeen}
+use Rattle.fac_listener.specs.inner.PhraseRuns.{all_values}
 use Rattle.fac_listener.specs.inner.SessionLaws.{PhrasesAreNotStuck}
 use Rattle.fac_listener.specs.inner.SessionSteps.{AnswersLine, HoldsReady, MachineGoesOn, TextAnswers, TextGoesOn, has_phrase, line_session}
 use Rattle.fac_judge.proofs.KnownLemmas.{one_more_text}
+use Rattle.fac_listener.proofs.RunLemmas.{all_alone}
 use Rattle.fac_listener.proofs.SessionLemmas.{text_answered}
 
 -- The number of values.
@@ -44,10 +46,16 @@ stack_count s m holds =
     ∙ length-map holds.held.stack _
     ∙ ap length holds.as_held.stack
     ∙ length-map (stack_in m) _
-    ∙ length-map m.values _
+    ∙ length-map (all_values m) _
+    ∙ ap length (all_alone m.values m.below holds.gathered)
 
-pub values_count : (m : MachineSeen) (values : List StoredValue) → values_in (callables_in m) (reverse values) ≡ stack_in m → length values ≡ length m.values
-values_count m values e = sym (length-reverse values) ∙ sym (length-map (reverse values) (value_in (callables_in m))) ∙ ap length e ∙ length-map m.values (value_in (callables_in m))
+pub values_count : (m : MachineSeen) (values : List StoredValue) → m.below ≡ [] → values_in (callables_in m) (reverse values) ≡ stack_in m → length values ≡ length m.values
+values_count m values none e =
+    sym (length-reverse values)
+    ∙ sym (length-map (reverse values) (value_in (callables_in m)))
+    ∙ ap length e
+    ∙ length-map (all_values m) (value_in (callables_in m))
+    ∙ ap length (all_alone m.values m.below none)
 
 -- Texts.
 

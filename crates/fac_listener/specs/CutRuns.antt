@@ -136,7 +136,7 @@ pub record WantedInRun (go : ℕ → Run) (left : List ℕ) (ticks : ℕ) (befor
   pub output : ThenOrBefore go ticks (λ r. Grows before.taken now.taken (run_output r))
   pub rest : ThenOrBefore go ticks (λ r. left ≡ run_left r)
 
--- or behind it, for what is told of the run, all of whose output was taken
+-- or behind it, for what is told of the run or to bring the stack of before back; all of its output was taken
 pub record WantedBehind (go : ℕ → Run) (left : List ℕ) (ticks : ℕ) (before now : SinkTold) : Type 0 where
   pub used : ticks ≡ run_ticks (go TICKS)
   pub output : Grows before.taken now.taken (run_output (go TICKS))

@@ -40,12 +40,13 @@ pub record IsHeldAs (held new : Held) : Type 0 where
   pub stack : held.stack ≡ renamed_values renaming new.stack
   pub world : RenamesWorld renaming (held_world [] held) (held_world [] new)
 
--- a machine holds what stands for the stack and the objects of a session
+-- a machine holds what stands for the stack and the objects of a session, and has all values in one list
 pub record HoldsSession (s : Session) (m : MachineSeen) : Type 0 where
   pub held : Held
   pub is : IsHeld s m.image held
   pub as_held : IsHeldAs held (held_in m)
   pub counted : length m.literals ≡ length m.image.arrays
+  pub gathered : m.below ≡ []
 
 -- a session whose machine was given up has ended
 abbrev pub HasMachine : Session → Option MachineSeen → Type 0

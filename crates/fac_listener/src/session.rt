@@ -82,8 +82,9 @@ fn meaning_behind<R: Threads + Sync, G: Gate + Sync>(
 
 // A machine over an image that goes on with what this one holds.
 fn longer_machine(alloc: Global, machine: &Machine, image: Image) -> Result<Machine, Memory>
-    requires { IsLongerImage machine.now.image image }
-    ensures { IfOk result (λ next. (next.image ≡ image) × GoesOnFrom machine.now.image image (held_in machine.now) (held_in next)) }
+    requires longer { IsLongerImage machine.now.image image }
+    requires gathered { machine.now.below ≡ [] }
+    ensures { IfOk result (λ next. (next.image ≡ image) × (next.below ≡ []) × GoesOnFrom machine.now.image image (held_in machine.now) (held_in next)) }
 {
     machine.go_on(alloc, image)
 }

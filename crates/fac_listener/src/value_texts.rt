@@ -1,5 +1,5 @@
 //! The texts of values, stacks and run errors as they are told.
-ghost use Rattle.std.specs.Prelude.{IfOk};
+ghost use Rattle.std.specs.Prelude.{◌≡◌, [], IfOk};
 ghost use Rattle.fac_listener.specs.MachineTexts.{IsTextOf, AreTextsOf, AreStackTexts, IsReportOf};
 
 use fac_base::limits::MOST_SHOWN_BYTES;
@@ -42,6 +42,7 @@ fn texts(
 
 /// The texts of a machine's stack, from the bottom to the top.
 pub fn stack_texts(alloc: Global, machine: &Machine) -> Result<List<Text>, Memory>
+    requires { machine.now.below ≡ [] }
     ensures { IfOk result (AreStackTexts machine.now) }
 {
     texts(alloc, machine.image(), machine.store(), machine.stack())

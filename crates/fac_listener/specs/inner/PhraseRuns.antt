@@ -6,6 +6,7 @@ use Rattle.fac_lang.specs.Eval.{Result as Run}
 use Rattle.fac_check.specs.CallableEffects.{callable_height}
 use Rattle.fac_carry.specs.Carries.{top_run}
 use Rattle.fac_lines.specs.Channels.{ChannelsTold}
+use Rattle.fac_store.specs.declared.value.Value.{Value as StoredValue}
 use Rattle.fac_vm.specs.SeenMachine.{MachineSeen}
 use Rattle.fac_vm.specs.declared.machine.RunError.{RunError}
 use Rattle.fac_vm.specs.declared.machine.StopKind.{StopKind}
@@ -55,22 +56,26 @@ AnswersPhrase s before now m (reply.Refused why) input left = ⊥
 
 -- Behind the run, in the terms of the machine.
 
+-- all values of a machine, of which guards may have put some aside
+abbrev pub all_values : MachineSeen → List StoredValue
+all_values m = m.values ++ m.below
+
 -- a machine with a copy of its stack above it
 abbrev pub doubled : MachineSeen → MachineSeen
 doubled m = record m { values = m.values ++ m.values }
 
--- a machine without so many lowest values, and with these alone
+-- a machine without so many lowest values, and with these alone, all in one list
 abbrev pub without_lowest : ℕ → MachineSeen → MachineSeen
-without_lowest count m = record m { values = take (length m.values - count) m.values }
+without_lowest count m = record m { values = take (length (all_values m) - count) (all_values m); below = [] }
 
 abbrev pub lowest_alone : ℕ → MachineSeen → MachineSeen
-lowest_alone count m = record m { values = drop (length m.values - count) m.values }
+lowest_alone count m = record m { values = drop (length (all_values m) - count) (all_values m); below = [] }
 
 -- so many values are there, where some are to be taken away
 abbrev pub CanCut : StopKind → ℕ → MachineSeen → Type 0
-CanCut stop.Done count m = count ≤ length m.values
-CanCut (stop.Failed e) count m = count ≤ length m.values
-CanCut stop.Spent count m = count ≤ length m.values
+CanCut stop.Done count m = count ≤ length (all_values m)
+CanCut (stop.Failed e) count m = count ≤ length (all_values m)
+CanCut stop.Spent count m = count ≤ length (all_values m)
 CanCut _ count m = Unit {0}
 
 -- a stack was written, or not
@@ -86,11 +91,18 @@ AnswersFailed m e ticks (reply.Failed why n) = IsReportOf m e why × (n ≡ tick
 AnswersFailed m e ticks (reply.Memory n) = n ≡ ticks
 AnswersFailed m e ticks _ = ⊥
 
+-- The stack of before is brought back behind an error or a spent budget, or memory was wanted for it.
+abbrev pub FailsBack : ℕ → RunError → ℕ → MachineSeen → MachineSeen → Reply → Type 0
+FailsBack count e ticks m next r = ((next ≡ lowest_alone count m) × AnswersFailed next e ticks r) ⊎ (r ≡ reply.Memory ticks)
+
+abbrev pub SpendsBack : ℕ → ℕ → MachineSeen → MachineSeen → Reply → Type 0
+SpendsBack count ticks m next r = ((next ≡ lowest_alone count m) × (r ≡ reply.Spent ticks)) ⊎ (r ≡ reply.Memory ticks)
+
 -- what is answered where a run stopped so, with the machine before and behind it
 abbrev pub AnswersStop : StopKind → ℕ → ℕ → MachineSeen → MachineSeen → ChannelsTold → ChannelsTold → Reply → Type 0
 AnswersStop stop.Done count ticks m next before now r = (next ≡ without_lowest count m) × AnswersDone next ticks before now r
-AnswersStop (stop.Failed e) count ticks m next before now r = (next ≡ lowest_alone count m) × AnswersFailed next e ticks r × (now ≡ before)
-AnswersStop stop.Spent count ticks m next before now r = (next ≡ lowest_alone count m) × (r ≡ reply.Spent ticks) × (now ≡ before)
+AnswersStop (stop.Failed e) count ticks m next before now r = FailsBack count e ticks m next r × (now ≡ before)
+AnswersStop stop.Spent count ticks m next before now r = SpendsBack count ticks m next r × (now ≡ before)
 AnswersStop (stop.Trap pc y) count ticks m next before now r = (r ≡ reply.Memory ticks) × (now ≡ before)
 AnswersStop stop.InputFault count ticks m next before now r = (r ≡ reply.InputFault ticks) × (now ≡ before)
 AnswersStop stop.WriteFault count ticks m next before now r = (r ≡ reply.WriteFault ticks) × (now ≡ before)

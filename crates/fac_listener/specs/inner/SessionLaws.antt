@@ -28,11 +28,11 @@ ImagesAreLonger = (s : Session) (q : Known) (m : MachineSeen) (closed : Closed) 
 
 -- A machine that goes on over it holds the session with that program.
 abbrev pub MachinesGoOn : Type 0
-MachinesGoOn = (closed : Closed) (N : Image) (old next : MachineSeen) → IsMadeOf closed N → next.image ≡ N → GoesOnFrom old.image N (held_in old) (held_in next) → MachineGoesOn old closed next
+MachinesGoOn = (closed : Closed) (N : Image) (old next : MachineSeen) → IsMadeOf closed N → next.image ≡ N → next.below ≡ [] → GoesOnFrom old.image N (held_in old) (held_in next) → MachineGoesOn old closed next
 
 -- A machine that holds nothing but the literal arrays of its image holds the first session.
 abbrev pub MachinesBegin : Type 0
-MachinesBegin = (closed : Closed) (N : Image) (next : MachineSeen) → IsMadeOf closed N → next.image ≡ N → next.values ≡ [] → objects_of next.store ≡ (first_world N []).objects → next.literals ≡ (first_world N []).literals → MachineBegins closed next
+MachinesBegin = (closed : Closed) (N : Image) (next : MachineSeen) → IsMadeOf closed N → next.image ≡ N → next.values ≡ [] → next.below ≡ [] → objects_of next.store ≡ (first_world N []).objects → next.literals ≡ (first_world N []).literals → MachineBegins closed next
 
 -- No phrase of a session is stuck, whatever its budget.
 abbrev pub PhrasesAreNotStuck : Type 0

@@ -1,8 +1,11 @@
 use Rattle.fac_listener.proofs.GoOnLemmas.{made_on}
 use Rattle.fac_listener.proofs.session.machine_for.Goals as goal
 
-pub longer_machine-requires : goal.longer_machine-requires
-longer_machine-requires g c =
+pub longer_machine-requires-clause-gathered : goal.longer_machine-requires-clause-gathered
+longer_machine-requires-clause-gathered g c = c.requires.1.2.gathered
+
+pub longer_machine-requires-clause-longer : goal.longer_machine-requires-clause-longer
+longer_machine-requires-clause-longer g c =
     let on = c.requires.1 in
     c.images_are_longer.ensures on.0 on.1 c.args.machine.now c.args.checked.closed c.in_ok-image.image on.2 on.3 c.in_ok-image.ensures on.4
 
