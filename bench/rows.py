@@ -79,7 +79,7 @@ ROWS = [
     ),
     Row(
         "A core word (`boa`)",
-        r"\bCoreWord(::|\.)Boa\b|\b[cw]_boa\b|\bcore_\w+ Boa\b|\) = Boa$|\bin-Boa\b|CORE_WORDS =",
+        r"\bCoreWord(::|\.)Boa\b|\b[cw]_boa\b|\bcore_\w+ (k )?Boa\b|\) = Boa$|\bin-Boa\b|CORE_WORDS =",
         also=[r"`boa`"],
     ),
     Row(
