@@ -11,7 +11,7 @@ use Rattle.fac_code.specs.declared.image.Action.{Action}
 use Rattle.fac_code.specs.declared.image.Action.TheVariants as action
 use Rattle.fac_code.specs.declared.image.WordRow.{WordRow}
 use Rattle.fac_code.specs.declared.image.Instr.{Instr}
-use Rattle.fac_code.specs.declared.image.Instr.TheVariants.{Prim, Recover}
+use Rattle.fac_code.specs.declared.image.Instr.TheVariants.{Prim}
 use Rattle.fac_code.specs.declared.image.Tables.{Tables}
 use Rattle.fac_code.specs.declared.image.Image.{Image}
 use Rattle.fac_code.specs.Code.{is_built_instr, has_built_code, is_core_action}

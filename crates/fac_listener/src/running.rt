@@ -60,13 +60,7 @@ fn put_stack_back(machine: &mut Machine, count: usize) -> Result<(), Memory>
 }
 
 // Brings the stack of before back behind an error, and answers.
-fn fail(
-    alloc: Global,
-    machine: &mut Machine,
-    count: usize,
-    error: RunError,
-    ticks: u64,
-) -> Reply
+fn fail(alloc: Global, machine: &mut Machine, count: usize, error: RunError, ticks: u64) -> Reply
     requires { count ≤ length (all_values machine.old) }
     ensures { FailsBack count error ticks machine.old machine.new result }
 {
