@@ -46,8 +46,8 @@ all_names texts first second last text e same adds all =
 pub means :
     {A E : Type 0} (r : Result A E) (texts names : List (List ℕ)) (name before out : List ℕ) (near : Option (List ℕ)) → AreNames texts names → near ≡ closest name names → before ≡ [] → OnOk r (out ≡ before ++ meant name near) →
     OnOk r (Means texts name out)
-means (Ok x) texts names name before out near are e none is = (names, are, is ∙ ap (λ (xs : List ℕ). xs ++ meant name near) none ∙ ap (meant name) e)
-means (Err x) texts names name before out near are e none is = tt
+means (Ok x) texts names name before out near are e empty is = (names, are, is ∙ ap (λ (xs : List ℕ). xs ++ meant name near) empty ∙ ap (meant name) e)
+means (Err x) texts names name before out near are e empty is = tt
 
 -- with the vocabularies that hold a word of the name
 pub finds : {E : Type 0} (r : Result (List ℕ) E) (texts homes : List (List ℕ)) (name : List ℕ) → HasHomes name homes → IfOk r (HelpsBy texts name homes) → IfOk r (HelpsFind texts name)
